@@ -1,0 +1,18 @@
+-- The limits of a build: how many nodes a board may have, and how many messages a node may send in a phase.
+use Prim.Native.Nat.{ℕ, _-_, _*_}
+
+pub record Limits : Type 0 where
+  pub nodes : ℕ
+  pub sends : ℕ
+
+-- "a number above 16,776,960" is refused, and clause 3 has the same bound
+abbrev pub fieldLimit : Limits → ℕ
+fieldLimit L = L .nodes * L .sends
+
+-- "16,711,425 taken in this phase"
+abbrev pub takenLimit : Limits → ℕ
+takenLimit L = (L .nodes - 1) * L .sends
+
+-- "P is the number of nodes, 1 to 256", "65,535 sent in this phase"
+abbrev pub base : Limits
+base = record { nodes = 256; sends = 65535 }

@@ -1,0 +1,1 @@
+// Definitions and laws that every crate above cites; there is no code here.

@@ -1,0 +1,5 @@
+pub mod Dimension
+pub mod Runs
+pub mod Places
+pub mod Lookups
+pub mod Distances

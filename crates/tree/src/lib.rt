@@ -1,0 +1,177 @@
+// Who talks to whom on a board: the dimension of a board, the place of a node in a dimension, the distance of two nodes.
+// Any number may be handed to any of the three; what document 01 does not allow is refused with its number.
+ghost use mathlib.Core.Path.{_≡_};
+ghost use Prim.Native.Nat.{_+_, _≤_, _<_};
+ghost use Rattle.base.specs.Limits.{base};
+ghost use Rattle.base.specs.Refusal.{found};
+ghost use Rattle.tree.specs.Tree.{dimension, part, runBelow, across, placeIn, distanceBelow};
+ghost use Rattle.tree.specs.Lookups.{dimensionLookup, placeLookup, distanceLookup, foundAnswer, placedAnswer};
+
+// A number, or the number of a refusal.
+pub enum Found {
+    Is(u32),
+    Refused(u8),
+}
+
+// The place of a node in a dimension.
+pub enum Placed {
+    // Nobody to send to, nobody to await.
+    Alone,
+    // Sends to nobody and awaits this node.
+    Hermit(u32),
+    // Sends to this node and awaits it.
+    Neighbour(u32),
+    // Sends to the first node and awaits it; sends to the second too, a hermit.
+    Messenger(u32, u32),
+    Refused(u8),
+}
+
+// The nodes low to high.
+pub struct Run {
+    pub low: u32,
+    pub high: u32,
+}
+
+// The smallest p with nodes <= 2^p. Refuses 1.
+pub fn dimension_of(nodes: u32) -> Found
+    ensures { λ r. ⌜ foundAnswer r ≡ dimensionLookup base nodes ⌝ }
+{
+    if nodes == 0 {
+        return Found::Refused(1);
+    }
+    if 256 < nodes {
+        return Found::Refused(1);
+    }
+    if nodes == 1 {
+        return Found::Is(0);
+    }
+    Found::Is(32 - u32::leading_zeros(nodes - 1))
+}
+
+// The part of a run that has the node.
+fn part_of(r: Run, node: u32) -> Run
+    requires { ⌜ (r .low ≤ 256) × (r .high < 256) ⌝ }
+    ensures { λ s. ⌜ (s ≡ part r node) × (s .low ≤ 256) × (s .high < 256) ⌝ }
+{
+    let middle = (r.low + r.high) / 2;
+    if node <= middle {
+        Run {
+            low: r.low,
+            high: middle,
+        }
+    } else {
+        Run {
+            low: middle + 1,
+            high: r.high,
+        }
+    }
+}
+
+// The run of a node, so many splits below the root.
+fn run_below(nodes: u32, splits: u32, node: u32) -> Run
+    requires { ⌜ (0 < nodes) × (nodes ≤ 256) ⌝ }
+    ensures { λ r. ⌜ (r ≡ runBelow nodes splits node) × (r .low ≤ 256) × (r .high < 256) ⌝ }
+{
+    let mut r = Run {
+        low: 0,
+        high: nodes - 1,
+    };
+    for i in 0..splits {
+        r = part_of(r, node);
+    }
+    r
+}
+
+// The node across from a node of a run, in the other part of it.
+fn across_from(r: Run, node: u32) -> u32
+    requires { ⌜ (r .low ≤ node) × (node ≤ r .high) × (r .high < 256) ⌝ }
+    ensures { λ b. ⌜ b ≡ across r node ⌝ }
+{
+    let middle = (r.low + r.high) / 2;
+    if node <= middle {
+        middle + 1 + (node - r.low)
+    } else {
+        r.low + (node - (middle + 1))
+    }
+}
+
+// The place of a node of a run whose two parts are siblings.
+fn place_in(r: Run, node: u32) -> Placed
+    requires { ⌜ (r .low ≤ node) × (node ≤ r .high) × (r .high < 256) ⌝ }
+    ensures { λ s. ⌜ placedAnswer s ≡ found (placeIn r node) ⌝ }
+{
+    let middle = (r.low + r.high) / 2;
+    let left = middle + 1 - r.low;
+    let right = r.high - middle;
+    if right == 0 {
+        return Placed::Alone;
+    }
+    if left <= right {
+        return Placed::Neighbour(across_from(r, node));
+    }
+    if node == middle {
+        return Placed::Hermit(node + 1);
+    }
+    if node == middle + 1 {
+        return Placed::Messenger(across_from(r, node), middle);
+    }
+    Placed::Neighbour(across_from(r, node))
+}
+
+// The place of a node in a dimension. Refuses 1, 2, 10.
+pub fn place_of(nodes: u32, dimension: u32, node: u32) -> Placed
+    ensures { λ r. ⌜ placedAnswer r ≡ placeLookup base nodes dimension node ⌝ }
+{
+    let Found::Is(p) = dimension_of(nodes) else {
+        return Placed::Refused(1);
+    };
+    if nodes <= node {
+        return Placed::Refused(2);
+    }
+    if p <= dimension {
+        return Placed::Refused(10);
+    }
+    place_in(run_below(nodes, p - (dimension + 1), node), node)
+}
+
+// The largest dimension below p in which a and b are in different runs.
+fn parted_below(nodes: u32, p: u32, a: u32, b: u32) -> u32
+    requires { ⌜ (0 < nodes) × (nodes ≤ 256) × (p ≡ dimension nodes) ⌝ }
+    ensures { λ r. ⌜ r ≡ distanceBelow nodes a b p ⌝ }
+{
+    let mut r = Run {
+        low: 0,
+        high: nodes - 1,
+    };
+    let mut k = p;
+    while 0 < k {
+        r = part_of(r, a);
+        k -= 1;
+        if b < r.low {
+            return k;
+        }
+        if r.high < b {
+            return k;
+        }
+    }
+    0
+}
+
+// The distance of two nodes. Refuses 1, 2, 3.
+pub fn distance_of(nodes: u32, a: u32, b: u32) -> Found
+    ensures { λ r. ⌜ foundAnswer r ≡ distanceLookup base nodes a b ⌝ }
+{
+    let Found::Is(p) = dimension_of(nodes) else {
+        return Found::Refused(1);
+    };
+    if nodes <= a {
+        return Found::Refused(2);
+    }
+    if nodes <= b {
+        return Found::Refused(2);
+    }
+    if a == b {
+        return Found::Refused(3);
+    }
+    Found::Is(parted_below(nodes, p, a, b))
+}
