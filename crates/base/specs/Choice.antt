@@ -1,5 +1,6 @@
--- Choice by a test, and tests joined.
+-- Choice by a test, tests joined, and values listed by a rule.
 use mathlib.Core.Bool.{Bool, true, false}
+use mathlib.Core.List.{List, [], _∷_}
 use Prim.Native.Nat.{ℕ, zero, suc}
 
 -- a where the test holds, else b
@@ -19,3 +20,8 @@ either false b = b
 abbrev pub every : ℕ → ℕ → (ℕ → Bool) → Bool
 every start zero f = true
 every start (suc count) f = both (f start) (every (suc start) count f)
+
+-- f start, f (start + 1), .., count of them
+abbrev pub list : {A : Type 0} → ℕ → ℕ → (ℕ → A) → List A
+list start zero f = []
+list start (suc count) f = f start ∷ list (suc start) count f

@@ -16,3 +16,7 @@ takenLimit L = (L .nodes - 1) * L .sends
 -- "P is the number of nodes, 1 to 256", "65,535 sent in this phase"
 abbrev pub base : Limits
 base = record { nodes = 256; sends = 65535 }
+
+-- How many shells a state or a frame has room for: the dimension of the largest board.
+abbrev pub width : ℕ
+width = 8
