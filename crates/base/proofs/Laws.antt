@@ -4,7 +4,7 @@ use mathlib.Core.Bool.{Bool, true, false}
 use Prim.Native.Nat.{ℕ, zero, suc, _+_, _≤_, _<_}
 use native.Mathlib.Decide.{ℕ-discrete}
 use native.Mathlib.Omega.{arith}
-use Rattle.base.specs.Choice.{choose, both, either, every}
+use Rattle.base.specs.Choice.{choose, both, every}
 
 -- true is not false
 pub clash : {A : Type 0} → _≡_ {A = Bool} true false → A

@@ -1,7 +1,7 @@
 -- Frames: their length, their bytes, their fields, the writer and the reader, in the words of document 01, "Frames".
-use mathlib.Core.Bool.{Bool, true, false, not}
+use mathlib.Core.Bool.{Bool, true, not}
 use mathlib.Core.List.{List, [], _∷_, _++_}
-use Prim.Native.Nat.{ℕ, zero, suc, _+_, _-_, _*_}
+use Prim.Native.Nat.{ℕ, _+_, _-_, _*_}
 use lib.Dec.{ltb, leb, eqb}
 use lib.ListN.{length, getD, drop}
 use Rattle.base.specs.Choice.{choose, both, either, every, list}
@@ -13,7 +13,6 @@ use Rattle.frame.specs.Numbers.{bytesOf, wordAt}
 use Rattle.frame.specs.declared.Sent.{Sent}
 use Rattle.frame.specs.declared.Taken.{Taken}
 use Rattle.frame.specs.declared.Frame.{Frame}
-use Rattle.frame.specs.declared.Outcome.{Outcome}
 use Rattle.frame.specs.declared.Outcome.the-variants.{Done, Refused}
 use Rattle.frame.specs.declared.Reading.{Reading}
 
@@ -74,7 +73,8 @@ firstFields p bs =
       taken = list 0 width (λ m. takenNumber (shellAt p k bs (p - k) m));
       issued = sentNumber (numberAt bs (2 * (p - k)));
       received = takenNumber (numberAt bs (2 * (p - k) + 1));
-      agreed = 0 }
+      agreed = 0;
+    }
 
 abbrev pub secondFields : List ℕ → Frame
 secondFields bs =
@@ -87,7 +87,8 @@ secondFields bs =
       taken = list 0 width (λ m. takenNumber 0);
       issued = sentNumber (numberAt bs 1);
       received = takenNumber 0;
-      agreed = numberAt bs 0 }
+      agreed = numberAt bs 0;
+    }
 
 unfoldable pub fieldsOf : ℕ → List ℕ → Frame
 fieldsOf p bs = choose (eqb (getD bs 0 0) 1) (firstFields p bs) (secondFields bs)
@@ -106,11 +107,11 @@ unfoldable pub numbersOk : Limits → ℕ → Frame → Bool
 numbersOk L p f =
     both
     (every 0 width
-      (λ m.
-        let has = both (eqb (f .pass) 1) (hasShell p (f .dim) m) in
-        both (numberOk L has (sentAt (f .sent) m)) (numberOk L has (takenAt (f .taken) m))))
+    (λ m.
+    let has = both (eqb (f .pass) 1) (hasShell p (f .dim) m) in
+    both (numberOk L has (sentAt (f .sent) m)) (numberOk L has (takenAt (f .taken) m))))
     (both (numberOk L true (f .issued .0))
-      (both (numberOk L (eqb (f .pass) 1) (f .received .0)) (numberOk L (eqb (f .pass) 2) (f .agreed))))
+    (both (numberOk L (eqb (f .pass) 1) (f .received .0)) (numberOk L (eqb (f .pass) 2) (f .agreed))))
 
 -- "Frame reader, given P: 1, then as Frame from 9 (under 4) to 2." Frame: "9 (under 4), 10 (pass, k), 9, 10 (numbers), 2"
 abbrev pub readChecks : Limits → ℕ → List ℕ → List Check
@@ -162,7 +163,8 @@ noFrame =
       taken = list 0 width (λ m. takenNumber 0);
       issued = sentNumber 0;
       received = takenNumber 0;
-      agreed = 0 }
+      agreed = 0;
+    }
 
 -- what an answer stands for: the frame, or document 01's number of a refusal with no frame beside it
 abbrev pub reading : Answered Frame → Reading

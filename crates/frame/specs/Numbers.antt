@@ -1,6 +1,6 @@
 -- "four-byte numbers, low byte first"
 use mathlib.Core.List.{List, [], _∷_, _++_}
-use Prim.Native.Nat.{ℕ, zero, suc, _+_, _*_, _/_, _%_}
+use Prim.Native.Nat.{ℕ, _+_, _*_, _/_, _%_}
 use lib.ListN.{getD}
 
 unfoldable pub fourBytes : ℕ → List ℕ

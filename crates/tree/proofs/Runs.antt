@@ -1,17 +1,14 @@
 -- Laws of runs: a node is in its run, the nodes of a run have the same run, and how large runs are.
-use mathlib.Core.Path.{_≡_, refl, sym, ap, _∙_}
-use mathlib.Core.Bool.{Bool, true, false}
-use Prim.Native.Nat.{ℕ, zero, suc, _+_, _-_, _*_, _/_, _^_, _≤_, _<_}
+use mathlib.Core.Path.{_≡_, refl, sym, _∙_}
+use Prim.Native.Nat.{ℕ, zero, suc, _+_, _-_, _^_, _≤_, _<_}
 use native.Mathlib.Decide.{decLe}
 use native.Mathlib.Numerals.{add-one}
 use native.Mathlib.Omega.{arith}
-use lib.Dec.{leb}
-use borrow.Author.Tests.{leb-true, leb-false, le-leb, lt-leb}
-use Rattle.base.specs.Choice.{choose}
-use Rattle.base.proofs.Laws.{choose-yes, choose-no, cases}
-use Rattle.tree.specs.Tree.{dimension, root, middle, left, right, leftSize, rightSize, part, runBelow, runOf}
+use borrow.Author.Tests.{le-leb, lt-leb}
+use Rattle.base.proofs.Laws.{choose-yes, choose-no}
+use Rattle.tree.specs.Tree.{dimension, root, middle, left, right, part, runBelow, runOf}
 use Rattle.tree.specs.declared.Run.{Run}
-use Rattle.tree.proofs.Dimension.{fits, positive, above-half}
+use Rattle.tree.proofs.Dimension.{fits, above-half}
 
 -- node a is in the run
 abbrev pub In : Run → ℕ → Type 0
@@ -19,6 +16,9 @@ In r a = (r .low ≤ a) × (a ≤ r .high)
 
 abbrev pub size : Run → ℕ
 size r = suc (r .high) - r .low
+
+pub run-is : (r : Run) (a b : ℕ) → r .low ≡ a → r .high ≡ b → r ≡ record { low = a; high = b }
+run-is r a b p q = λ i. record { low = p i; high = q i }
 
 -- ---- the parts of a run
 
@@ -89,8 +89,64 @@ below-small P (suc n) a k h f =
     go l (onLeft i e) = rw e (omega arith)
     go l (onRight i e) = rw e (omega arith)
 
+below-large : (P n a k : ℕ) → a < P → 2 ^ (n + k) ≤ P → 2 ^ k ≤ size (runBelow P n a)
+unfolding runBelow
+below-large P zero a k h f = let z : 0 + k ≡ k = omega arith in omega (arith, rw z at f)
+below-large P (suc n) a k h f =
+    go (below-large P n a (suc k) h (let z : suc n + k ≡ n + suc k = omega arith in rw z at f))
+    (parts (runBelow P n a) a (below-has P n a h))
+  where
+    go : 2 ^ suc k ≤ size (runBelow P n a) → Parts (runBelow P n a) a → 2 ^ k ≤ size (part (runBelow P n a) a)
+    go l (onLeft i e) = rw e (omega arith)
+    go l (onRight i e) = rw e (omega arith)
+
 -- ---- the run of a node in a dimension
 
 pub run-up : (P p k a : ℕ) → p ≡ dimension P → runBelow P (p - (k + 1)) a ≡ runOf P (suc k) a
 unfolding runOf
 run-up P p k a e = rw (e, add-one)
+
+pub run-has : (P k a : ℕ) → a < P → In (runOf P k a) a
+unfolding runOf
+run-has P k a h = below-has P (dimension P - k) a h
+
+-- the nodes of a run are on the board and have that run
+pub run-same : (P k a b : ℕ) → a < P → In (runOf P k a) b → (b < P) × (runOf P k b ≡ runOf P k a)
+unfolding runOf
+run-same P k a b h i = below-same P (dimension P - k) a b h i
+
+-- in dimension p the run is the whole board
+pub run-top : (P a : ℕ) → runOf P (dimension P) a ≡ root P
+unfolding runOf runBelow
+run-top P a = let z : dimension P - dimension P ≡ 0 = omega arith in rw z
+
+-- one dimension lower a node has its part of the run
+pub run-step : (P k a : ℕ) → k < dimension P → runOf P k a ≡ part (runOf P (suc k) a) a
+unfolding runOf runBelow
+run-step P k a l = let z : dimension P - k ≡ suc (dimension P - suc k) = omega arith in rw z
+
+pub run-grows : (P k a b : ℕ) → k < dimension P → a < P → In (runOf P k a) b → In (runOf P (suc k) a) b
+run-grows P k a b l h i = part-same (runOf P (suc k) a) a b (run-has P (suc k) a h) (rw (run-step P k a l) at i) .0
+
+pub run-size : (P k a : ℕ) → k ≤ dimension P → a < P → size (runOf P k a) ≤ 2 ^ k
+unfolding runOf
+run-size P k a l h =
+    let z : dimension P - k + k ≡ dimension P = omega arith in
+    below-small P (dimension P - k) a k h (rw z (fits P))
+
+-- a run one dimension up is larger than half of what its dimension allows
+pub run-large : (P k a : ℕ) → k < dimension P → 2 ≤ P → a < P → 2 ^ k ≤ size (runOf P (suc k) a)
+unfolding runOf
+run-large P k a l two h =
+    let z : dimension P - suc k + k ≡ dimension P - 1 = omega arith in
+    below-large P (dimension P - suc k) a k h (rw z (omega (arith, above-half P two)))
+
+-- in dimension 0 the run is the node itself
+pub run-zero : (P a : ℕ) → a < P → runOf P 0 a ≡ record { low = a; high = a }
+run-zero P a h = run-is (runOf P 0 a) a a (omega (arith, i, s)) (omega (arith, i, s))
+  where
+    i : In (runOf P 0 a) a
+    i = run-has P 0 a h
+
+    s : size (runOf P 0 a) ≤ 2 ^ 0
+    s = run-size P 0 a (omega arith) h

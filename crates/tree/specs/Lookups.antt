@@ -1,6 +1,6 @@
 -- The tree lookups as a caller meets them: any numbers in, an answer of document 01 out.
 use mathlib.Core.Bool.{Bool}
-use mathlib.Core.List.{List, [], _∷_}
+use mathlib.Core.List.{[], _∷_}
 use Prim.Native.Nat.{ℕ}
 use lib.Dec.{ltb, leb, eqb}
 use Rattle.base.specs.Choice.{either}

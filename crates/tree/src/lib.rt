@@ -4,7 +4,16 @@ ghost use mathlib.Core.Path.{_≡_};
 ghost use Prim.Native.Nat.{_+_, _≤_, _<_};
 ghost use Rattle.base.specs.Limits.{base};
 ghost use Rattle.base.specs.Refusal.{found};
-ghost use Rattle.tree.specs.Tree.{dimension, part, runBelow, across, placeIn, distanceBelow};
+ghost use Rattle.tree.specs.Tree.{
+  dimension,
+  middle,
+  part,
+  runBelow,
+  across,
+  placeIn,
+  inside,
+  distanceBelow,
+};
 ghost use Rattle.tree.specs.Lookups.{dimensionLookup, placeLookup, distanceLookup, foundAnswer, placedAnswer};
 
 // A number, or the number of a refusal.
@@ -48,22 +57,29 @@ pub fn dimension_of(nodes: u32) -> Found
     Found::Is(32 - u32::leading_zeros(nodes - 1))
 }
 
+// The last node of the left part of a run.
+fn middle_of(r: Run) -> u32
+    requires { ⌜ (r .low ≤ 256) × (r .high < 256) ⌝ }
+    ensures { λ m. ⌜ (m ≡ middle r) × (m < 256) ⌝ }
+{
+    (r.low + r.high) / 2
+}
+
 // The part of a run that has the node.
 fn part_of(r: Run, node: u32) -> Run
     requires { ⌜ (r .low ≤ 256) × (r .high < 256) ⌝ }
     ensures { λ s. ⌜ (s ≡ part r node) × (s .low ≤ 256) × (s .high < 256) ⌝ }
 {
-    let middle = (r.low + r.high) / 2;
+    let middle = middle_of(r);
     if node <= middle {
-        Run {
+        return Run {
             low: r.low,
             high: middle,
-        }
-    } else {
-        Run {
-            low: middle + 1,
-            high: r.high,
-        }
+        };
+    }
+    Run {
+        low: middle + 1,
+        high: r.high,
     }
 }
 
@@ -87,11 +103,11 @@ fn across_from(r: Run, node: u32) -> u32
     requires { ⌜ (r .low ≤ node) × (node ≤ r .high) × (r .high < 256) ⌝ }
     ensures { λ b. ⌜ b ≡ across r node ⌝ }
 {
-    let middle = (r.low + r.high) / 2;
-    if node <= middle {
-        middle + 1 + (node - r.low)
+    let next = middle_of(r) + 1;
+    if node < next {
+        next + (node - r.low)
     } else {
-        r.low + (node - (middle + 1))
+        r.low + (node - next)
     }
 }
 
@@ -100,22 +116,24 @@ fn place_in(r: Run, node: u32) -> Placed
     requires { ⌜ (r .low ≤ node) × (node ≤ r .high) × (r .high < 256) ⌝ }
     ensures { λ s. ⌜ placedAnswer s ≡ found (placeIn r node) ⌝ }
 {
-    let middle = (r.low + r.high) / 2;
-    let left = middle + 1 - r.low;
-    let right = r.high - middle;
+    let last = middle_of(r);
+    let next = last + 1;
+    let left = next - r.low;
+    let right = r.high - last;
     if right == 0 {
         return Placed::Alone;
     }
+    let other = across_from(r, node);
     if left <= right {
-        return Placed::Neighbour(across_from(r, node));
+        return Placed::Neighbour(other);
     }
-    if node == middle {
-        return Placed::Hermit(node + 1);
+    if node == last {
+        return Placed::Hermit(next);
     }
-    if node == middle + 1 {
-        return Placed::Messenger(across_from(r, node), middle);
+    if node == next {
+        return Placed::Messenger(other, last);
     }
-    Placed::Neighbour(across_from(r, node))
+    Placed::Neighbour(other)
 }
 
 // The place of a node in a dimension. Refuses 1, 2, 10.
@@ -134,6 +152,13 @@ pub fn place_of(nodes: u32, dimension: u32, node: u32) -> Placed
     place_in(run_below(nodes, p - (dimension + 1), node), node)
 }
 
+// Whether a run has the node.
+fn has_node(r: Run, node: u32) -> bool
+    ensures { λ t. ⌜ t ≡ inside r node ⌝ }
+{
+    r.low <= node && node <= r.high
+}
+
 // The largest dimension below p in which a and b are in different runs.
 fn parted_below(nodes: u32, p: u32, a: u32, b: u32) -> u32
     requires { ⌜ (0 < nodes) × (nodes ≤ 256) × (p ≡ dimension nodes) ⌝ }
@@ -147,10 +172,7 @@ fn parted_below(nodes: u32, p: u32, a: u32, b: u32) -> u32
     while 0 < k {
         r = part_of(r, a);
         k -= 1;
-        if b < r.low {
-            return k;
-        }
-        if r.high < b {
+        if !has_node(r, b) {
             return k;
         }
     }

@@ -1,17 +1,19 @@
 -- `across_from` is `across`.
 use borrow.Author.Needs.{needs}
-use borrow.Author.Tests.{le-leb, lt-leb}
+use native.Mathlib.Omega.{arith}
+use mathlib.Core.Path.{sym, _∙_}
+use Rattle.tree.proofs.Places.{across-left, across-right}
 use Rattle.tree.proofs.across_from.Statement.{statement}
 use Rattle.tree.proofs.across_from.Tie as tie
 
 returns : tie.Need-returns
-returns c = simp (le-leb _ _ (c .before .if1 .taken))
+returns c = let x = c .before .before .before .args in sym (across-left (x .r) (x .node) (omega arith) ∙ (omega arith))
 
 returns-2 : tie.Need-returns-2
-returns-2 c = simp (lt-leb _ _ (c .before .if1 .left))
+returns-2 c = let x = c .before .before .before .args in sym (across-right (x .r) (x .node) (omega arith) ∙ (omega arith))
 
 pub across-from-spec : {M : Type 1} → statement M
 across-from-spec =
     tie.close
-    (tie.spec (λ c. search needs) (λ c. search needs) (λ c. search needs) (λ c. search needs) (λ c. search needs)
-    (λ c. search needs) (λ c. search needs) returns returns-2)
+    (tie.spec (λ c κs. search needs) (λ c. search needs) (λ c. search needs) (λ c. search needs) (λ c. search needs)
+    returns returns-2)

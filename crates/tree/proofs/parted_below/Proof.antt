@@ -1,36 +1,39 @@
--- `parted_below` is `distanceBelow`: while k is above the answer, b is in the run of a in dimension k.
+-- `parted_below` is `distanceBelow`: as long as no dimension parts them, b is in the run of a.
 use borrow.Author.Needs.{needs}
+use borrow.Author.Tests.{not-true, not-false}
 use native.Mathlib.Omega.{arith}
 use mathlib.Core.Path.{_≡_, refl, _∙_, sym, ap}
+use mathlib.Core.Bool.{true, false}
 use Prim.Native.Nat.{_≤_, _<_, _-_}
-use Rattle.tree.specs.Tree.{runBelow, distanceBelow}
-use Rattle.tree.proofs.Runs.{In}
+use Rattle.tree.specs.Tree.{runBelow, inside, distanceBelow}
 use Rattle.tree.proofs.Distances.{walk-run, walk-together, walk-apart}
 use Rattle.tree.proofs.parted_below.Statement.{statement}
 use Rattle.tree.proofs.parted_below.Tie as tie
-use Rattle.tree.proofs.parted_below.Reads as reads
-use Rattle.tree.proofs.parted_below.Lts as lts
-use Rattle.tree.proofs.part_of.Reads as part-of-reads
 
 abbrev Inv-loop : tie.InvT-loop
 Inv-loop nodes p a b r₀ k₀ r k =
-    (k ≤ p) × (r ≡ runBelow nodes (p - k) a) × (distanceBelow nodes a b k ≡ distanceBelow nodes a b p) × (r .low ≤ 256) × (r .high < 256)
+    (k ≤ p)
+    × (r ≡ runBelow nodes (p - k) a)
+    × (distanceBelow nodes a b k ≡ distanceBelow nodes a b p)
+    × (r .low ≤ 256)
+    × (r .high < 256)
 
 abbrev μ-loop : tie.MeasureT-loop
 μ-loop nodes p a b r₀ k₀ r k = k
 
 loop-holds : tie.Need-loop-holds Inv-loop μ-loop
 unfolding runBelow
-loop-holds c = let z : c .args .p - c .args .p ≡ 0 = omega arith in (search needs, rw z, refl, search needs, search needs)
+loop-holds c =
+    let z : c .args .p - c .args .p ≡ 0 = omega arith in (search needs, rw z, refl, search needs, search needs)
 
--- what is known once the run is split: the laws of one turn, with what they ask for filled in
+-- the laws of one turn, with what they ask for filled in
 turn : (c : tie.After-part-of Inv-loop μ-loop)
     → let r = c .part-of .result in
     let l = c .before .before .loop in
     let x = c .before .before .before .args in
     (r ≡ runBelow (x .nodes) (x .p - (l .k - 1)) (x .a))
-    × (In r (x .b) → distanceBelow (x .nodes) (x .a) (x .b) (l .k - 1) ≡ distanceBelow (x .nodes) (x .a) (x .b) (l .k))
-    × ((In r (x .b) → ⊥) → l .k - 1 ≡ distanceBelow (x .nodes) (x .a) (x .b) (l .k))
+    × (inside r (x .b) ≡ true → distanceBelow (x .nodes) (x .a) (x .b) (l .k - 1) ≡ distanceBelow (x .nodes) (x .a) (x .b) (l .k))
+    × (inside r (x .b) ≡ false → l .k - 1 ≡ distanceBelow (x .nodes) (x .a) (x .b) (l .k))
 turn c =
     let l = c .before .before .loop in
     let x = c .before .before .before .args in
@@ -44,19 +47,24 @@ turn c =
     )
 
 returns : tie.Need-returns Inv-loop μ-loop
-returns c = turn (c .before .before) .2 (λ i. omega arith) ∙ c .before .before .before .before .loop .inv .2
-
-returns-2 : tie.Need-returns-2 Inv-loop μ-loop
-returns-2 c = turn (c .before .before .before .before) .2 (λ i. omega arith) ∙ c .before .before .before .before .before .before .loop .inv .2
+returns c =
+    let h = c .before .has-node .ensures in
+    turn (c .before .before) .2 (sym h ∙ not-true _ (c .if1 .taken)) ∙ c .before .before .before .before .loop .inv .2
 
 loop-again : tie.Need-loop-again Inv-loop μ-loop
 loop-again c =
-    let t = turn (c .before .before .before .before) in
-    (search needs, t .0, t .1 (omega arith) ∙ c .before .before .before .before .before .before .loop .inv .2, search needs, search needs)
+    let h = c .before .has-node .ensures in
+    let t = turn (c .before .before) in (
+      search needs,
+      t .0,
+      t .1 (sym h ∙ not-false _ (c .if1 .left)) ∙ c .before .before .before .before .loop .inv .2,
+      search needs,
+      search needs,
+    )
 
-returns-3 : tie.Need-returns-3 Inv-loop μ-loop
+returns-2 : tie.Need-returns-2 Inv-loop μ-loop
 unfolding distanceBelow
-returns-3 c =
+returns-2 c =
     let x = c .before .before .args in
     let z : 0 ≡ c .before .loop .k = omega arith in
     ap (distanceBelow (x .nodes) (x .a) (x .b)) z ∙ c .before .loop .inv .2
@@ -64,5 +72,5 @@ returns-3 c =
 pub parted-below-spec : {M : Type 1} → statement M
 parted-below-spec =
     tie.close
-    (tie.spec Inv-loop μ-loop (λ c. search needs) loop-holds (λ c κs. search needs) (λ c. search needs) returns returns-2
-    (λ c. search needs) loop-again returns-3)
+    (tie.spec Inv-loop μ-loop (λ c. search needs) loop-holds (λ c κs. search needs) (λ c. search needs)
+    (λ c κs. search needs) returns (λ c. search needs) loop-again returns-2)

@@ -1,0 +1,11 @@
+-- Every starred board holds of the definitions, by computation.
+use mathlib.Core.Path.{refl}
+use Rattle.tree.specs.Tree.{smallestFrom, dimension, part, runBelow, runOf, placeIn, place, distanceBelow, distance}
+use Rattle.tree.specs.Lookups.{dimensionLookup, placeLookup, distanceLookup}
+use Rattle.starred.specs.Rows.{All, table}
+
+pub starred : All table
+unfolding smallestFrom dimension part runBelow runOf placeIn place distanceBelow distance dimensionLookup placeLookup
+    distanceLookup
+starred =
+    (refl, (refl, (refl, (refl, (refl, (refl, (refl, (refl, (refl, (refl, (refl, (refl, (refl, tt)))))))))))))

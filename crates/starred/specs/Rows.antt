@@ -1,0 +1,47 @@
+-- "Boards to try (* proved)": the starred boards of document 01 as the rows of one table.
+use mathlib.Core.Path.{_≡_}
+use mathlib.Core.List.{List, [], _∷_}
+use Prim.Native.Nat.{ℕ}
+use Rattle.base.specs.Limits.{base}
+use Rattle.base.specs.Refusal.{Refusal, number, Answered, refused, found}
+use Rattle.tree.specs.Tree.{Place, alone, hermit, neighbour, messenger}
+use Rattle.tree.specs.Lookups.{dimensionLookup, placeLookup, distanceLookup}
+
+-- what is asked of the definitions, and what they must answer
+pub data Row : Type 0 where
+  -- P
+  dimension : ℕ → Answered ℕ → Row
+  -- P, dimension, node
+  place : ℕ → ℕ → ℕ → Answered Place → Row
+  -- P, node, node
+  distance : ℕ → ℕ → ℕ → Answered ℕ → Row
+
+abbrev pub Holds : Row → Type 0
+Holds (dimension P x) = dimensionLookup base P ≡ x
+Holds (place P k a x) = placeLookup base P k a ≡ x
+Holds (distance P a b x) = distanceLookup base P a b ≡ x
+
+abbrev pub All : List Row → Type 0
+All [] = Unit {0}
+All (r ∷ rs) = Holds r × All rs
+
+abbrev pub table : List Row
+table =
+    -- "P 1, 2, 3, 5, 256: p 0, 1, 2, 3, 8. P 0 and 257: 1."
+    dimension 1 (found 0)
+    ∷ dimension 2 (found 1)
+    ∷ dimension 3 (found 2)
+    ∷ dimension 5 (found 3)
+    ∷ dimension 256 (found 8)
+    ∷ dimension 0 (refused (number Refusal.board))
+    ∷ dimension 257 (refused (number Refusal.board))
+    -- "P 6, node 2: alone in 0; neighbour 0 and hermit 1 in 1; neighbour 5 in 2."
+    ∷ place 6 0 2 (found alone)
+    ∷ place 6 1 2 (found (messenger 0 1))
+    ∷ place 6 2 2 (found (neighbour 5))
+    -- "P 5, node 2 in 2: hermit, awaits 3."
+    ∷ place 5 2 2 (found (hermit 3))
+    -- "P 6: distance of 1 and 2 is 1, of 2 and 5 is 2."
+    ∷ distance 6 1 2 (found 1)
+    ∷ distance 6 2 5 (found 2)
+    ∷ []
