@@ -1,1 +1,2 @@
-pub mod RoundTripWords
+pub mod Words
+pub mod RoundTripRows

@@ -74,7 +74,8 @@ firstFields p bs =
       taken = list 0 width (λ m. takenNumber (shellAt p k bs (p - k) m));
       issued = sentNumber (numberAt bs (2 * (p - k)));
       received = takenNumber (numberAt bs (2 * (p - k) + 1));
-      agreed = 0 }
+      agreed = 0;
+    }
 
 abbrev pub secondFields : List ℕ → Frame
 secondFields bs =
@@ -87,7 +88,8 @@ secondFields bs =
       taken = list 0 width (λ m. takenNumber 0);
       issued = sentNumber (numberAt bs 1);
       received = takenNumber 0;
-      agreed = numberAt bs 0 }
+      agreed = numberAt bs 0;
+    }
 
 unfoldable pub fieldsOf : ℕ → List ℕ → Frame
 fieldsOf p bs = choose (eqb (getD bs 0 0) 1) (firstFields p bs) (secondFields bs)
@@ -106,11 +108,11 @@ unfoldable pub numbersOk : Limits → ℕ → Frame → Bool
 numbersOk L p f =
     both
     (every 0 width
-      (λ m.
-        let has = both (eqb (f .pass) 1) (hasShell p (f .dim) m) in
-        both (numberOk L has (sentAt (f .sent) m)) (numberOk L has (takenAt (f .taken) m))))
+    (λ m.
+    let has = both (eqb (f .pass) 1) (hasShell p (f .dim) m) in
+    both (numberOk L has (sentAt (f .sent) m)) (numberOk L has (takenAt (f .taken) m))))
     (both (numberOk L true (f .issued .0))
-      (both (numberOk L (eqb (f .pass) 1) (f .received .0)) (numberOk L (eqb (f .pass) 2) (f .agreed))))
+    (both (numberOk L (eqb (f .pass) 1) (f .received .0)) (numberOk L (eqb (f .pass) 2) (f .agreed))))
 
 -- "Frame reader, given P: 1, then as Frame from 9 (under 4) to 2." Frame: "9 (under 4), 10 (pass, k), 9, 10 (numbers), 2"
 abbrev pub readChecks : Limits → ℕ → List ℕ → List Check
@@ -162,7 +164,8 @@ noFrame =
       taken = list 0 width (λ m. takenNumber 0);
       issued = sentNumber 0;
       received = takenNumber 0;
-      agreed = 0 }
+      agreed = 0;
+    }
 
 -- what an answer stands for: the frame, or document 01's number of a refusal with no frame beside it
 abbrev pub reading : Answered Frame → Reading

@@ -10,7 +10,6 @@ ghost use Rattle.tree.specs.Tree.{dimension};
 ghost use Rattle.tree.specs.Lookups.{foundAnswer};
 ghost use Rattle.frame.specs.Frame.{readFrame, reading, writeFrame, written};
 ghost use Rattle.frame.specs.Timing.{timing};
-
 use tree::Found;
 
 // A tally of messages sent.

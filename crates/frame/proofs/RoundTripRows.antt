@@ -1,9 +1,8 @@
--- Words: the bytes of a row of numbers give back its numbers, and bytes, four at a time, are those of the numbers they give.
+-- Rows of numbers: parts of a row are read at their places, and bytes are those of the row of numbers that they give.
 use mathlib.Core.Path.{_≡_, refl, sym, ap, _∙_}
 use mathlib.Core.List.{List, [], _∷_, _++_}
-use Prim.Native.Nat.{ℕ, zero, suc, _+_, _-_, _*_, _/_, _%_, _≤_, _<_}
+use Prim.Native.Nat.{ℕ, zero, suc, _+_, _-_, _*_, _/_, _%_, _<_}
 use native.Mathlib.Decide.{decLt}
-use native.Mathlib.Nat.{div-div-eq-div-mul}
 use native.Mathlib.Omega.{arith}
 use lib.ListN.{length, getD, length-append, List·getD-append}
 use lib.Seq.{getD-append-add}
@@ -23,9 +22,8 @@ getD-list start (suc count) f zero d h = let e : start ≡ start + 0 = omega ari
 getD-list start (suc count) f (suc i) d h =
     let e : suc start + i ≡ start + suc i = omega arith in getD-list (suc start) count f i d (omega arith) ∙ ap f e
 
--- ---- rows of numbers that a rule gives
+-- ---- the numbers are g 0, g 1, ..
 
--- the numbers are g 0, g 1, ..
 abbrev pub Gives : (ℕ → ℕ) → List ℕ → Type 0
 Gives g ns = (i : ℕ) → i < length ns → getD ns i 0 ≡ g i
 
@@ -38,8 +36,10 @@ module _ (g : ℕ → ℕ) (xs ys : List ℕ) where
       go (yes l) = List·getD-append xs ys 0 i l ∙ a i l
       go (no l) =
           let z : length xs + (i - length xs) ≡ i = omega arith in
-          ap (λ j. getD (xs ++ ys) j 0) (sym z) ∙ getD-append-add xs ys (i - length xs) 0
-          ∙ b (i - length xs) (omega (arith, length-append xs ys)) ∙ ap g z
+          ap (λ j. getD (xs ++ ys) j 0) (sym z)
+          ∙ getD-append-add xs ys (i - length xs) 0
+          ∙ b (i - length xs) (omega (arith, length-append xs ys))
+          ∙ ap g z
 
   pub gives-first : Gives g (xs ++ ys) → Gives g xs
   gives-first h i l = sym (List·getD-append xs ys 0 i l) ∙ h i (omega (arith, length-append xs ys))
@@ -47,63 +47,36 @@ module _ (g : ℕ → ℕ) (xs ys : List ℕ) where
   pub gives-rest : Gives g (xs ++ ys) → Gives (λ i. g (length xs + i)) ys
   gives-rest h i l = sym (getD-append-add xs ys i 0) ∙ h (length xs + i) (omega (arith, length-append xs ys))
 
--- ---- words
+-- ---- bytes
 
-four-on : (a b c d : ℕ) (l : List ℕ) (i j : ℕ) → i ≡ 4 + j → getD (a ∷ b ∷ c ∷ d ∷ l) i 0 ≡ getD l j 0
-four-on a b c d l i j e = let z : i ≡ suc (suc (suc (suc j))) = omega arith in rw z
+-- every entry is a byte
+abbrev pub Bytes : List ℕ → Type 0
+Bytes bs = (i : ℕ) → i < length bs → getD bs i 0 < 256
+
+byte-on : (a b c d : ℕ) (l : List ℕ) (i j : ℕ) → i ≡ 4 + j → getD (a ∷ b ∷ c ∷ d ∷ l) i 0 ≡ getD l j 0
+byte-on a b c d l i j e = let z : i ≡ suc (suc (suc (suc j))) = omega arith in rw z
 
 -- a word after the first four bytes
 pub word-on : (a b c d : ℕ) (l : List ℕ) (i j : ℕ) → i ≡ 4 + j → wordAt (a ∷ b ∷ c ∷ d ∷ l) i ≡ wordAt l j
 unfolding wordAt
 word-on a b c d l i j e =
     rw (
-      four-on a b c d l i j e,
-      four-on a b c d l (i + 1) (j + 1) (omega arith),
-      four-on a b c d l (i + 2) (j + 2) (omega arith),
-      four-on a b c d l (i + 3) (j + 3) (omega arith),
+      byte-on a b c d l i j e,
+      byte-on a b c d l (i + 1) (j + 1) (omega arith),
+      byte-on a b c d l (i + 2) (j + 2) (omega arith),
+      byte-on a b c d l (i + 3) (j + 3) (omega arith),
     )
-
-pub bytes-length : (ns : List ℕ) → length (bytesOf ns) ≡ 4 * length ns
-unfolding bytesOf fourBytes
-bytes-length [] = refl
-bytes-length (n ∷ ns) = omega (arith, bytes-length ns)
-
-third : (n : ℕ) → n / 65536 ≡ n / 256 / 256
-third n = sym (div-div-eq-div-mul n 256 256)
-
-fourth : (n : ℕ) → n / 16777216 ≡ n / 256 / 256 / 256
-fourth n = sym (ap (λ x. x / 256) (div-div-eq-div-mul n 256 256) ∙ div-div-eq-div-mul n 65536 256)
-
-word-back : (n : ℕ) (l : List ℕ) → n < 4294967296 → wordAt (fourBytes n ++ l) 0 ≡ n
-unfolding wordAt fourBytes
-word-back n l h = rw (third n, fourth n) (omega arith)
-
--- the bytes of numbers give the numbers back
-pub words-back : (ns : List ℕ) → ((i : ℕ) → i < length ns → getD ns i 0 < 4294967296) → Gives (λ i. wordAt (bytesOf ns) (4 * i)) ns
-unfolding bytesOf fourBytes
-words-back [] h i l = absurd (omega arith)
-words-back (n ∷ ns) h zero l = sym (word-back n (bytesOf ns) (h 0 (omega arith)))
-words-back (n ∷ ns) h (suc i) l =
-    words-back ns (λ j k. h (suc j) (omega arith)) i (omega arith) ∙ sym (on (4 * suc i) (4 * i) (omega arith))
-  where
-    on : (i j : ℕ) → i ≡ 4 + j → wordAt (fourBytes n ++ bytesOf ns) i ≡ wordAt (bytesOf ns) j
-    on i j e = word-on (n % 256) (n / 256 % 256) (n / 65536 % 256) (n / 16777216 % 256) (bytesOf ns) i j e
-
--- every entry is a byte
-abbrev pub Bytes : List ℕ → Type 0
-Bytes bs = (i : ℕ) → i < length bs → getD bs i 0 < 256
 
 four-there : (n a b c d : ℕ) → a < 256 → b < 256 → c < 256 → d < 256 → n ≡ a + 256 * b + 65536 * c + 16777216 * d
     → fourBytes n ≡ a ∷ b ∷ c ∷ d ∷ []
 unfolding fourBytes
 four-there n a b c d ha hb hc hd e =
-    let x : n / 256 ≡ b + 256 * c + 65536 * d = omega arith in
-    let y : n / 256 / 256 ≡ c + 256 * d = omega arith in
-    let z : n / 256 / 256 / 256 ≡ d = omega arith in
-    rw (third n, fourth n) (four-are (omega arith) (omega arith) (omega arith) (omega arith))
+    let x : n / 65536 ≡ c + 256 * d = omega arith in
+    let y : n / 16777216 ≡ d = omega arith in
+    rw (x, y) (same (omega arith) (omega arith) (omega arith) (omega arith))
   where
-    four-are : {x y z w : ℕ} → x ≡ a → y ≡ b → z ≡ c → w ≡ d → x ∷ y ∷ z ∷ w ∷ [] ≡ a ∷ b ∷ c ∷ d ∷ []
-    four-are p q r s = cc
+    same : {x y z w : ℕ} → x ≡ a → y ≡ b → z ≡ c → w ≡ d → x ∷ y ∷ z ∷ w ∷ [] ≡ a ∷ b ∷ c ∷ d ∷ []
+    same p q r s = cc
 
 -- bytes are those of the numbers that they give
 pub words-there : (ns l : List ℕ) → length l ≡ 4 * length ns → Bytes l → Gives (λ i. wordAt l (4 * i)) ns → bytesOf ns ≡ l
@@ -115,12 +88,12 @@ words-there (n ∷ ns) (a ∷ []) e small g = absurd (omega arith)
 words-there (n ∷ ns) (a ∷ b ∷ []) e small g = absurd (omega arith)
 words-there (n ∷ ns) (a ∷ b ∷ c ∷ []) e small g = absurd (omega arith)
 words-there (n ∷ ns) (a ∷ b ∷ c ∷ d ∷ l) e small g =
-    let r : bytesOf ns ≡ l =
-    words-there ns l (omega arith) (λ i k. small (suc (suc (suc (suc i)))) (omega arith))
-    (λ i k. g (suc i) (omega arith) ∙ word-on a b c d l (4 * suc i) (4 * i) (omega arith))
-    in
-    let q =
+    let head =
     four-there n a b c d (small 0 (omega arith)) (small 1 (omega arith)) (small 2 (omega arith)) (small 3 (omega arith))
     (g 0 (omega arith))
     in
-    rw (q, r)
+    let rest =
+    words-there ns l (omega arith) (λ i k. small (suc (suc (suc (suc i)))) (omega arith))
+    (λ i k. g (suc i) (omega arith) ∙ word-on a b c d l (4 * suc i) (4 * i) (omega arith))
+    in
+    rw (head, rest)
