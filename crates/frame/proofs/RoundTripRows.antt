@@ -1,7 +1,7 @@
 -- Rows of numbers: parts of a row are read at their places, and bytes are those of the row of numbers that they give.
 use mathlib.Core.Path.{_≡_, refl, sym, ap, _∙_}
 use mathlib.Core.List.{List, [], _∷_, _++_}
-use Prim.Native.Nat.{ℕ, zero, suc, _+_, _-_, _*_, _/_, _%_, _<_}
+use Prim.Native.Nat.{ℕ, zero, suc, _+_, _-_, _*_, _/_, _%_, _≤_, _<_}
 use native.Mathlib.Decide.{decLt}
 use native.Mathlib.Omega.{arith}
 use lib.ListN.{length, getD, length-append, List·getD-append}
@@ -27,25 +27,47 @@ getD-list start (suc count) f (suc i) d h =
 abbrev pub Gives : (ℕ → ℕ) → List ℕ → Type 0
 Gives g ns = (i : ℕ) → i < length ns → getD ns i 0 ≡ g i
 
--- one row after another
-module _ (g : ℕ → ℕ) (xs ys : List ℕ) where
-  pub gives-join : Gives g xs → Gives (λ i. g (length xs + i)) ys → Gives g (xs ++ ys)
-  gives-join a b i h = go (decLt i (length xs))
+-- listed values, then others
+module _ (g : ℕ → ℕ) (start count : ℕ) (f : ℕ → ℕ) (rest : List ℕ) where
+  row : List ℕ
+  row = list start count f ++ rest
+
+  counted : length (list start count f) ≡ count
+  counted = length-list start count f
+
+  in-list : (i : ℕ) → i < count → getD row i 0 ≡ f (start + i)
+  unfolding row
+  in-list i l =
+      List·getD-append (list start count f) rest 0 i (omega (arith, counted)) ∙ getD-list start count f i 0 l
+
+  in-rest : (i : ℕ) → getD row (count + i) 0 ≡ getD rest i 0
+  unfolding row
+  in-rest i = ap (λ n. getD row (n + i) 0) (sym counted) ∙ getD-append-add (list start count f) rest i 0
+
+  pub gives-join : ((m : ℕ) → start ≤ m → m < start + count → f m ≡ g (m - start)) → Gives (λ i. g (count + i)) rest
+      → Gives g (list start count f ++ rest)
+  unfolding row
+  gives-join a b i h = go (decLt i count)
     where
-      go : Dec (i < length xs) → getD (xs ++ ys) i 0 ≡ g i
-      go (yes l) = List·getD-append xs ys 0 i l ∙ a i l
+      go : Dec (i < count) → getD row i 0 ≡ g i
+      go (yes l) =
+          let z : start + i - start ≡ i = omega arith in in-list i l ∙ a (start + i) (omega arith) (omega arith) ∙ ap g z
       go (no l) =
-          let z : length xs + (i - length xs) ≡ i = omega arith in
-          ap (λ j. getD (xs ++ ys) j 0) (sym z)
-          ∙ getD-append-add xs ys (i - length xs) 0
-          ∙ b (i - length xs) (omega (arith, length-append xs ys))
-          ∙ ap g z
+          let z : count + (i - count) ≡ i = omega arith in
+          let total = length-append (list start count f) rest in
+          ap (λ j. getD row j 0) (sym z) ∙ in-rest (i - count) ∙ b (i - count) (omega (arith, total, counted)) ∙ ap g z
 
-  pub gives-first : Gives g (xs ++ ys) → Gives g xs
-  gives-first h i l = sym (List·getD-append xs ys 0 i l) ∙ h i (omega (arith, length-append xs ys))
+  pub gives-list : Gives g (list start count f ++ rest) → (m : ℕ) → start ≤ m → m < start + count → f m ≡ g (m - start)
+  unfolding row
+  gives-list h m a b =
+      let z : m ≡ start + (m - start) = omega arith in
+      let total = length-append (list start count f) rest in
+      ap f z ∙ sym (in-list (m - start) (omega arith)) ∙ h (m - start) (omega (arith, total, counted))
 
-  pub gives-rest : Gives g (xs ++ ys) → Gives (λ i. g (length xs + i)) ys
-  gives-rest h i l = sym (getD-append-add xs ys i 0) ∙ h (length xs + i) (omega (arith, length-append xs ys))
+  pub gives-rest : Gives g (list start count f ++ rest) → Gives (λ i. g (count + i)) rest
+  unfolding row
+  gives-rest h i l =
+      let total = length-append (list start count f) rest in sym (in-rest i) ∙ h (count + i) (omega (arith, total, counted))
 
 -- ---- bytes
 
