@@ -1,3 +1,4 @@
 pub mod Words
 pub mod RoundTripRows
 pub mod RoundTripAccepted
+pub mod RoundTripNumbers

@@ -1,0 +1,139 @@
+-- The numbers of a frame stand at the places where the reader looks for them, and the arrays of a frame are their tallies.
+use mathlib.Core.Path.{_≡_, refl, sym, ap, _∙_, subst}
+use mathlib.Core.Bool.{Bool, true, false}
+use mathlib.Core.List.{List, [], _∷_, _++_}
+use Prim.Native.Nat.{ℕ, zero, suc, _+_, _-_, _*_, _≤_, _<_}
+use native.Mathlib.Omega.{arith}
+use lib.Dec.{ltb, leb, eqb}
+use lib.ListN.{length, getD, length-append}
+use lib.Seq.{ext-getD}
+use borrow.Author.Tests.{leb-true, ltb-true, le-leb, lt-ltb, eq-eqb, ne-eqb}
+use Rattle.base.specs.Choice.{list}
+use Rattle.base.specs.Limits.{width}
+use Rattle.base.proofs.Laws.{choose-yes, choose-no, cases, both-true, both-make}
+use Rattle.frame.specs.Frame.{sentAt, takenAt, numbersOf, numberAt, hasShell, shellAt}
+use Rattle.frame.specs.declared.Frame.{Frame}
+use Rattle.frame.proofs.RoundTripRows.{Gives, length-list, getD-list, gives-join, gives-list, gives-rest}
+
+-- ---- shells
+
+-- the tallies of shells k to p − 1 are what g gives from a start on
+abbrev pub Tallies : ℕ → ℕ → (ℕ → ℕ) → ℕ → (ℕ → ℕ) → Type 0
+Tallies p k g start tally = (m : ℕ) → k ≤ m → m < p → tally m ≡ g (start + (m - k))
+
+module _ (p k m : ℕ) where
+  pub shell-known : hasShell p k m ≡ true → (k ≤ m) × (m < p)
+  shell-known e = let q = both-true (leb k m) (ltb m p) e in (leb-true k m (q .0), ltb-true m p (q .1))
+
+  pub shell-good : k ≤ m → m < p → hasShell p k m ≡ true
+  shell-good a b = both-make (le-leb k m a) (lt-ltb m p b)
+
+-- an array of tallies of either kind, with a number's way in and out
+module _ {A : Type 0} (tallied : ℕ → A) (number : A → ℕ) where
+  -- the array that lists the numbers of another is that other
+  pub array-back : ((a : A) → tallied (number a) ≡ a) → (l : List A) → length l ≡ width → (g : ℕ → ℕ)
+      → ((m : ℕ) → m < width → g m ≡ number (getD l m (tallied 0))) → list 0 width (λ m. tallied (g m)) ≡ l
+  array-back whole l n g h =
+      ext-getD (tallied 0) (list 0 width (λ m. tallied (g m))) l (sym n)
+      (λ i b.
+        let z : 0 + i ≡ i = omega arith in
+        getD-list 0 width (λ m. tallied (g m)) i (tallied 0) (omega arith) ∙ ap (λ j. tallied (g j)) z
+        ∙ ap tallied (h i (omega arith)) ∙ whole (getD l i (tallied 0)))
+
+  -- an array that lists the shells of bytes has their numbers
+  pub array-reads : ((x : ℕ) → number (tallied x) ≡ x) → (p k : ℕ) → p ≤ width → (bs : List ℕ) (start : ℕ)
+      → Tallies p k (numberAt bs) start (λ m. number (getD (list 0 width (λ m. tallied (shellAt p k bs start m))) m (tallied 0)))
+  unfolding shellAt
+  array-reads whole p k fits bs start m a b =
+      let z : 0 + m ≡ m = omega arith in
+      ap number (getD-list 0 width (λ m. tallied (shellAt p k bs start m)) m (tallied 0) (omega arith))
+      ∙ whole (shellAt p k bs start (0 + m)) ∙ ap (shellAt p k bs start) z
+      ∙ choose-yes _ _ (shell-good p k m a b)
+
+-- ---- the numbers of a frame are what g gives
+
+pub record First (p : ℕ) (f : Frame) (g : ℕ → ℕ) : Type 0 where
+  pub sent : Tallies p (f .dim) g 0 (sentAt (f .sent))
+  pub taken : Tallies p (f .dim) g (p - f .dim) (takenAt (f .taken))
+  pub issued : f .issued .0 ≡ g (2 * (p - f .dim))
+  pub received : f .received .0 ≡ g (2 * (p - f .dim) + 1)
+
+pub record Second (f : Frame) (g : ℕ → ℕ) : Type 0 where
+  pub agreed : f .agreed ≡ g 0
+  pub issued : f .issued .0 ≡ g 1
+
+module _ (p : ℕ) (f : Frame) where
+  abbrev k : ℕ
+  k = f .dim
+
+  abbrev d : ℕ
+  d = p - f .dim
+
+  abbrev totals : List ℕ
+  totals = f .issued .0 ∷ f .received .0 ∷ []
+
+  abbrev row : List ℕ
+  row = list k d (sentAt (f .sent)) ++ (list k d (takenAt (f .taken)) ++ totals)
+
+  first-row : f .pass ≡ 1 → numbersOf p f ≡ row
+  unfolding numbersOf
+  first-row e = choose-yes _ _ (eq-eqb (f .pass) 1 e)
+
+  second-row : f .pass ≡ 2 → numbersOf p f ≡ f .agreed ∷ f .issued .0 ∷ []
+  unfolding numbersOf
+  second-row e = choose-no _ _ (ne-eqb (f .pass) 1 (λ q. omega arith))
+
+  pub first-length : f .pass ≡ 1 → length (numbersOf p f) ≡ 2 * (p - f .dim) + 2
+  first-length e =
+      rw (first-row e)
+      (omega (
+        arith,
+        length-append (list k d (sentAt (f .sent))) (list k d (takenAt (f .taken)) ++ totals),
+        length-append (list k d (takenAt (f .taken))) totals,
+        length-list k d (sentAt (f .sent)),
+        length-list k d (takenAt (f .taken)),
+      ))
+
+  pub second-length : f .pass ≡ 2 → length (numbersOf p f) ≡ 2
+  second-length e = rw (second-row e)
+
+  module _ (g : ℕ → ℕ) where
+    pub first-known : f .pass ≡ 1 → f .dim < p → Gives g (numbersOf p f) → First p f g
+    first-known e low h =
+        let whole : Gives g row = subst (Gives g) (first-row e) h in
+        let rest = gives-rest g k d (sentAt (f .sent)) _ whole in
+        let last = gives-rest (λ i. g (d + i)) k d (takenAt (f .taken)) totals rest in
+        record {
+          sent =
+            λ m a b.
+              let z : m - k ≡ 0 + (m - k) = omega arith in
+              gives-list g k d (sentAt (f .sent)) _ whole m a (omega arith) ∙ ap g z;
+          taken = λ m a b. gives-list (λ i. g (d + i)) k d (takenAt (f .taken)) totals rest m a (omega arith);
+          issued = let z : d + (d + 0) ≡ 2 * d = omega arith in last 0 (omega arith) ∙ ap g z;
+          received = let z : d + (d + 1) ≡ 2 * d + 1 = omega arith in last 1 (omega arith) ∙ ap g z;
+        }
+
+    pub first-good : f .pass ≡ 1 → f .dim < p → First p f g → Gives g (numbersOf p f)
+    first-good e low h =
+        subst (Gives g) (sym (first-row e))
+        (gives-join g k d (sentAt (f .sent)) _
+          (λ m a b. let z : 0 + (m - k) ≡ m - k = omega arith in h .sent m a (omega arith) ∙ ap g z)
+          (gives-join (λ i. g (d + i)) k d (takenAt (f .taken)) totals (λ m a b. h .taken m a (omega arith)) last))
+      where
+        last : Gives (λ i. g (d + (d + i))) totals
+        last zero l = let z : 2 * d ≡ d + (d + 0) = omega arith in h .issued ∙ ap g z
+        last (suc zero) l = let z : 2 * d + 1 ≡ d + (d + 1) = omega arith in h .received ∙ ap g z
+        last (suc (suc i)) l = absurd (omega arith)
+
+    pub second-known : f .pass ≡ 2 → Gives g (numbersOf p f) → Second f g
+    second-known e h =
+        let whole : Gives g (f .agreed ∷ f .issued .0 ∷ []) = subst (Gives g) (second-row e) h in
+        record { agreed = whole 0 (omega arith); issued = whole 1 (omega arith) }
+
+    pub second-good : f .pass ≡ 2 → Second f g → Gives g (numbersOf p f)
+    second-good e h = subst (Gives g) (sym (second-row e)) both
+      where
+        both : Gives g (f .agreed ∷ f .issued .0 ∷ [])
+        both zero l = h .agreed
+        both (suc zero) l = h .issued
+        both (suc (suc i)) l = absurd (omega arith)
