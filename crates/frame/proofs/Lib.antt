@@ -2,3 +2,4 @@ pub mod Words
 pub mod RoundTripRows
 pub mod RoundTripAccepted
 pub mod RoundTripNumbers
+pub mod RoundTripWrite

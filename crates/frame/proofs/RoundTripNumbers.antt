@@ -1,5 +1,6 @@
 -- The numbers of a frame stand at the places where the reader looks for them, and the arrays of a frame are their tallies.
 use mathlib.Core.Path.{_≡_, refl, sym, ap, _∙_, subst}
+use mathlib.Core.Logic.{_⊎_, inl, inr}
 use mathlib.Core.Bool.{Bool, true, false}
 use mathlib.Core.List.{List, [], _∷_, _++_}
 use Prim.Native.Nat.{ℕ, zero, suc, _+_, _-_, _*_, _≤_, _<_}
@@ -11,8 +12,11 @@ use borrow.Author.Tests.{leb-true, ltb-true, le-leb, lt-ltb, eq-eqb, ne-eqb}
 use Rattle.base.specs.Choice.{list}
 use Rattle.base.specs.Limits.{width}
 use Rattle.base.proofs.Laws.{choose-yes, choose-no, cases, both-true, both-make}
-use Rattle.frame.specs.Frame.{sentAt, takenAt, numbersOf, numberAt, hasShell, shellAt}
+use Rattle.tree.specs.Tree.{dimension}
+use Rattle.frame.specs.Frame.{sentAt, takenAt, numbersOf, frameBytes, numberAt, hasShell, shellAt}
 use Rattle.frame.specs.declared.Frame.{Frame}
+use Rattle.frame.proofs.Words.{length-bytesOf}
+use Rattle.frame.proofs.RoundTripAccepted.{size, size-first, size-second}
 use Rattle.frame.proofs.RoundTripRows.{Gives, length-list, getD-list, gives-join, gives-list, gives-rest}
 
 -- ---- shells
@@ -36,9 +40,9 @@ module _ {A : Type 0} (tallied : ℕ → A) (number : A → ℕ) where
   array-back whole l n g h =
       ext-getD (tallied 0) (list 0 width (λ m. tallied (g m))) l (sym n)
       (λ i b.
-        let z : 0 + i ≡ i = omega arith in
-        getD-list 0 width (λ m. tallied (g m)) i (tallied 0) (omega arith) ∙ ap (λ j. tallied (g j)) z
-        ∙ ap tallied (h i (omega arith)) ∙ whole (getD l i (tallied 0)))
+      let z : 0 + i ≡ i = omega arith in
+      getD-list 0 width (λ m. tallied (g m)) i (tallied 0) (omega arith) ∙ ap (λ j. tallied (g j)) z
+      ∙ ap tallied (h i (omega arith)) ∙ whole (getD l i (tallied 0)))
 
   -- an array that lists the shells of bytes has their numbers
   pub array-reads : ((x : ℕ) → number (tallied x) ≡ x) → (p k : ℕ) → p ≤ width → (bs : List ℕ) (start : ℕ)
@@ -105,7 +109,7 @@ module _ (p : ℕ) (f : Frame) where
         let last = gives-rest (λ i. g (d + i)) k d (takenAt (f .taken)) totals rest in
         record {
           sent =
-            λ m a b.
+              λ m a b.
               let z : m - k ≡ 0 + (m - k) = omega arith in
               gives-list g k d (sentAt (f .sent)) _ whole m a (omega arith) ∙ ap g z;
           taken = λ m a b. gives-list (λ i. g (d + i)) k d (takenAt (f .taken)) totals rest m a (omega arith);
@@ -117,8 +121,8 @@ module _ (p : ℕ) (f : Frame) where
     first-good e low h =
         subst (Gives g) (sym (first-row e))
         (gives-join g k d (sentAt (f .sent)) _
-          (λ m a b. let z : 0 + (m - k) ≡ m - k = omega arith in h .sent m a (omega arith) ∙ ap g z)
-          (gives-join (λ i. g (d + i)) k d (takenAt (f .taken)) totals (λ m a b. h .taken m a (omega arith)) last))
+        (λ m a b. let z : 0 + (m - k) ≡ m - k = omega arith in h .sent m a (omega arith) ∙ ap g z)
+        (gives-join (λ i. g (d + i)) k d (takenAt (f .taken)) totals (λ m a b. h .taken m a (omega arith)) last))
       where
         last : Gives (λ i. g (d + (d + i))) totals
         last zero l = let z : 2 * d ≡ d + (d + 0) = omega arith in h .issued ∙ ap g z
@@ -137,3 +141,11 @@ module _ (p : ℕ) (f : Frame) where
         both zero l = h .agreed
         both (suc zero) l = h .issued
         both (suc (suc i)) l = absurd (omega arith)
+
+-- the length of a frame's bytes
+pub frame-length : (P : ℕ) (f : Frame) → (f .pass ≡ 1) ⊎ (f .pass ≡ 2) → length (frameBytes (dimension P) f) ≡ size P f
+unfolding frameBytes
+frame-length P f (inl e) =
+    omega (arith, length-bytesOf (numbersOf (dimension P) f), first-length (dimension P) f e, size-first P f e)
+frame-length P f (inr e) =
+    omega (arith, length-bytesOf (numbersOf (dimension P) f), second-length (dimension P) f e, size-second P f e)
