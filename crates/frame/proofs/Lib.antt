@@ -3,3 +3,4 @@ pub mod RoundTripRows
 pub mod RoundTripAccepted
 pub mod RoundTripNumbers
 pub mod RoundTripWrite
+pub mod RoundTripRead

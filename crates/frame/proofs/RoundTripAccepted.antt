@@ -157,6 +157,10 @@ module _ (P : ℕ) (f : Frame) where
   unfolding frameLength
   size-low = cases (λ n. 4 ≤ n) (eqb (f .pass) 1) _ _ (λ e. omega arith) (λ e. omega arith)
 
+  pub size-high : dimension P ≤ width → size P f ≤ 4 + 8 * width + 8
+  unfolding frameLength
+  size-high h = cases (λ n. n ≤ 4 + 8 * width + 8) (eqb (f .pass) 1) _ _ (λ e. omega arith) (λ e. omega arith)
+
 -- ---- the writer
 
 -- what the writer's answer says
@@ -279,3 +283,24 @@ module _ (L : Limits) (P : ℕ) (bs : List ℕ) where
           ),
         ),
       )
+
+-- ---- the length of a written frame
+
+module _ (L : Limits) (P : ℕ) (f : Frame) (room n : ℕ) (wrote : writeFrame L P f room ≡ found n) where
+  -- a frame of pass 1 has 4 + 8(p − k) + 8 bytes
+  pub first-count : f .pass ≡ 1 → n ≡ 4 + 8 * (dimension P - f .dim) + 8
+  first-count e = write-known L P f room n wrote .count ∙ size-first P f e
+
+  -- a frame of pass 2 has 12
+  pub second-count : f .pass ≡ 2 → n ≡ 12
+  second-count e = write-known L P f room n wrote .count ∙ size-second P f e
+
+  -- no frame is longer than one of pass 1 with every shell that there is room for
+  pub longest : Small L → n ≤ 4 + 8 * width + 8
+  longest small =
+      let w = write-known L P f room n wrote in
+      omega (arith, w .count, size-high P f (board-width L P small (w .accepted .board)))
+
+-- "512 places of 76 bytes": no frame is longer
+pub longest-base : (P : ℕ) (f : Frame) (room n : ℕ) → writeFrame base P f room ≡ found n → n ≤ 76
+longest-base P f room n wrote = longest base P f room n wrote small-base

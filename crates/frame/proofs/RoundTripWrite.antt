@@ -124,16 +124,16 @@ module _ (L : Limits) (small : Small L) (P : ℕ) (f : Frame) (shaped : Shaped f
 
 -- ---- the theorems
 
-module _ (L : Limits) (small : Small L) (P : ℕ) (f : Frame) (shaped : Shaped f) (room n : ℕ)
-    (wrote : writeFrame L P f room ≡ found n) where
-  -- a written frame has the length that the writer answers
-  pub written-length : length (frameBytes (dimension P) f) ≡ n
-  written-length =
-      let w = write-known L P f room n wrote in frame-length P f (w .accepted .pass) ∙ sym (w .count)
+-- a written frame has the length that the writer answers
+pub written-length : (L : Limits) (P : ℕ) (f : Frame) (room n : ℕ) → writeFrame L P f room ≡ found n
+    → length (frameBytes (dimension P) f) ≡ n
+written-length L P f room n e =
+    let w = write-known L P f room n e in frame-length P f (w .accepted .pass) ∙ sym (w .count)
 
-  -- a written frame is read back as it was
-  pub write-then-read : readFrame L P (frameBytes (dimension P) f) ≡ found f
-  write-then-read = read-back L small P f shaped (write-known L P f room n wrote .accepted)
+-- a written frame is read back as it was
+pub write-then-read : (L : Limits) → Small L → (P : ℕ) (f : Frame) → Shaped f → (room n : ℕ)
+    → writeFrame L P f room ≡ found n → readFrame L P (frameBytes (dimension P) f) ≡ found f
+write-then-read L small P f shaped room n e = read-back L small P f shaped (write-known L P f room n e .accepted)
 
 -- two accepted frames with the same bytes have the same fields
 pub same-bytes : (L : Limits) → Small L → (P : ℕ) (f g : Frame) → Shaped f → Shaped g → Accepted L P f → Accepted L P g
