@@ -1,57 +1,70 @@
--- The numbers of a frame stand at the places where the reader looks for them, and the arrays of a frame are their tallies.
+-- The numbers of a frame stand where the reader looks for them, and its arrays hold the tallies of its shells.
 use mathlib.Core.Path.{_≡_, refl, sym, ap, _∙_, subst}
 use mathlib.Core.Logic.{_⊎_, inl, inr}
-use mathlib.Core.Bool.{Bool, true, false}
 use mathlib.Core.List.{List, [], _∷_, _++_}
 use Prim.Native.Nat.{ℕ, zero, suc, _+_, _-_, _*_, _≤_, _<_}
 use native.Mathlib.Omega.{arith}
-use lib.Dec.{ltb, leb, eqb}
 use lib.ListN.{length, getD, length-append}
 use lib.Seq.{ext-getD}
-use borrow.Author.Tests.{leb-true, ltb-true, le-leb, lt-ltb, eq-eqb, ne-eqb}
+use borrow.Author.Tests.{eq-eqb, ne-eqb}
 use Rattle.base.specs.Choice.{list}
 use Rattle.base.specs.Limits.{width}
-use Rattle.base.proofs.Laws.{choose-yes, choose-no, cases, both-true, both-make}
+use Rattle.base.proofs.Laws.{choose-yes, choose-no}
 use Rattle.tree.specs.Tree.{dimension}
-use Rattle.frame.specs.Frame.{sentAt, takenAt, numbersOf, frameBytes, numberAt, hasShell, shellAt}
+use Rattle.frame.specs.Frame.{sentNumber, takenNumber, sentAt, takenAt, numbersOf, frameBytes, numberAt, shellAt}
+use Rattle.frame.specs.declared.Sent.{Sent}
+use Rattle.frame.specs.declared.Taken.{Taken}
 use Rattle.frame.specs.declared.Frame.{Frame}
 use Rattle.frame.proofs.Words.{length-bytesOf}
-use Rattle.frame.proofs.RoundTripAccepted.{size, size-first, size-second}
 use Rattle.frame.proofs.RoundTripRows.{Gives, length-list, getD-list, gives-join, gives-list, gives-rest}
+use Rattle.frame.proofs.RoundTripChecks.{shell-good}
+use Rattle.frame.proofs.RoundTripAccepted.{size, size-first, size-second}
 
--- ---- shells
+-- ---- arrays of tallies
+
+-- a kind of tally, with the ways to it from a number and back
+pub record Kind (A : Type 0) : Type 0 where
+  pub tally : ℕ → A
+  pub number : A → ℕ
+  pub whole : (a : A) → tally (number a) ≡ a
+  pub same : (x : ℕ) → number (tally x) ≡ x
+
+abbrev pub sents : Kind Sent
+sents = record { tally = sentNumber; number = λ a. a .0; whole = λ a. refl; same = λ x. refl }
+
+abbrev pub takens : Kind Taken
+takens = record { tally = takenNumber; number = λ a. a .0; whole = λ a. refl; same = λ x. refl }
 
 -- the tallies of shells k to p − 1 are what g gives from a start on
 abbrev pub Tallies : ℕ → ℕ → (ℕ → ℕ) → ℕ → (ℕ → ℕ) → Type 0
-Tallies p k g start tally = (m : ℕ) → k ≤ m → m < p → tally m ≡ g (start + (m - k))
+Tallies p k g start tallies = (m : ℕ) → k ≤ m → m < p → tallies m ≡ g (start + (m - k))
 
-module _ (p k m : ℕ) where
-  pub shell-known : hasShell p k m ≡ true → (k ≤ m) × (m < p)
-  shell-known e = let q = both-true (leb k m) (ltb m p) e in (leb-true k m (q .0), ltb-true m p (q .1))
+module _ {A : Type 0} (kind : Kind A) where
+  abbrev pub tallyAt : List A → ℕ → ℕ
+  tallyAt l m = kind .number (getD l m (kind .tally 0))
 
-  pub shell-good : k ≤ m → m < p → hasShell p k m ≡ true
-  shell-good a b = both-make (le-leb k m a) (lt-ltb m p b)
+  abbrev pub array : (ℕ → ℕ) → List A
+  array g = list 0 width (λ m. kind .tally (g m))
 
--- an array of tallies of either kind, with a number's way in and out
-module _ {A : Type 0} (tallied : ℕ → A) (number : A → ℕ) where
-  -- the array that lists the numbers of another is that other
-  pub array-back : ((a : A) → tallied (number a) ≡ a) → (l : List A) → length l ≡ width → (g : ℕ → ℕ)
-      → ((m : ℕ) → m < width → g m ≡ number (getD l m (tallied 0))) → list 0 width (λ m. tallied (g m)) ≡ l
-  array-back whole l n g h =
-      ext-getD (tallied 0) (list 0 width (λ m. tallied (g m))) l (sym n)
-      (λ i b.
-      let z : 0 + i ≡ i = omega arith in
-      getD-list 0 width (λ m. tallied (g m)) i (tallied 0) (omega arith) ∙ ap (λ j. tallied (g j)) z
-      ∙ ap tallied (h i (omega arith)) ∙ whole (getD l i (tallied 0)))
+  array-at : (g : ℕ → ℕ) (m : ℕ) (d : A) → m < width → getD (array g) m d ≡ kind .tally (g m)
+  array-at g m d h =
+      let z : 0 + m ≡ m = omega arith in
+      getD-list 0 width (λ m. kind .tally (g m)) m d h ∙ ap (λ i. kind .tally (g i)) z
+
+  -- an array is the one that lists its numbers
+  pub array-back : (l : List A) → length l ≡ width → (g : ℕ → ℕ) → ((m : ℕ) → m < width → g m ≡ tallyAt l m)
+      → array g ≡ l
+  array-back l n g h =
+      ext-getD (kind .tally 0) (array g) l (sym n)
+      (λ m b. array-at g m _ b ∙ ap (kind .tally) (h m b) ∙ kind .whole (getD l m (kind .tally 0)))
 
   -- an array that lists the shells of bytes has their numbers
-  pub array-reads : ((x : ℕ) → number (tallied x) ≡ x) → (p k : ℕ) → p ≤ width → (bs : List ℕ) (start : ℕ)
-      → Tallies p k (numberAt bs) start (λ m. number (getD (list 0 width (λ m. tallied (shellAt p k bs start m))) m (tallied 0)))
+  pub array-reads : (p k : ℕ) → p ≤ width → (bs : List ℕ) (start : ℕ)
+      → Tallies p k (numberAt bs) start (tallyAt (array (shellAt p k bs start)))
   unfolding shellAt
-  array-reads whole p k fits bs start m a b =
-      let z : 0 + m ≡ m = omega arith in
-      ap number (getD-list 0 width (λ m. tallied (shellAt p k bs start m)) m (tallied 0) (omega arith))
-      ∙ whole (shellAt p k bs start (0 + m)) ∙ ap (shellAt p k bs start) z
+  array-reads p k fits bs start m a b =
+      ap (kind .number) (array-at (shellAt p k bs start) m (kind .tally 0) (omega arith))
+      ∙ kind .same (shellAt p k bs start m)
       ∙ choose-yes _ _ (shell-good p k m a b)
 
 -- ---- the numbers of a frame are what g gives

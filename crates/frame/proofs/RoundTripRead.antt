@@ -10,12 +10,15 @@ use Rattle.base.specs.Limits.{Limits, width}
 use Rattle.base.specs.Refusal.{found}
 use Rattle.base.proofs.Laws.{choose-yes, choose-no}
 use Rattle.tree.specs.Tree.{dimension}
-use Rattle.frame.specs.Frame.{sentNumber, takenNumber, numbersOf, frameBytes, numberAt, firstFields, secondFields, fieldsOf, readFrame, writeFrame}
+use Rattle.frame.specs.Frame.{numbersOf, frameBytes, numberAt, firstFields, secondFields, fieldsOf}
+use Rattle.frame.specs.Frame.{readFrame, writeFrame}
 use Rattle.frame.specs.declared.Frame.{Frame}
 use Rattle.frame.proofs.Words.{length-bytesOf}
 use Rattle.frame.proofs.RoundTripRows.{Gives, Bytes, word-on, words-there}
-use Rattle.frame.proofs.RoundTripAccepted.{Small, Accepted, board-width, size, write-good, Read, head-pass, head-phase, head-dim, head-sender, read-known}
-use Rattle.frame.proofs.RoundTripNumbers.{array-reads, First, Second, first-good, second-good, frame-length}
+use Rattle.frame.proofs.RoundTripAccepted.{Small, board-width, write-good, Read, read-known}
+use Rattle.frame.proofs.RoundTripAccepted.{head-pass, head-phase, head-dim, head-sender}
+use Rattle.frame.proofs.RoundTripNumbers.{sents, takens, array-reads, frame-length}
+use Rattle.frame.proofs.RoundTripNumbers.{First, Second, first-good, second-good}
 
 -- ---- the numbers of the fields are those of the bytes
 
@@ -29,8 +32,8 @@ module _ (L : Limits) (small : Small L) (P : ℕ) (bs : List ℕ) (r : Read L P 
   first : First p (firstFields p bs) (numberAt bs)
   first =
       record {
-        sent = array-reads sentNumber (λ x. x .0) (λ x. refl) p (getD bs 2 0) fits bs 0;
-        taken = array-reads takenNumber (λ x. x .0) (λ x. refl) p (getD bs 2 0) fits bs (p - getD bs 2 0);
+        sent = array-reads sents p (getD bs 2 0) fits bs 0;
+        taken = array-reads takens p (getD bs 2 0) fits bs (p - getD bs 2 0);
         issued = refl;
         received = refl;
       }
@@ -42,7 +45,8 @@ module _ (L : Limits) (small : Small L) (P : ℕ) (bs : List ℕ) (r : Read L P 
   unfolding fieldsOf
   gives (inl one) =
       let are : fieldsOf p bs ≡ firstFields p bs = choose-yes _ _ (eq-eqb _ 1 (sym (head-pass p bs) ∙ one)) in
-      first-good p (fieldsOf p bs) (numberAt bs) one (r .accepted .dim) (subst (λ f. First p f (numberAt bs)) (sym are) first)
+      first-good p (fieldsOf p bs) (numberAt bs) one (r .accepted .dim)
+      (subst (λ f. First p f (numberAt bs)) (sym are) first)
   gives (inr two) =
       let two-first : getD bs 0 0 ≡ 2 = sym (head-pass p bs) ∙ two in
       let are : fieldsOf p bs ≡ secondFields bs = choose-no _ _ (ne-eqb (getD bs 0 0) 1 (λ q. omega arith)) in
@@ -67,8 +71,8 @@ bytes-are p (x ∷ y ∷ z ∷ w ∷ l) n small g =
 -- ---- the theorems
 
 -- a frame that is read has the bytes that it was read from
-pub read-then-bytes : (L : Limits) → Small L → (P : ℕ) (bs : List ℕ) → Bytes bs → (f : Frame) → readFrame L P bs ≡ found f
-    → frameBytes (dimension P) f ≡ bs
+pub read-then-bytes : (L : Limits) → Small L → (P : ℕ) (bs : List ℕ) → Bytes bs → (f : Frame)
+    → readFrame L P bs ≡ found f → frameBytes (dimension P) f ≡ bs
 read-then-bytes L small P bs bytes f e =
     let q = read-known L P bs f e .fields in
     let r : Read L P bs (fieldsOf (dimension P) bs) = subst (Read L P bs) q (read-known L P bs f e) in

@@ -1,7 +1,7 @@
 -- Rows of numbers: parts of a row are read at their places, and bytes are those of the row of numbers that they give.
 use mathlib.Core.Path.{_≡_, refl, sym, ap, _∙_}
 use mathlib.Core.List.{List, [], _∷_, _++_}
-use Prim.Native.Nat.{ℕ, zero, suc, _+_, _-_, _*_, _/_, _%_, _≤_, _<_}
+use Prim.Native.Nat.{ℕ, zero, suc, _+_, _-_, _*_, _/_, _≤_, _<_}
 use native.Mathlib.Decide.{decLt}
 use native.Mathlib.Omega.{arith}
 use lib.ListN.{length, getD, length-append, List·getD-append}
@@ -29,45 +29,44 @@ Gives g ns = (i : ℕ) → i < length ns → getD ns i 0 ≡ g i
 
 -- listed values, then others
 module _ (g : ℕ → ℕ) (start count : ℕ) (f : ℕ → ℕ) (rest : List ℕ) where
-  row : List ℕ
+  abbrev row : List ℕ
   row = list start count f ++ rest
+
+  -- the listed values are those that g gives
+  abbrev Listed : Type 0
+  Listed = (m : ℕ) → start ≤ m → m < start + count → f m ≡ g (m - start)
 
   counted : length (list start count f) ≡ count
   counted = length-list start count f
 
+  total : length row ≡ count + length rest
+  total = omega (arith, length-append (list start count f) rest, counted)
+
   in-list : (i : ℕ) → i < count → getD row i 0 ≡ f (start + i)
-  unfolding row
   in-list i l =
       List·getD-append (list start count f) rest 0 i (omega (arith, counted)) ∙ getD-list start count f i 0 l
 
   in-rest : (i : ℕ) → getD row (count + i) 0 ≡ getD rest i 0
-  unfolding row
   in-rest i = ap (λ n. getD row (n + i) 0) (sym counted) ∙ getD-append-add (list start count f) rest i 0
 
-  pub gives-join : ((m : ℕ) → start ≤ m → m < start + count → f m ≡ g (m - start)) → Gives (λ i. g (count + i)) rest
-      → Gives g (list start count f ++ rest)
-  unfolding row
+  pub gives-join : Listed → Gives (λ i. g (count + i)) rest → Gives g row
   gives-join a b i h = go (decLt i count)
     where
       go : Dec (i < count) → getD row i 0 ≡ g i
       go (yes l) =
-          let z : start + i - start ≡ i = omega arith in in-list i l ∙ a (start + i) (omega arith) (omega arith) ∙ ap g z
+          let z : start + i - start ≡ i = omega arith in
+          in-list i l ∙ a (start + i) (omega arith) (omega arith) ∙ ap g z
       go (no l) =
           let z : count + (i - count) ≡ i = omega arith in
-          let total = length-append (list start count f) rest in
-          ap (λ j. getD row j 0) (sym z) ∙ in-rest (i - count) ∙ b (i - count) (omega (arith, total, counted)) ∙ ap g z
+          ap (λ j. getD row j 0) (sym z) ∙ in-rest (i - count) ∙ b (i - count) (omega (arith, total)) ∙ ap g z
 
-  pub gives-list : Gives g (list start count f ++ rest) → (m : ℕ) → start ≤ m → m < start + count → f m ≡ g (m - start)
-  unfolding row
+  pub gives-list : Gives g row → Listed
   gives-list h m a b =
       let z : m ≡ start + (m - start) = omega arith in
-      let total = length-append (list start count f) rest in
-      ap f z ∙ sym (in-list (m - start) (omega arith)) ∙ h (m - start) (omega (arith, total, counted))
+      ap f z ∙ sym (in-list (m - start) (omega arith)) ∙ h (m - start) (omega (arith, total))
 
-  pub gives-rest : Gives g (list start count f ++ rest) → Gives (λ i. g (count + i)) rest
-  unfolding row
-  gives-rest h i l =
-      let total = length-append (list start count f) rest in sym (in-rest i) ∙ h (count + i) (omega (arith, total, counted))
+  pub gives-rest : Gives g row → Gives (λ i. g (count + i)) rest
+  gives-rest h i l = sym (in-rest i) ∙ h (count + i) (omega (arith, total))
 
 -- ---- bytes
 
@@ -101,7 +100,8 @@ four-there n a b c d ha hb hc hd e =
     same p q r s = cc
 
 -- bytes are those of the numbers that they give
-pub words-there : (ns l : List ℕ) → length l ≡ 4 * length ns → Bytes l → Gives (λ i. wordAt l (4 * i)) ns → bytesOf ns ≡ l
+pub words-there : (ns l : List ℕ) → length l ≡ 4 * length ns → Bytes l → Gives (λ i. wordAt l (4 * i)) ns
+    → bytesOf ns ≡ l
 unfolding bytesOf wordAt
 words-there [] [] e small g = refl
 words-there [] (x ∷ l) e small g = absurd (omega arith)

@@ -1,26 +1,25 @@
--- What the writer accepts, the reader gives back, so that accepted frames with the same bytes are the same.
+-- What the writer accepts, the reader gives back; so accepted frames with the same bytes are the same.
 use mathlib.Core.Path.{_≡_, refl, sym, ap, _∙_, subst}
 use mathlib.Core.Logic.{_⊎_, inl, inr}
-use mathlib.Core.Bool.{Bool, true, false}
+use mathlib.Core.Bool.{true, false}
 use mathlib.Core.List.{List, [], _∷_, append-nil}
-use Prim.Native.Nat.{ℕ, zero, suc, _+_, _-_, _*_, _≤_, _<_}
+use Prim.Native.Nat.{ℕ, _+_, _-_, _*_, _≤_, _<_}
 use native.Mathlib.Omega.{arith}
 use lib.Dec.{eqb}
 use lib.ListN.{length, getD}
 use borrow.Author.Tests.{eq-eqb, ne-eqb}
-use Rattle.base.specs.Choice.{list}
 use Rattle.base.specs.Limits.{Limits, fieldLimit, width}
 use Rattle.base.specs.Refusal.{found}
 use Rattle.base.proofs.Laws.{choose-yes, choose-no, cases}
 use Rattle.tree.specs.Tree.{dimension}
-use Rattle.frame.specs.Numbers.{bytesOf}
-use Rattle.frame.specs.Frame.{sentNumber, takenNumber, numbersOf, frameBytes, numberAt, hasShell, shellAt, fieldsOf, numberOk, readFrame, writeFrame}
-use Rattle.frame.specs.declared.Sent.{Sent}
-use Rattle.frame.specs.declared.Taken.{Taken}
+use Rattle.frame.specs.Frame.{sentNumber, takenNumber, numbersOf, frameBytes, numberAt, hasShell, shellAt}
+use Rattle.frame.specs.Frame.{fieldsOf, numberOk, readFrame, writeFrame}
 use Rattle.frame.specs.declared.Frame.{Frame}
 use Rattle.frame.proofs.Words.{number-back}
-use Rattle.frame.proofs.RoundTripAccepted.{number-low, number-absent, tells, Numbers, numbers-known, Small, Shaped, Accepted, size, write-known, read-good}
-use Rattle.frame.proofs.RoundTripNumbers.{Tallies, shell-known, array-back, First, Second, first-length, second-length, first-known, second-known, frame-length}
+use Rattle.frame.proofs.RoundTripChecks.{shell-known, number-low, number-absent, tells, Numbers, numbers-known}
+use Rattle.frame.proofs.RoundTripAccepted.{Small, Shaped, Accepted, size, write-known, read-good}
+use Rattle.frame.proofs.RoundTripNumbers.{Kind, sents, takens, Tallies, tallyAt, array, array-back, frame-length}
+use Rattle.frame.proofs.RoundTripNumbers.{First, Second, first-length, second-length, first-known, second-known}
 
 same-frame : {f g : Frame} → f .pass ≡ g .pass → f .phase ≡ g .phase → f .dim ≡ g .dim → f .sender ≡ g .sender
     → f .sent ≡ g .sent → f .taken ≡ g .taken → f .issued .0 ≡ g .issued .0 → f .received .0 ≡ g .received .0
@@ -59,29 +58,36 @@ module _ (L : Limits) (small : Small L) (P : ℕ) (f : Frame) (shaped : Shaped f
   back : (i x : ℕ) → i < length (numbersOf p f) → x ≡ wrote i → x ≤ fieldLimit L → numberAt bs i ≡ x
   unfolding frameBytes
   back i x l e low =
-      let h = number-back (f .pass ∷ f .phase ∷ f .dim ∷ f .sender ∷ []) (numbersOf p f) [] i l (omega (arith, small .words)) in
+      let head : List ℕ = f .pass ∷ f .phase ∷ f .dim ∷ f .sender ∷ [] in
+      let h = number-back head (numbersOf p f) [] i l (omega (arith, small .words)) in
       (rw append-nil at h) ∙ sym e
 
-  -- an array of tallies of either kind
-  module _ {A : Type 0} (tallied : ℕ → A) (number : A → ℕ) (whole : (a : A) → tallied (number a) ≡ a) (l : List A)
-      (count : length l ≡ width) (good : (m : ℕ) → m < width → numberOk L (tells p f m) (number (getD l m (tallied 0))) ≡ true) where
-    shells-back : f .pass ≡ 1 → (start : ℕ) → start ≤ d → Tallies p (f .dim) wrote start (λ m. number (getD l m (tallied 0)))
-        → list 0 width (λ m. tallied (shellAt p (f .dim) bs start m)) ≡ l
-    unfolding shellAt
-    shells-back one start fits t =
-        array-back tallied number whole l count (shellAt p (f .dim) bs start)
-        (λ m h.
-        let x = number (getD l m (tallied 0)) in
-        cases (λ y. y ≡ x) (hasShell p (f .dim) m) (numberAt bs (start + (m - f .dim))) 0
-        (λ e.
-        let s = shell-known p (f .dim) m e in
-        back (start + (m - f .dim)) x (omega (arith, first-length p f one)) (t m (s .0) (s .1))
-        (number-low L (tells p f m) x (good m h)))
-        (λ e. sym (number-absent L (tells p f m) x (good m h) (rw (eq-eqb (f .pass) 1 one, e)))))
+  -- the number of a shell is read back
+  shell-back : f .pass ≡ 1 → (start m x : ℕ) → start ≤ d → (f .dim ≤ m → m < p → x ≡ wrote (start + (m - f .dim)))
+      → numberOk L (tells p f m) x ≡ true → shellAt p (f .dim) bs start m ≡ x
+  unfolding shellAt
+  shell-back one start m x fits t good = cases (λ y. y ≡ x) (hasShell p (f .dim) m) _ 0 there absent
+    where
+      there : hasShell p (f .dim) m ≡ true → numberAt bs (start + (m - f .dim)) ≡ x
+      there e =
+          let s = shell-known p (f .dim) m e in
+          let n = first-length p f one in
+          back (start + (m - f .dim)) x (omega arith) (t (s .0) (s .1)) (number-low L (tells p f m) x good)
 
-    none-back : f .pass ≡ 2 → list 0 width (λ m. tallied 0) ≡ l
-    none-back two =
-        array-back tallied number whole l count (λ m. 0)
+      absent : hasShell p (f .dim) m ≡ false → 0 ≡ x
+      absent e = sym (number-absent L (tells p f m) x good (rw (eq-eqb (f .pass) 1 one, e)))
+
+  -- an array of tallies is read back
+  module _ {A : Type 0} (kind : Kind A) (l : List A) (count : length l ≡ width)
+      (good : (m : ℕ) → m < width → numberOk L (tells p f m) (tallyAt kind l m) ≡ true) where
+    first-array : f .pass ≡ 1 → (start : ℕ) → start ≤ d → Tallies p (f .dim) wrote start (tallyAt kind l)
+        → array kind (shellAt p (f .dim) bs start) ≡ l
+    first-array one start fits t =
+        array-back kind l count (shellAt p (f .dim) bs start) (λ m h. shell-back one start m _ fits (t m) (good m h))
+
+    second-array : f .pass ≡ 2 → array kind (λ m. 0) ≡ l
+    second-array two =
+        array-back kind l count (λ m. 0)
         (λ m h. sym (number-absent L (tells p f m) _ (good m h) (rw (ne-eqb (f .pass) 1 (λ q. omega arith)))))
 
   first-back : f .pass ≡ 1 → fieldsOf p bs ≡ f
@@ -89,13 +95,13 @@ module _ (L : Limits) (small : Small L) (P : ℕ) (f : Frame) (shaped : Shaped f
   first-back one =
       let t : First p f wrote = first-known p f wrote one (ok .dim) (λ i l. refl) in
       let n = first-length p f one in
+      let has-received = numbers .received in
       choose-yes _ _ (eq-eqb (f .pass) 1 one)
       ∙ same-frame refl refl refl refl
-      (shells-back sentNumber (λ x. x .0) (λ a. refl) (f .sent) (shaped .sent) (numbers .sent) one 0 (omega arith) (t .sent))
-      (shells-back takenNumber (λ x. x .0) (λ a. refl) (f .taken) (shaped .taken) (numbers .taken) one d (omega arith) (t .taken))
+      (first-array sents (f .sent) (shaped .sent) (numbers .sent) one 0 (omega arith) (t .sent))
+      (first-array takens (f .taken) (shaped .taken) (numbers .taken) one d (omega arith) (t .taken))
       (back (2 * d) (f .issued .0) (omega arith) (t .issued) (numbers .issued))
-      (back (2 * d + 1) (f .received .0) (omega arith) (t .received)
-      (number-low L (eqb (f .pass) 1) (f .received .0) (numbers .received)))
+      (back (2 * d + 1) (f .received .0) (omega arith) (t .received) (number-low L (eqb (f .pass) 1) _ has-received))
       (sym (number-absent L _ (f .agreed) (numbers .agreed) (ne-eqb (f .pass) 2 (λ q. omega arith))))
 
   second-back : f .pass ≡ 2 → fieldsOf p bs ≡ f
@@ -106,8 +112,8 @@ module _ (L : Limits) (small : Small L) (P : ℕ) (f : Frame) (shaped : Shaped f
       let not-one = ne-eqb (f .pass) 1 (λ q. omega arith) in
       choose-no _ _ not-one
       ∙ same-frame refl refl refl refl
-      (none-back sentNumber (λ x. x .0) (λ a. refl) (f .sent) (shaped .sent) (numbers .sent) two)
-      (none-back takenNumber (λ x. x .0) (λ a. refl) (f .taken) (shaped .taken) (numbers .taken) two)
+      (second-array sents (f .sent) (shaped .sent) (numbers .sent) two)
+      (second-array takens (f .taken) (shaped .taken) (numbers .taken) two)
       (back 1 (f .issued .0) (omega arith) (t .issued) (numbers .issued))
       (sym (number-absent L _ (f .received .0) (numbers .received) not-one))
       (back 0 (f .agreed) (omega arith) (t .agreed) (number-low L (eqb (f .pass) 2) (f .agreed) (numbers .agreed)))
