@@ -95,13 +95,13 @@ module _ (L : Limits) (small : Small L) (P : ℕ) (f : Frame) (shaped : Shaped f
   first-back one =
       let t : First p f wrote = first-known p f wrote one (ok .dim) (λ i l. refl) in
       let n = first-length p f one in
-      let has-received = numbers .received in
+      let low = number-low L (eqb (f .pass) 1) (f .received .0) (numbers .received) in
       choose-yes _ _ (eq-eqb (f .pass) 1 one)
       ∙ same-frame refl refl refl refl
       (first-array sents (f .sent) (shaped .sent) (numbers .sent) one 0 (omega arith) (t .sent))
       (first-array takens (f .taken) (shaped .taken) (numbers .taken) one d (omega arith) (t .taken))
       (back (2 * d) (f .issued .0) (omega arith) (t .issued) (numbers .issued))
-      (back (2 * d + 1) (f .received .0) (omega arith) (t .received) (number-low L (eqb (f .pass) 1) _ has-received))
+      (back (2 * d + 1) (f .received .0) (omega arith) (t .received) low)
       (sym (number-absent L _ (f .agreed) (numbers .agreed) (ne-eqb (f .pass) 2 (λ q. omega arith))))
 
   second-back : f .pass ≡ 2 → fieldsOf p bs ≡ f
@@ -109,6 +109,7 @@ module _ (L : Limits) (small : Small L) (P : ℕ) (f : Frame) (shaped : Shaped f
   second-back two =
       let t : Second f wrote = second-known p f wrote two (λ i l. refl) in
       let n = second-length p f two in
+      let low = number-low L (eqb (f .pass) 2) (f .agreed) (numbers .agreed) in
       let not-one = ne-eqb (f .pass) 1 (λ q. omega arith) in
       choose-no _ _ not-one
       ∙ same-frame refl refl refl refl
@@ -116,7 +117,7 @@ module _ (L : Limits) (small : Small L) (P : ℕ) (f : Frame) (shaped : Shaped f
       (second-array takens (f .taken) (shaped .taken) (numbers .taken) two)
       (back 1 (f .issued .0) (omega arith) (t .issued) (numbers .issued))
       (sym (number-absent L _ (f .received .0) (numbers .received) not-one))
-      (back 0 (f .agreed) (omega arith) (t .agreed) (number-low L (eqb (f .pass) 2) (f .agreed) (numbers .agreed)))
+      (back 0 (f .agreed) (omega arith) (t .agreed) low)
 
   fields-back : (f .pass ≡ 1) ⊎ (f .pass ≡ 2) → fieldsOf p bs ≡ f
   fields-back (inl one) = first-back one
