@@ -1,2 +1,4 @@
 pub mod Words
 pub mod Pasting
+pub mod Shells
+pub mod Writing

@@ -54,3 +54,8 @@ shell-more f k m at d s t h l e g =
     let c : length (bytesOf (list k (m - k) f)) ≡ 4 * (m - k) = simp (length-bytesOf, length-list) in
     g ∙ rw (e, w, bytesOf-more)
     (paste-more d at (4 * (m - k)) (bytesOf (list k (m - k) f)) (fourBytes (f m)) c (simp length-fourBytes l))
+
+-- before the first turn
+pub shell-none : (f : ℕ → ℕ) (k at : ℕ) (d : List ℕ) → d ≡ pasted d at (bytesOf (list k (k - k) f))
+unfolding bytesOf
+shell-none f k at d = let n : k - k ≡ 0 = omega arith in rw n (paste-none d at)

@@ -1,84 +1,49 @@
+-- `tallies_ok`: what is left to test at shell m is the test of the shells from m on.
+use borrow.Author.Needs.{needs}
+use borrow.Author.Tests.{not-true, not-false}
+use mathlib.Core.Path.{_≡_, refl, sym, ap, _∙_}
+use mathlib.Core.Bool.{Bool}
+use Prim.Native.Nat.{_+_, _-_, _≤_}
+use Rattle.base.specs.Choice.{both, every}
+use Rattle.base.specs.Limits.{base, width}
+use Rattle.base.proofs.Laws.{every-here, every-end}
+use Rattle.frame.specs.Parts.{pairOk, shellOk}
 use Rattle.frame.proofs.tallies_ok.Statement.{statement}
 use Rattle.frame.proofs.tallies_ok.Tie as tie
 use Rattle.frame.proofs.tallies_ok.Reads as reads
 use Rattle.frame.proofs.tallies_ok.Lts as lts
-use Rattle.frame.proofs.has_tallies.Reads as has-tallies-reads
-use Rattle.frame.proofs.pair_ok.Reads as pair-ok-reads
 
 abbrev Inv-loop : tie.InvT-loop
-Inv-loop p f k m₀ m = ?
+Inv-loop p f k m₀ m = (m ≤ 8) × (every 0 width (shellOk base p f) ≡ every m (8 - m) (shellOk base p f))
 
 abbrev μ-loop : tie.MeasureT-loop
-μ-loop p f k m₀ m = ?
+μ-loop p f k m₀ m = 8 - m
 
--- src/lib.rt:155:13
-cast-k : tie.Need-cast-k Inv-loop μ-loop
-cast-k c = ?
+-- the test at shell m, and at the shells after it
+turn : (c : tie.After-pair-ok Inv-loop μ-loop)
+    → let l = c .before .before .before .before .before in
+    let x = l .before .args in
+    every 0 width (shellOk base (x .p) (x .t2))
+    ≡ both (c .pair-ok .result) (every (l .loop .m + 1) (8 - (l .loop .m + 1)) (shellOk base (x .p) (x .t2)))
+unfolding shellOk
+turn c =
+    let l = c .before .before .before .before .before in
+    l .loop .inv .1
+    ∙ every-here _ _ _ (c .before .before .before .before .loop-test .taken)
+    ∙ rw (c .pair-ok .ensures, c .before .before .before .has-tallies .ensures)
 
--- src/lib.rt:156:5
-loop-holds : tie.Need-loop-holds Inv-loop μ-loop
-loop-holds c = ?
-
--- src/lib.rt:157:13
-has-tallies-requires : tie.Need-has-tallies-requires Inv-loop μ-loop
-has-tallies-requires c κs = ?
-
--- src/lib.rt:158:20
-mul-sent : tie.Need-mul-sent Inv-loop μ-loop
-mul-sent c = ?
-
--- src/lib.rt:158:20
-element-copy-out-sent : tie.Need-element-copy-out-sent Inv-loop μ-loop
-element-copy-out-sent c = ?
-
--- src/lib.rt:159:21
-mul-taken : tie.Need-mul-taken Inv-loop μ-loop
-mul-taken c = ?
-
--- src/lib.rt:159:21
-element-copy-out-taken : tie.Need-element-copy-out-taken Inv-loop μ-loop
-element-copy-out-taken c = ?
-
--- src/lib.rt:160:13
-pair-ok-requires : tie.Need-pair-ok-requires Inv-loop μ-loop
-pair-ok-requires c κs = ?
-
--- src/lib.rt:161:13
 returns : tie.Need-returns Inv-loop μ-loop
-returns c = ?
+returns c = sym (turn (c .before) ∙ rw (not-true (c .before .pair-ok .result) (c .if1 .taken)))
 
--- src/lib.rt:156:9
-add-m : tie.Need-add-m Inv-loop μ-loop
-add-m c = ?
-
--- src/lib.rt:156:5
-loop-less : tie.Need-loop-less Inv-loop μ-loop
-loop-less c = ?
-
--- src/lib.rt:156:5
 loop-again : tie.Need-loop-again Inv-loop μ-loop
-loop-again c = ?
+loop-again c = (search needs, turn (c .before) ∙ rw (not-false (c .before .pair-ok .result) (c .if1 .left)))
 
--- src/lib.rt:152:1
 returns-2 : tie.Need-returns-2 Inv-loop μ-loop
-returns-2 c = ?
+returns-2 c = sym (c .before .loop .inv .1 ∙ every-end _ _ _ (c .loop-test .left))
 
 pub tallies-ok-spec : {M : Type 1} → statement M
 tallies-ok-spec =
     tie.close
-    (tie.spec
-    Inv-loop
-    μ-loop
-    cast-k
-    loop-holds
-    has-tallies-requires
-    mul-sent
-    element-copy-out-sent
-    mul-taken
-    element-copy-out-taken
-    pair-ok-requires
-    returns
-    add-m
-    loop-less
-    loop-again
-    returns-2)
+    (tie.spec Inv-loop μ-loop (λ c. search needs) (λ c. (search needs, refl)) (λ c κs. search needs) (λ c. search needs)
+    (λ c. search needs) (λ c. search needs) (λ c. search needs) (λ c κs. search needs) returns (λ c. search needs)
+    (λ c. search needs) loop-again returns-2)
