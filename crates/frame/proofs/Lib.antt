@@ -1,4 +1,7 @@
 pub mod Words
+pub mod Pasting
+pub mod Shells
+pub mod Writing
 pub mod RoundTripRows
 pub mod RoundTripChecks
 pub mod RoundTripAccepted

@@ -3,8 +3,8 @@ use mathlib.Core.Path.{_≡_, refl, sym, ap, _∙_}
 use mathlib.Core.List.{List, [], _∷_, _++_, append-assoc}
 use Prim.Native.Nat.{ℕ, zero, suc, _+_, _*_, _/_, _%_, _^_, _≤_, _<_}
 use native.Mathlib.Omega.{arith}
-use lib.ListN.{length, getD, length-append}
-use lib.Seq.{getD-append-add, getD-append-seam}
+use lib.ListN.{length, getD, take, drop, length-append, length-drop}
+use lib.Seq.{getD-append-add, getD-append-seam, getD-drop}
 use Rattle.frame.specs.Numbers.{fourBytes, bytesOf, wordAt}
 
 pub length-fourBytes : (x : ℕ) → length (fourBytes x) ≡ 4
@@ -63,3 +63,50 @@ number-back a (x ∷ xs) b (suc i) l h =
     let e : length a + 4 * suc i ≡ length (a ++ fourBytes x) + 4 * i = simp (length-append, length-fourBytes) (omega arith) in
     rw (e, append-assoc (fourBytes x) (bytesOf xs) b, ← append-assoc a (fourBytes x) (bytesOf xs ++ b))
     (number-back (a ++ fourBytes x) xs b i (omega arith) h)
+
+-- a low digit and the rest, apart again
+low : (a y : ℕ) → a < 256 → ((a + 256 * y) % 256 ≡ a) × ((a + 256 * y) / 256 ≡ y)
+low a y h = omega arith
+
+-- the bytes of a number made of four bytes are these
+pub four-of-digits : (a b c d : ℕ) → a < 256 → b < 256 → c < 256 → d < 256
+    → fourBytes (a + 256 * b + 65536 * c + 16777216 * d) ≡ a ∷ b ∷ c ∷ d ∷ []
+unfolding fourBytes
+four-of-digits a b c d ha hb hc hd =
+    let x : ℕ = a + 256 * b + 65536 * c + 16777216 * d in
+    let e : x ≡ a + 256 * (b + 256 * (c + 256 * d)) = omega arith in
+    let f : x / 65536 ≡ x / 256 / 256 = omega arith in
+    let g : x / 16777216 ≡ x / 65536 / 256 = omega arith in
+    let n : d % 256 ≡ d = omega arith in
+    rw (
+      g,
+      f,
+      e,
+      low a (b + 256 * (c + 256 * d)) ha .0,
+      low a (b + 256 * (c + 256 * d)) ha .1,
+      low b (c + 256 * d) hb .0,
+      low b (c + 256 * d) hb .1,
+      low c d hc .0,
+      low c d hc .1,
+      n,
+    )
+
+-- the bytes at a place are those of the number read there
+pub bytes-back : (bs : List ℕ) (at : ℕ) → at + 4 ≤ length bs → ((i : ℕ) → getD bs i 0 < 256)
+    → fourBytes (wordAt bs at) ≡ take 4 (drop at bs)
+unfolding wordAt
+bytes-back bs at l h =
+    four-of-digits (getD bs at 0) (getD bs (at + 1) 0) (getD bs (at + 2) 0) (getD bs (at + 3) 0) (h at) (h (at + 1)) (h (at + 2))
+    (h (at + 3))
+    ∙ sym (parts (drop at bs) (simp length-drop (omega arith)) (getD-drop at bs))
+  where
+    parts : (l : List ℕ) → 4 ≤ length l → ((i : ℕ) (d : ℕ) → getD l i d ≡ getD bs (at + i) d)
+        → take 4 l ≡ getD bs at 0 ∷ getD bs (at + 1) 0 ∷ getD bs (at + 2) 0 ∷ getD bs (at + 3) 0 ∷ []
+    parts [] m g = absurd (omega arith)
+    parts (w ∷ []) m g = absurd (omega arith)
+    parts (w ∷ x ∷ []) m g = absurd (omega arith)
+    parts (w ∷ x ∷ y ∷ []) m g = absurd (omega arith)
+    parts (w ∷ x ∷ y ∷ z ∷ r) m g =
+        let e : at ≡ at + 0 = omega arith in
+        let f : getD bs at 0 ≡ w = ap (λ (i : ℕ). getD bs i 0) e ∙ sym (g 0 0) in
+        rw (f, ← g 1 0, ← g 2 0, ← g 3 0)
