@@ -1,10 +1,13 @@
--- Laws of choice and of joined tests.
+-- Laws of choice, of joined tests and of values listed by a rule.
 use mathlib.Core.Path.{_≡_, refl, sym, ap, _∙_}
 use mathlib.Core.Bool.{Bool, true, false}
-use Prim.Native.Nat.{ℕ, zero, suc, _+_, _≤_, _<_}
+use mathlib.Core.List.{List, [], _∷_, _++_}
+use Prim.Native.Nat.{ℕ, zero, suc, _+_, _-_, _≤_, _<_}
 use native.Mathlib.Decide.{ℕ-discrete}
+use native.Mathlib.Numerals.{add-one}
 use native.Mathlib.Omega.{arith}
-use Rattle.base.specs.Choice.{choose, both, every}
+use lib.ListN.{length, getD, set}
+use Rattle.base.specs.Choice.{choose, both, every, list}
 
 -- true is not false
 pub clash : {A : Type 0} → _≡_ {A = Bool} true false → A
@@ -42,3 +45,46 @@ pub every-make : (start count : ℕ) (f : ℕ → Bool) → ((i : ℕ) → start
 every-make start zero f h = refl
 every-make start (suc count) f h =
     both-make (h start (omega arith) (omega arith)) (every-make (suc start) count f (λ i a b. h i (omega arith) (omega arith)))
+
+-- the first of the tests that are left, and the rest
+pub every-here : (i n : ℕ) (f : ℕ → Bool) → i < n → every i (n - i) f ≡ both (f i) (every (i + 1) (n - (i + 1)) f)
+every-here i n f h = let e : n - i ≡ suc (n - (i + 1)) = omega arith in rw (e, add-one)
+
+pub every-end : (i n : ℕ) (f : ℕ → Bool) → n ≤ i → every i (n - i) f ≡ true
+every-end i n f h = let e : n - i ≡ 0 = omega arith in rw e
+
+pub length-list : {A : Type 0} (start count : ℕ) (f : ℕ → A) → length (list start count f) ≡ count
+length-list start zero f = refl
+length-list start (suc count) f = ap suc (length-list (suc start) count f)
+
+-- one value more at the end
+pub list-more : {A : Type 0} (start count : ℕ) (f : ℕ → A)
+    → list start (count + 1) f ≡ list start count f ++ (f (start + count) ∷ [])
+list-more start count f = rw add-one (go start count)
+  where
+    go : (start count : ℕ) → list start (suc count) f ≡ list start count f ++ (f (start + count) ∷ [])
+    go start zero = let e : start + 0 ≡ start = omega arith in rw e
+    go start (suc count) =
+        let e : start + suc count ≡ suc start + count = omega arith in
+        rw e (ap (λ l. f start ∷ l) (go (suc start) count))
+
+-- the rules agree where values are listed
+pub list-same : {A : Type 0} (start count : ℕ) (f g : ℕ → A)
+    → ((i : ℕ) → start ≤ i → i < start + count → f i ≡ g i) → list start count f ≡ list start count g
+list-same start zero f g h = refl
+list-same start (suc count) f g h =
+    rw (h start (omega arith) (omega arith), list-same (suc start) count f g (λ i a b. h i (omega arith) (omega arith)))
+
+-- the rules agree but at one place, where the value is set
+pub list-set : {A : Type 0} (start count : ℕ) (f g : ℕ → A) (i : ℕ) → i < count
+    → ((j : ℕ) → start ≤ j → j < start + count → (j ≡ start + i → ⊥) → f j ≡ g j)
+    → set (list start count f) i (g (start + i)) ≡ list start count g
+list-set start zero f g i l h = absurd (omega arith)
+list-set start (suc count) f g zero l h =
+    let e : start + 0 ≡ start = omega arith in
+    rw e (ap (λ r. g start ∷ r) (list-same (suc start) count f g (λ j a b. h j (omega arith) (omega arith) (λ z. omega arith))))
+list-set start (suc count) f g (suc i) l h =
+    let e : start + suc i ≡ suc start + i = omega arith in
+    rw (e, h start (omega arith) (omega arith) (λ z. omega arith))
+    (ap (λ r. g start ∷ r)
+    (list-set (suc start) count f g i (omega arith) (λ j a b n. h j (omega arith) (omega arith) (λ z. n (omega arith)))))

@@ -1,3 +1,4 @@
 pub mod Numbers
 pub mod Frame
 pub mod Timing
+pub mod Parts

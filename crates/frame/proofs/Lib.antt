@@ -1,0 +1,10 @@
+pub mod Words
+pub mod Pasting
+pub mod Shells
+pub mod Writing
+pub mod RoundTripRows
+pub mod RoundTripChecks
+pub mod RoundTripAccepted
+pub mod RoundTripNumbers
+pub mod RoundTripWrite
+pub mod RoundTripRead

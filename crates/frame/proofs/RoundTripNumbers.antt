@@ -1,0 +1,164 @@
+-- The numbers of a frame stand where the reader looks for them, and its arrays hold the tallies of its shells.
+use mathlib.Core.Path.{_≡_, refl, sym, ap, _∙_, subst}
+use mathlib.Core.Logic.{_⊎_, inl, inr}
+use mathlib.Core.List.{List, [], _∷_, _++_}
+use Prim.Native.Nat.{ℕ, zero, suc, _+_, _-_, _*_, _≤_, _<_}
+use native.Mathlib.Omega.{arith}
+use lib.ListN.{length, getD, length-append}
+use lib.Seq.{ext-getD}
+use borrow.Author.Tests.{eq-eqb, ne-eqb}
+use Rattle.base.specs.Choice.{list}
+use Rattle.base.specs.Limits.{width}
+use Rattle.base.proofs.Laws.{choose-yes, choose-no}
+use Rattle.tree.specs.Tree.{dimension}
+use Rattle.frame.specs.Frame.{sentNumber, takenNumber, sentAt, takenAt, numbersOf, frameBytes, numberAt, shellAt}
+use Rattle.frame.specs.declared.Sent.{Sent}
+use Rattle.frame.specs.declared.Taken.{Taken}
+use Rattle.frame.specs.declared.Frame.{Frame}
+use Rattle.frame.proofs.Words.{length-bytesOf}
+use Rattle.frame.proofs.RoundTripRows.{Gives, length-list, getD-list, gives-join, gives-list, gives-rest}
+use Rattle.frame.proofs.RoundTripChecks.{shell-good}
+use Rattle.frame.proofs.RoundTripAccepted.{size, size-first, size-second}
+
+-- ---- arrays of tallies
+
+-- a kind of tally, with the ways to it from a number and back
+pub record Kind (A : Type 0) : Type 0 where
+  pub tally : ℕ → A
+  pub number : A → ℕ
+  pub whole : (a : A) → tally (number a) ≡ a
+  pub same : (x : ℕ) → number (tally x) ≡ x
+
+abbrev pub sents : Kind Sent
+sents = record { tally = sentNumber; number = λ a. a .0; whole = λ a. refl; same = λ x. refl }
+
+abbrev pub takens : Kind Taken
+takens = record { tally = takenNumber; number = λ a. a .0; whole = λ a. refl; same = λ x. refl }
+
+-- the tallies of shells k to p − 1 are what g gives from a start on
+abbrev pub Tallies : ℕ → ℕ → (ℕ → ℕ) → ℕ → (ℕ → ℕ) → Type 0
+Tallies p k g start tallies = (m : ℕ) → k ≤ m → m < p → tallies m ≡ g (start + (m - k))
+
+module _ {A : Type 0} (kind : Kind A) where
+  abbrev pub tallyAt : List A → ℕ → ℕ
+  tallyAt l m = kind .number (getD l m (kind .tally 0))
+
+  abbrev pub array : (ℕ → ℕ) → List A
+  array g = list 0 width (λ m. kind .tally (g m))
+
+  array-at : (g : ℕ → ℕ) (m : ℕ) (d : A) → m < width → getD (array g) m d ≡ kind .tally (g m)
+  array-at g m d h =
+      let z : 0 + m ≡ m = omega arith in
+      getD-list 0 width (λ m. kind .tally (g m)) m d h ∙ ap (λ i. kind .tally (g i)) z
+
+  -- an array is the one that lists its numbers
+  pub array-back : (l : List A) → length l ≡ width → (g : ℕ → ℕ) → ((m : ℕ) → m < width → g m ≡ tallyAt l m)
+      → array g ≡ l
+  array-back l n g h =
+      ext-getD (kind .tally 0) (array g) l (sym n)
+      (λ m b. array-at g m _ b ∙ ap (kind .tally) (h m b) ∙ kind .whole (getD l m (kind .tally 0)))
+
+  -- an array that lists the shells of bytes has their numbers
+  pub array-reads : (p k : ℕ) → p ≤ width → (bs : List ℕ) (start : ℕ)
+      → Tallies p k (numberAt bs) start (tallyAt (array (shellAt p k bs start)))
+  unfolding shellAt
+  array-reads p k fits bs start m a b =
+      ap (kind .number) (array-at (shellAt p k bs start) m (kind .tally 0) (omega arith))
+      ∙ kind .same (shellAt p k bs start m)
+      ∙ choose-yes _ _ (shell-good p k m a b)
+
+-- ---- the numbers of a frame are what g gives
+
+pub record First (p : ℕ) (f : Frame) (g : ℕ → ℕ) : Type 0 where
+  pub sent : Tallies p (f .dim) g 0 (sentAt (f .sent))
+  pub taken : Tallies p (f .dim) g (p - f .dim) (takenAt (f .taken))
+  pub issued : f .issued .0 ≡ g (2 * (p - f .dim))
+  pub received : f .received .0 ≡ g (2 * (p - f .dim) + 1)
+
+pub record Second (f : Frame) (g : ℕ → ℕ) : Type 0 where
+  pub agreed : f .agreed ≡ g 0
+  pub issued : f .issued .0 ≡ g 1
+
+module _ (p : ℕ) (f : Frame) where
+  abbrev k : ℕ
+  k = f .dim
+
+  abbrev d : ℕ
+  d = p - f .dim
+
+  abbrev totals : List ℕ
+  totals = f .issued .0 ∷ f .received .0 ∷ []
+
+  abbrev row : List ℕ
+  row = list k d (sentAt (f .sent)) ++ (list k d (takenAt (f .taken)) ++ totals)
+
+  first-row : f .pass ≡ 1 → numbersOf p f ≡ row
+  unfolding numbersOf
+  first-row e = choose-yes _ _ (eq-eqb (f .pass) 1 e)
+
+  second-row : f .pass ≡ 2 → numbersOf p f ≡ f .agreed ∷ f .issued .0 ∷ []
+  unfolding numbersOf
+  second-row e = choose-no _ _ (ne-eqb (f .pass) 1 (λ q. omega arith))
+
+  pub first-length : f .pass ≡ 1 → length (numbersOf p f) ≡ 2 * (p - f .dim) + 2
+  first-length e =
+      rw (first-row e)
+      (omega (
+        arith,
+        length-append (list k d (sentAt (f .sent))) (list k d (takenAt (f .taken)) ++ totals),
+        length-append (list k d (takenAt (f .taken))) totals,
+        length-list k d (sentAt (f .sent)),
+        length-list k d (takenAt (f .taken)),
+      ))
+
+  pub second-length : f .pass ≡ 2 → length (numbersOf p f) ≡ 2
+  second-length e = rw (second-row e)
+
+  module _ (g : ℕ → ℕ) where
+    pub first-known : f .pass ≡ 1 → f .dim < p → Gives g (numbersOf p f) → First p f g
+    first-known e low h =
+        let whole : Gives g row = subst (Gives g) (first-row e) h in
+        let rest = gives-rest g k d (sentAt (f .sent)) _ whole in
+        let last = gives-rest (λ i. g (d + i)) k d (takenAt (f .taken)) totals rest in
+        record {
+          sent =
+              λ m a b.
+              let z : m - k ≡ 0 + (m - k) = omega arith in
+              gives-list g k d (sentAt (f .sent)) _ whole m a (omega arith) ∙ ap g z;
+          taken = λ m a b. gives-list (λ i. g (d + i)) k d (takenAt (f .taken)) totals rest m a (omega arith);
+          issued = let z : d + (d + 0) ≡ 2 * d = omega arith in last 0 (omega arith) ∙ ap g z;
+          received = let z : d + (d + 1) ≡ 2 * d + 1 = omega arith in last 1 (omega arith) ∙ ap g z;
+        }
+
+    pub first-good : f .pass ≡ 1 → f .dim < p → First p f g → Gives g (numbersOf p f)
+    first-good e low h =
+        subst (Gives g) (sym (first-row e))
+        (gives-join g k d (sentAt (f .sent)) _
+        (λ m a b. let z : 0 + (m - k) ≡ m - k = omega arith in h .sent m a (omega arith) ∙ ap g z)
+        (gives-join (λ i. g (d + i)) k d (takenAt (f .taken)) totals (λ m a b. h .taken m a (omega arith)) last))
+      where
+        last : Gives (λ i. g (d + (d + i))) totals
+        last zero l = let z : 2 * d ≡ d + (d + 0) = omega arith in h .issued ∙ ap g z
+        last (suc zero) l = let z : 2 * d + 1 ≡ d + (d + 1) = omega arith in h .received ∙ ap g z
+        last (suc (suc i)) l = absurd (omega arith)
+
+    pub second-known : f .pass ≡ 2 → Gives g (numbersOf p f) → Second f g
+    second-known e h =
+        let whole : Gives g (f .agreed ∷ f .issued .0 ∷ []) = subst (Gives g) (second-row e) h in
+        record { agreed = whole 0 (omega arith); issued = whole 1 (omega arith) }
+
+    pub second-good : f .pass ≡ 2 → Second f g → Gives g (numbersOf p f)
+    second-good e h = subst (Gives g) (sym (second-row e)) both
+      where
+        both : Gives g (f .agreed ∷ f .issued .0 ∷ [])
+        both zero l = h .agreed
+        both (suc zero) l = h .issued
+        both (suc (suc i)) l = absurd (omega arith)
+
+-- the length of a frame's bytes
+pub frame-length : (P : ℕ) (f : Frame) → (f .pass ≡ 1) ⊎ (f .pass ≡ 2) → length (frameBytes (dimension P) f) ≡ size P f
+unfolding frameBytes
+frame-length P f (inl e) =
+    omega (arith, length-bytesOf (numbersOf (dimension P) f), first-length (dimension P) f e, size-first P f e)
+frame-length P f (inr e) =
+    omega (arith, length-bytesOf (numbersOf (dimension P) f), second-length (dimension P) f e, size-second P f e)

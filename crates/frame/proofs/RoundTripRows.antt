@@ -1,0 +1,121 @@
+-- Rows of numbers: parts of a row are read at their places, and bytes are those of the row of numbers that they give.
+use mathlib.Core.Path.{_≡_, refl, sym, ap, _∙_}
+use mathlib.Core.List.{List, [], _∷_, _++_}
+use Prim.Native.Nat.{ℕ, zero, suc, _+_, _-_, _*_, _/_, _≤_, _<_}
+use native.Mathlib.Decide.{decLt}
+use native.Mathlib.Omega.{arith}
+use lib.ListN.{length, getD, length-append, List·getD-append}
+use lib.Seq.{getD-append-add}
+use Rattle.base.specs.Choice.{list}
+use Rattle.frame.specs.Numbers.{fourBytes, bytesOf, wordAt}
+
+-- ---- listed values
+
+pub length-list : {A : Type 0} (start count : ℕ) (f : ℕ → A) → length (list start count f) ≡ count
+length-list start zero f = refl
+length-list start (suc count) f = ap suc (length-list (suc start) count f)
+
+pub getD-list : {A : Type 0} (start count : ℕ) (f : ℕ → A) (i : ℕ) (d : A) → i < count
+    → getD (list start count f) i d ≡ f (start + i)
+getD-list start zero f i d h = absurd (omega arith)
+getD-list start (suc count) f zero d h = let e : start ≡ start + 0 = omega arith in ap f e
+getD-list start (suc count) f (suc i) d h =
+    let e : suc start + i ≡ start + suc i = omega arith in getD-list (suc start) count f i d (omega arith) ∙ ap f e
+
+-- ---- the numbers are g 0, g 1, ..
+
+abbrev pub Gives : (ℕ → ℕ) → List ℕ → Type 0
+Gives g ns = (i : ℕ) → i < length ns → getD ns i 0 ≡ g i
+
+-- listed values, then others
+module _ (g : ℕ → ℕ) (start count : ℕ) (f : ℕ → ℕ) (rest : List ℕ) where
+  abbrev row : List ℕ
+  row = list start count f ++ rest
+
+  -- the listed values are those that g gives
+  abbrev Listed : Type 0
+  Listed = (m : ℕ) → start ≤ m → m < start + count → f m ≡ g (m - start)
+
+  counted : length (list start count f) ≡ count
+  counted = length-list start count f
+
+  total : length row ≡ count + length rest
+  total = omega (arith, length-append (list start count f) rest, counted)
+
+  in-list : (i : ℕ) → i < count → getD row i 0 ≡ f (start + i)
+  in-list i l =
+      List·getD-append (list start count f) rest 0 i (omega (arith, counted)) ∙ getD-list start count f i 0 l
+
+  in-rest : (i : ℕ) → getD row (count + i) 0 ≡ getD rest i 0
+  in-rest i = ap (λ n. getD row (n + i) 0) (sym counted) ∙ getD-append-add (list start count f) rest i 0
+
+  pub gives-join : Listed → Gives (λ i. g (count + i)) rest → Gives g row
+  gives-join a b i h = go (decLt i count)
+    where
+      go : Dec (i < count) → getD row i 0 ≡ g i
+      go (yes l) =
+          let z : start + i - start ≡ i = omega arith in
+          in-list i l ∙ a (start + i) (omega arith) (omega arith) ∙ ap g z
+      go (no l) =
+          let z : count + (i - count) ≡ i = omega arith in
+          ap (λ j. getD row j 0) (sym z) ∙ in-rest (i - count) ∙ b (i - count) (omega (arith, total)) ∙ ap g z
+
+  pub gives-list : Gives g row → Listed
+  gives-list h m a b =
+      let z : m ≡ start + (m - start) = omega arith in
+      ap f z ∙ sym (in-list (m - start) (omega arith)) ∙ h (m - start) (omega (arith, total))
+
+  pub gives-rest : Gives g row → Gives (λ i. g (count + i)) rest
+  gives-rest h i l = sym (in-rest i) ∙ h (count + i) (omega (arith, total))
+
+-- ---- bytes
+
+-- every entry is a byte
+abbrev pub Bytes : List ℕ → Type 0
+Bytes bs = (i : ℕ) → i < length bs → getD bs i 0 < 256
+
+byte-on : (a b c d : ℕ) (l : List ℕ) (i j : ℕ) → i ≡ 4 + j → getD (a ∷ b ∷ c ∷ d ∷ l) i 0 ≡ getD l j 0
+byte-on a b c d l i j e = let z : i ≡ suc (suc (suc (suc j))) = omega arith in rw z
+
+-- a word after the first four bytes
+pub word-on : (a b c d : ℕ) (l : List ℕ) (i j : ℕ) → i ≡ 4 + j → wordAt (a ∷ b ∷ c ∷ d ∷ l) i ≡ wordAt l j
+unfolding wordAt
+word-on a b c d l i j e =
+    rw (
+      byte-on a b c d l i j e,
+      byte-on a b c d l (i + 1) (j + 1) (omega arith),
+      byte-on a b c d l (i + 2) (j + 2) (omega arith),
+      byte-on a b c d l (i + 3) (j + 3) (omega arith),
+    )
+
+four-there : (n a b c d : ℕ) → a < 256 → b < 256 → c < 256 → d < 256 → n ≡ a + 256 * b + 65536 * c + 16777216 * d
+    → fourBytes n ≡ a ∷ b ∷ c ∷ d ∷ []
+unfolding fourBytes
+four-there n a b c d ha hb hc hd e =
+    let x : n / 65536 ≡ c + 256 * d = omega arith in
+    let y : n / 16777216 ≡ d = omega arith in
+    rw (x, y) (same (omega arith) (omega arith) (omega arith) (omega arith))
+  where
+    same : {x y z w : ℕ} → x ≡ a → y ≡ b → z ≡ c → w ≡ d → x ∷ y ∷ z ∷ w ∷ [] ≡ a ∷ b ∷ c ∷ d ∷ []
+    same p q r s = cc
+
+-- bytes are those of the numbers that they give
+pub words-there : (ns l : List ℕ) → length l ≡ 4 * length ns → Bytes l → Gives (λ i. wordAt l (4 * i)) ns
+    → bytesOf ns ≡ l
+unfolding bytesOf wordAt
+words-there [] [] e small g = refl
+words-there [] (x ∷ l) e small g = absurd (omega arith)
+words-there (n ∷ ns) [] e small g = absurd (omega arith)
+words-there (n ∷ ns) (a ∷ []) e small g = absurd (omega arith)
+words-there (n ∷ ns) (a ∷ b ∷ []) e small g = absurd (omega arith)
+words-there (n ∷ ns) (a ∷ b ∷ c ∷ []) e small g = absurd (omega arith)
+words-there (n ∷ ns) (a ∷ b ∷ c ∷ d ∷ l) e small g =
+    let head =
+    four-there n a b c d (small 0 (omega arith)) (small 1 (omega arith)) (small 2 (omega arith)) (small 3 (omega arith))
+    (g 0 (omega arith))
+    in
+    let rest =
+    words-there ns l (omega arith) (λ i k. small (suc (suc (suc (suc i)))) (omega arith))
+    (λ i k. g (suc i) (omega arith) ∙ word-on a b c d l (4 * suc i) (4 * i) (omega arith))
+    in
+    rw (head, rest)

@@ -1,0 +1,41 @@
+-- `put_sent`: before shell m is written, the numbers of the shells from k to m - 1 are.
+use borrow.Author.Needs.{needs}
+use native.Mathlib.Omega.{arith}
+use mathlib.Core.Path.{_≡_}
+use Prim.Native.Nat.{_≤_, _-_}
+use lib.ListN.{length}
+use Rattle.base.specs.Choice.{list}
+use Rattle.frame.specs.Numbers.{bytesOf}
+use Rattle.frame.specs.Frame.{sentAt}
+use Rattle.frame.specs.Parts.{pasted}
+use Rattle.frame.proofs.Pasting.{shell-none, shell-more}
+use Rattle.frame.proofs.put_sent.Statement.{statement}
+use Rattle.frame.proofs.put_sent.Tie as tie
+use Rattle.frame.proofs.put_sent.Reads as reads
+use Rattle.frame.proofs.put_sent.Lts as lts
+
+abbrev Inv-loop : tie.InvT-loop
+Inv-loop s₀ at p k l m₀ s m =
+    (k ≤ m) × (m ≤ p) × (length s ≡ length s₀) × (s ≡ pasted s₀ at (bytesOf (list k (m - k) (sentAt l))))
+
+abbrev μ-loop : tie.MeasureT-loop
+μ-loop s₀ at p k l m₀ s m = p - m
+
+loop-holds : tie.Need-loop-holds Inv-loop μ-loop
+loop-holds c = (search needs, search needs, search needs, shell-none (sentAt (c .before .args .t5)) (c .before .args .k) _ _)
+
+loop-again : tie.Need-loop-again Inv-loop μ-loop
+loop-again c =
+    let b = c .before .before .before .before .before .before in
+    let x = b .before .before .args in
+    let w = shell-more (sentAt (x .t5)) (x .k) (b .loop .m) (x .at) _ _ _ in
+    (search needs, search needs, search needs, w (b .loop .inv .0) (omega arith) (b .loop .inv .3) (c .before .before .put-word .ensures))
+
+returns : tie.Need-returns Inv-loop μ-loop
+returns c = let e : c .before .loop .m ≡ c .before .before .before .args .p = omega arith in cc
+
+pub put-sent-spec : {M : Type 1} → statement M
+put-sent-spec =
+    tie.close
+    (tie.spec Inv-loop μ-loop loop-holds (λ c. search needs) (λ c. search needs) (λ c. search needs) (λ c. search needs)
+    (λ c. search needs) (λ c κs. search needs) (λ c. search needs) (λ c. search needs) loop-again (λ c. search needs) returns)

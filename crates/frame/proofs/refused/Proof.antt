@@ -1,0 +1,12 @@
+-- `refused` gives the number and no frame.
+use borrow.Author.Needs.{needs}
+use Rattle.frame.proofs.refused.Statement.{statement}
+use Rattle.frame.proofs.refused.Tie as tie
+use Rattle.frame.proofs.refused.Reads as reads
+use Rattle.frame.proofs.refused.Lts as lts
+
+returns : tie.Need-returns
+returns c = cc
+
+pub refused-spec : {M : Type 1} → statement M
+refused-spec = tie.close (tie.spec (λ c κs. search needs) returns)
