@@ -9,6 +9,8 @@ use Rattle.base.specs.Choice.{choose, both, every}
 use Rattle.base.specs.Limits.{Limits, fieldLimit}
 use Rattle.tree.specs.Tree.{awaited}
 use Rattle.node.specs.Sums.{dims, firstAt, secondAt, Field, sentIn, takenIn, allSent, allTaken, number, own, ownIssued}
+use Rattle.node.specs.declared.Stored.{Stored}
+use Rattle.node.specs.declared.Confirm.{Confirm}
 use Rattle.node.specs.declared.Node.{Node}
 
 abbrev pub isNone : Option ℕ → Bool
@@ -19,54 +21,51 @@ isNone (some a) = false
 abbrev pub isAlone : Node → ℕ → Bool
 isAlone n k = isNone (awaited (n .nodes) k (n .number))
 
-abbrev pub isLast : Node → ℕ → Bool
-isLast n k = eqb (suc k) (dims n)
+-- clause 3's bound
+abbrev pub isWithin : Limits → ℕ → Bool
+isWithin L x = leb x (fieldLimit L)
 
--- own sum and frame's field added, in pass 1 and in pass 2
-abbrev pub joined : Node → ℕ → Field → ℕ
-joined n k f = own n k f + number (firstAt n k) f
-
-abbrev pub joinedIssued : Node → ℕ → ℕ
-joinedIssued n k = ownIssued n k + secondAt n k .issued .0
-
--- "3. no own sum with the frame's field added (shells above k and both totals; in pass 2 total sent) is above 16,776,960"
-abbrev pub withinLimit : Limits → Node → ℕ → Field → Bool
-withinLimit L n k f = leb (joined n k f) (fieldLimit L)
-
--- for each clause from 0 to 6, whether it holds in dimension k of pass 1; 5 and 6 are of pass 2
-unfoldable pub clausesFirst : Limits → Node → ℕ → List Bool
-clausesFirst L n k =
+-- For each clause from 0 to 6, whether it holds in dimension k of pass 1, by the own sums and the stored frame; 5 and 6 are
+-- of pass 2.
+unfoldable pub firstClauses : Limits → ℕ → ℕ → (Field → ℕ) → Stored → List Bool
+firstClauses L p k own x =
     -- "0. no frame is stored"
-    firstAt n k .present
+    x .present
     -- "1. pass 1: own sent for shell k is the frame's taken"
-    ∷ eqb (own n k (sentIn k)) (number (firstAt n k) (takenIn k))
+    ∷ eqb (own (sentIn k)) (number x (takenIn k))
     -- "2. pass 1: own taken for shell k is the frame's sent"
-    ∷ eqb (own n k (takenIn k)) (number (firstAt n k) (sentIn k))
+    ∷ eqb (own (takenIn k)) (number x (sentIn k))
+    -- "3. no own sum with the frame's field added (shells above k and both totals ..) is above 16,776,960"
     ∷ both
-        (every (suc k) (dims n - suc k) (λ m. both (withinLimit L n k (sentIn m)) (withinLimit L n k (takenIn m))))
-        (both (withinLimit L n k allSent) (withinLimit L n k allTaken))
+    (every (suc k) (p - suc k)
+    (λ m.
+    both (isWithin L (own (sentIn m) + number x (sentIn m))) (isWithin L (own (takenIn m) + number x (takenIn m)))))
+    (both (isWithin L (own allSent + number x allSent)) (isWithin L (own allTaken + number x allTaken)))
     -- "4. pass 1, last dimension: total sent equals total taken, own and frame's added"
-    ∷ choose (isLast n k) (eqb (joined n k allSent) (joined n k allTaken)) true
+    ∷ choose (eqb (suc k) p) (eqb (own allSent + number x allSent) (own allTaken + number x allTaken)) true
     ∷ true
     ∷ true
     ∷ []
 
--- and of pass 2; 1, 2 and 4 are of pass 1
-unfoldable pub clausesSecond : Limits → Node → ℕ → List Bool
-clausesSecond L n k =
-    secondAt n k .present
+-- The same for pass 2, by the own sum of total sent, T and the stored frame; 1, 2 and 4 are of pass 1.
+unfoldable pub secondClauses : Limits → ℕ → ℕ → ℕ → ℕ → Confirm → List Bool
+secondClauses L p k issued agreed x =
+    x .present
     ∷ true
     ∷ true
-    ∷ leb (joinedIssued n k) (fieldLimit L)
+    -- "3. .. in pass 2 total sent"
+    ∷ isWithin L (issued + x .issued .0)
     ∷ true
     -- "5. pass 2: both T are equal"
-    ∷ eqb (secondAt n k .agreed) (n .agreed)
+    ∷ eqb (x .agreed) agreed
     -- "6. pass 2, last dimension: total sent, own and frame's added, is T."
-    ∷ choose (isLast n k) (eqb (joinedIssued n k) (n .agreed)) true
+    ∷ choose (eqb (suc k) p) (eqb (issued + x .issued .0) agreed) true
     ∷ []
 
 abbrev pub clauses : Limits → Node → ℕ → ℕ → List Bool
-clauses L n pass k = choose (eqb pass 1) (clausesFirst L n k) (clausesSecond L n k)
+clauses L n pass k =
+    choose (eqb pass 1) (firstClauses L (dims n) k (own n k) (firstAt n k))
+    (secondClauses L (dims n) k (ownIssued n k) (n .agreed) (secondAt n k))
 
 abbrev pub allHold : List Bool → Bool
 allHold [] = true
@@ -77,6 +76,5 @@ unfoldable pub agrees : Limits → Node → ℕ → ℕ → Bool
 agrees L n pass k = choose (isAlone n k) true (allHold (clauses L n pass k))
 
 -- "a wait names one that does, any of them", and 0 where no frame is stored, since "then no other is tried"
-unfoldable pub mayName : Limits → Node → ℕ → ℕ → ℕ → Bool
-mayName L n pass k c =
-    choose (getD (clauses L n pass k) 0 true) (not (getD (clauses L n pass k) c true)) (eqb c 0)
+unfoldable pub mayName : List Bool → ℕ → Bool
+mayName cs c = choose (getD cs 0 true) (not (getD cs c true)) (eqb c 0)

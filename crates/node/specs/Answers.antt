@@ -7,7 +7,6 @@ use Rattle.node.specs.declared.Answer.the-variants.{Done, Dropped, Refus
 use Rattle.node.specs.declared.Reply.{Reply}
 use Rattle.node.specs.declared.Extra.{Extra}
 use Rattle.node.specs.declared.Extra.the-variants.{Nobody, Also}
-use Rattle.node.specs.declared.Receivers.{Receivers}
 use Rattle.node.specs.declared.BarrierAnswer.{BarrierAnswer}
 use Rattle.node.specs.declared.BarrierAnswer.the-variants.{Sends, Waits, Moved, Left, Refused as NoBarrier}
 use Rattle.node.specs.declared.BarrierReply.{BarrierReply}

@@ -11,7 +11,7 @@ use Rattle.tree.specs.Tree.{receivers}
 use Rattle.frame.specs.Frame.{sentNumber, takenNumber, hasShell, frameLength, frameBytes}
 use Rattle.frame.specs.declared.Frame.{Frame}
 use Rattle.node.specs.Sums.{dims, sentIn, takenIn, allSent, allTaken, own, ownIssued}
-use Rattle.node.specs.Agree.{agrees, mayName}
+use Rattle.node.specs.Agree.{clauses, agrees, mayName}
 use Rattle.node.specs.Change.{at, freshIn}
 use Rattle.node.specs.Answers.{Given, give, Barrier, sent, waits, moved, left, barred}
 use Rattle.node.specs.Calls.{badState}
@@ -25,17 +25,30 @@ abbrev pub firstFrame : Node → Frame
 firstFrame n =
     let k = n .dim in
     record {
-      pass = 1; phase = n .phase; dim = k; sender = n .number;
+      pass = 1;
+      phase = n .phase;
+      dim = k;
+      sender = n .number;
       sent = list 0 width (λ m. sentNumber (choose (hasShell (dims n) k m) (own n k (sentIn m)) 0));
       taken = list 0 width (λ m. takenNumber (choose (hasShell (dims n) k m) (own n k (takenIn m)) 0));
-      issued = sentNumber (own n k allSent); received = takenNumber (own n k allTaken); agreed = 0 }
+      issued = sentNumber (own n k allSent);
+      received = takenNumber (own n k allTaken);
+      agreed = 0;
+    }
 
 abbrev pub secondFrame : Node → Frame
 secondFrame n =
     record {
-      pass = 2; phase = n .phase; dim = n .dim; sender = n .number; sent = list 0 width (λ m. sentNumber 0);
-      taken = list 0 width (λ m. takenNumber 0); issued = sentNumber (ownIssued n (n .dim)); received = takenNumber 0;
-      agreed = n .agreed }
+      pass = 2;
+      phase = n .phase;
+      dim = n .dim;
+      sender = n .number;
+      sent = list 0 width (λ m. sentNumber 0);
+      taken = list 0 width (λ m. takenNumber 0);
+      issued = sentNumber (ownIssued n (n .dim));
+      received = takenNumber 0;
+      agreed = n .agreed;
+    }
 
 unfoldable pub frameDue : Node → Frame
 frameDue n = choose (eqb (n .pass) 1) (firstFrame n) (secondFrame n)
@@ -93,7 +106,7 @@ barrier L n room =
 -- the clause that a wait names is one that fails
 abbrev pub clauseFails : Limits → Node → BarrierAnswer → Bool
 clauseFails L n (Sends to length) = true
-clauseFails L n (Waits clause) = mayName L n (n .pass) (n .dim) clause
+clauseFails L n (Waits clause) = mayName (clauses L n (n .pass) (n .dim)) clause
 clauseFails L n Moved = true
 clauseFails L n Left = true
 clauseFails L n (Refused x) = true

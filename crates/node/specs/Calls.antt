@@ -2,13 +2,13 @@
 use mathlib.Core.Bool.{Bool, true, false, not}
 use mathlib.Core.Option.{Option, none, some}
 use mathlib.Core.List.{List, [], _∷_, _++_}
-use Prim.Native.Nat.{ℕ, _+_, _-_}
+use Prim.Native.Nat.{ℕ, _+_}
 use lib.Dec.{ltb, leb, eqb}
-use lib.ListN.{getD, set}
+use lib.ListN.{set}
 use Rattle.base.specs.Choice.{choose}
 use Rattle.base.specs.Limits.{Limits, takenLimit}
 use Rattle.base.specs.Refusal.{Refusal, Check, when, inOrder}
-use Rattle.tree.specs.Tree.{dimension, awaited, distance}
+use Rattle.tree.specs.Tree.{awaited, distance}
 use Rattle.tree.specs.Lookups.{badBoard}
 use Rattle.frame.specs.Frame.{sentNumber, takenNumber, fieldsOf, readChecks}
 use Rattle.frame.specs.Timing.{timing}

@@ -45,11 +45,11 @@ firstOk L n k =
     let x = firstAt n k in
     both (either (awaitsFrame n k) (not (x .present)))
     (both
-      (every 0 width
-        (λ m.
-          let has = both (x .present) (hasShell (dims n) k m) in
-          both (numberOk L has (number x (sentIn m))) (numberOk L has (number x (takenIn m)))))
-      (both (numberOk L (x .present) (number x allSent)) (numberOk L (x .present) (number x allTaken))))
+    (every 0 width
+    (λ m.
+    let has = both (x .present) (hasShell (dims n) k m) in
+    both (numberOk L has (number x (sentIn m))) (numberOk L has (number x (takenIn m)))))
+    (both (numberOk L (x .present) (number x allSent)) (numberOk L (x .present) (number x allTaken))))
 
 unfoldable pub secondOk : Limits → Node → ℕ → Bool
 secondOk L n k =

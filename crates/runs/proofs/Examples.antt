@@ -1,0 +1,106 @@
+-- Document 01's worked script and the trap of four nodes come out of the definitions by computation.
+use mathlib.Core.Path.{_≡_, refl}
+use mathlib.Core.Bool.{true}
+use mathlib.Core.List.{List, [], _∷_}
+use Rattle.base.specs.Limits.{base}
+use Rattle.tree.specs.Tree.{smallestFrom, dimension, part, runBelow, runOf, placeIn, place, awaited, receivers, distanceBelow, distance}
+use Rattle.frame.specs.Numbers.{fourBytes, bytesOf, wordAt}
+use Rattle.frame.specs.Frame.{frameLength, numbersOf, frameBytes, shellAt, fieldsOf, numbersOk}
+use Rattle.frame.specs.Timing.{timing}
+use Rattle.node.specs.Sums.{own, ownIssued}
+use Rattle.node.specs.Agree.{firstClauses, secondClauses, agrees}
+use Rattle.node.specs.State.{boardOk, positionOk, talliesOk, totalOk, firstOk, secondOk, passedOk, busyOk, valid}
+use Rattle.node.specs.Answers.{barrierNumber}
+use Rattle.node.specs.Calls.{send, take, idle, gotten, frameIn}
+use Rattle.node.specs.Barrier.{frameDue, barrier}
+use Rattle.runs.specs.Board.{Board, Event, sends, idles, calls, delivers, start, step, run}
+use Rattle.runs.specs.Printed.{line, lines}
+
+-- "Script, its lines parted here by commas: nodes 2, i 0, b 0, i 1, d 0 1, b 1, b 1, b 1, d 1 0, b 0, b 0, d 1 0, b 0, d 0 1, b 1."
+abbrev script : List Event
+script =
+    idles 0
+    ∷ calls 0 76
+    ∷ idles 1
+    ∷ delivers 0 1
+    ∷ calls 1 76
+    ∷ calls 1 76
+    ∷ calls 1 76
+    ∷ delivers 1 0
+    ∷ calls 0 76
+    ∷ calls 0 76
+    ∷ delivers 1 0
+    ∷ calls 0 76
+    ∷ delivers 0 1
+    ∷ calls 1 76
+    ∷ []
+
+-- "Output whole"
+pub worked : lines 2 (start 2) script ≡
+    (0 ∷ 0 ∷ 0 ∷ 1 ∷ 0 ∷ 1 ∷ 0 ∷ [])
+    ∷ (0 ∷ 20 ∷ 0 ∷ 1 ∷ 0 ∷ 0 ∷ 0 ∷ [])
+    ∷ (1 ∷ 0 ∷ 0 ∷ 1 ∷ 0 ∷ 1 ∷ 0 ∷ [])
+    ∷ (1 ∷ 0 ∷ 0 ∷ 1 ∷ 0 ∷ 1 ∷ 0 ∷ [])
+    ∷ (1 ∷ 20 ∷ 0 ∷ 1 ∷ 0 ∷ 0 ∷ 0 ∷ [])
+    ∷ (1 ∷ 22 ∷ 0 ∷ 2 ∷ 0 ∷ 1 ∷ 0 ∷ [])
+    ∷ (1 ∷ 20 ∷ 0 ∷ 2 ∷ 0 ∷ 0 ∷ 0 ∷ [])
+    ∷ (0 ∷ 0 ∷ 0 ∷ 1 ∷ 0 ∷ 0 ∷ 0 ∷ [])
+    ∷ (0 ∷ 22 ∷ 0 ∷ 2 ∷ 0 ∷ 1 ∷ 0 ∷ [])
+    ∷ (0 ∷ 20 ∷ 0 ∷ 2 ∷ 0 ∷ 0 ∷ 0 ∷ [])
+    ∷ (0 ∷ 0 ∷ 0 ∷ 2 ∷ 0 ∷ 0 ∷ 0 ∷ [])
+    ∷ (0 ∷ 23 ∷ 1 ∷ 1 ∷ 0 ∷ 1 ∷ 1 ∷ [])
+    ∷ (1 ∷ 0 ∷ 0 ∷ 2 ∷ 0 ∷ 0 ∷ 0 ∷ [])
+    ∷ (1 ∷ 23 ∷ 1 ∷ 1 ∷ 0 ∷ 1 ∷ 1 ∷ [])
+    ∷ []
+unfolding smallestFrom dimension part runBelow runOf placeIn place awaited receivers distanceBelow distance fourBytes
+    bytesOf wordAt frameLength numbersOf frameBytes shellAt fieldsOf numbersOk timing own ownIssued firstClauses
+    secondClauses agrees boardOk positionOk talliesOk totalOk firstOk secondOk passedOk busyOk valid send take idle gotten
+    frameIn frameDue barrier step
+worked = refl
+
+-- "P 4: 2 signs in with zeros; 1 sends to 2 (slow), signs in to 0; 3 sends to 1; 1 wakes, sends to 3; 3 takes it, goes idle
+-- and signs in to 2; 2 passes dimension 0 and sends to 0; then the slow message reaches 2, which sends work to 0. Node 0
+-- takes it, goes idle, passes dimension 0 and now sees 1 against 1 both ways while 1 is busy."
+abbrev trap : List Event
+trap =
+    idles 2
+    ∷ calls 2 76
+    ∷ sends 1 2
+    ∷ idles 1
+    ∷ calls 1 76
+    ∷ sends 3 1
+    ∷ delivers 3 1
+    ∷ sends 1 3
+    ∷ delivers 1 3
+    ∷ idles 3
+    ∷ calls 3 76
+    ∷ delivers 3 2
+    ∷ calls 2 76
+    ∷ calls 2 76
+    ∷ delivers 1 2
+    ∷ sends 2 0
+    ∷ delivers 1 0
+    ∷ delivers 2 0
+    ∷ delivers 2 0
+    ∷ idles 0
+    ∷ calls 0 76
+    ∷ calls 0 76
+    ∷ calls 0 76
+    ∷ calls 0 76
+    ∷ calls 0 76
+    ∷ []
+
+abbrev trapped : Board
+trapped = run base 4 trap
+
+-- "Here it may move to pass 2 with T = 2 and must wait there."
+pub in-the-trap :
+    (line 0 (barrierNumber (barrier base (trapped .nodes 0) 76 .answer)) (trapped .nodes 0)
+    ≡ 0 ∷ 21 ∷ 0 ∷ 2 ∷ 0 ∷ 0 ∷ 0 ∷ [])
+    × (trapped .nodes 0 .agreed ≡ 2)
+    × (trapped .nodes 1 .busy ≡ true)
+unfolding smallestFrom dimension part runBelow runOf placeIn place awaited receivers distanceBelow distance fourBytes
+    bytesOf wordAt frameLength numbersOf frameBytes shellAt fieldsOf numbersOk timing own ownIssued firstClauses
+    secondClauses agrees boardOk positionOk talliesOk totalOk firstOk secondOk passedOk busyOk valid send take idle gotten
+    frameIn frameDue barrier step
+in-the-trap = (refl, refl, refl)

@@ -1,0 +1,222 @@
+-- "Runs": the board, its events, what each event does, and the history that the claim speaks of.
+use mathlib.Core.Bool.{Bool, true, false}
+use mathlib.Core.Option.{Option, none, some}
+use mathlib.Core.List.{List, [], _∷_, _++_, map}
+use Prim.Native.Nat.{ℕ, zero, suc}
+use lib.Dec.{ltb, eqb}
+use Rattle.base.specs.Choice.{choose, both}
+use Rattle.base.specs.Limits.{Limits}
+use Rattle.frame.specs.Frame.{frameBytes}
+use Rattle.node.specs.Sums.{dims}
+use Rattle.node.specs.Change.{freshIn}
+use Rattle.node.specs.Answers.{Outcome, done, dropped, refused, Barrier, sent, waits, moved, left, barred}
+use Rattle.node.specs.Calls.{send, take, idle, frameIn}
+use Rattle.node.specs.Barrier.{frameDue, barrier}
+use Rattle.node.specs.declared.Node.{Node}
+
+-- a function changed at one place
+abbrev pub put : {A : Type 0} → (ℕ → A) → ℕ → A → ℕ → A
+put f i v j = choose (eqb j i) v (f j)
+
+-- what is on a link: "a work message, with its sender's phase byte", or the bytes of a frame
+pub data Load : Type 0 where
+  work : ℕ → Load
+  frame : List ℕ → Load
+
+-- An item under way. History: "An item belongs to the phase its sender was in", counted without end; and which of all sends
+-- done it is, counted from 0.
+pub record Item : Type 0 where
+  pub from : ℕ
+  pub to : ℕ
+  pub load : Load
+  pub phase : ℕ
+  pub name : ℕ
+
+-- The nodes, and the items of all links, oldest first. History: "A node's phase counts its barrier calls so far that left,
+-- without end"; whether it is busy; for each send done, the phase of its message while that is untaken; the sends done.
+pub record Board : Type 0 where
+  pub nodes : ℕ → Node
+  pub items : List Item
+  pub count : ℕ → ℕ
+  pub busy : ℕ → Bool
+  pub untaken : ℕ → Option ℕ
+  pub sends : ℕ
+
+-- "A send, idle or barrier call at a node, with any arguments and buffer", here the buffer's length; "A delivery from a to
+-- b"; "A loss: any item is off its link, without a call"
+pub data Event : Type 0 where
+  sends : ℕ → ℕ → Event
+  idles : ℕ → Event
+  calls : ℕ → ℕ → Event
+  delivers : ℕ → ℕ → Event
+  loses : ℕ → Event
+
+-- "A board starts with P fresh nodes and empty links." "A node is busy .. from the start"
+abbrev pub start : ℕ → Board
+start P =
+    record {
+      nodes = λ a. freshIn P a 0;
+      items = [];
+      count = λ a. 0;
+      busy = λ a. true;
+      untaken = λ i. none;
+      sends = 0;
+    }
+
+-- ---- The items of a link
+
+abbrev pub onLink : ℕ → ℕ → Item → Bool
+onLink a b m = both (eqb (m .from) a) (eqb (m .to) b)
+
+abbrev pub oldest : ℕ → ℕ → List Item → Option Item
+oldest a b [] = none
+oldest a b (m ∷ ms) = choose (onLink a b m) (some m) (oldest a b ms)
+
+-- the items without the oldest of a link
+abbrev pub without : ℕ → ℕ → List Item → List Item
+without a b [] = []
+without a b (m ∷ ms) = choose (onLink a b m) ms (m ∷ without a b ms)
+
+-- the items without the j-th
+abbrev pub lessOne : ℕ → List Item → List Item
+lessOne j [] = []
+lessOne zero (m ∷ ms) = ms
+lessOne (suc j) (m ∷ ms) = m ∷ lessOne j ms
+
+-- ---- What an answer does to the board
+
+-- "Each call gets the state that the last call at its node gave back"
+abbrev pub gave : Board → ℕ → Node → Board
+gave w a n =
+    record {
+      nodes = put (w .nodes) a n;
+      items = w .items;
+      count = w .count;
+      busy = w .busy;
+      untaken = w .untaken;
+      sends = w .sends;
+    }
+
+abbrev pub carries : Board → List Item → Board
+carries w ms =
+    record { nodes = w .nodes; items = ms; count = w .count; busy = w .busy; untaken = w .untaken; sends = w .sends }
+
+abbrev pub turns : Board → ℕ → Bool → Board
+turns w a t =
+    record {
+      nodes = w .nodes;
+      items = w .items;
+      count = w .count;
+      busy = put (w .busy) a t;
+      untaken = w .untaken;
+      sends = w .sends;
+    }
+
+-- "A send done puts a work message last on the link to its receiver"
+abbrev pub sentOut : Board → ℕ → ℕ → Board
+sentOut w a b =
+    record {
+      nodes = w .nodes;
+      items =
+          w .items
+          ++ (record { from = a; to = b; load = work (w .nodes a .phase); phase = w .count a; name = w .sends } ∷ []);
+      count = w .count;
+      busy = w .busy;
+      untaken = put (w .untaken) (w .sends) (some (w .count a));
+      sends = suc (w .sends);
+    }
+
+abbrev pub afterSend : Board → ℕ → ℕ → Outcome → Board
+afterSend w a b done = sentOut w a b
+afterSend w a b dropped = w
+afterSend w a b (refused x) = w
+
+-- busy "until its next idle done"
+abbrev pub afterIdle : Board → ℕ → Outcome → Board
+afterIdle w a done = turns w a false
+afterIdle w a dropped = w
+afterIdle w a (refused x) = w
+
+-- "a sent the written bytes last on the link to each receiver"
+abbrev pub posted : ℕ → List ℕ → ℕ → List ℕ → List Item
+posted a bytes phase to = map (λ b. record { from = a; to = b; load = frame bytes; phase = phase; name = 0 }) to
+
+-- n is the state before the call; busy "from each leaving"
+abbrev pub afterCall : Board → ℕ → Node → Barrier → Board
+afterCall w a n (sent to length) = carries w (w .items ++ posted a (frameBytes (dims n) (frameDue n)) (w .count a) to)
+afterCall w a n waits = w
+afterCall w a n moved = w
+afterCall w a n left =
+    record {
+      nodes = w .nodes;
+      items = w .items;
+      count = put (w .count) a (suc (w .count a));
+      busy = put (w .busy) a true;
+      untaken = w .untaken;
+      sends = w .sends;
+    }
+afterCall w a n (barred x) = w
+
+-- "and then off the link unless it is early"
+abbrev pub offUnlessEarly : Board → ℕ → ℕ → ℕ → Board
+offUnlessEarly w a b x = choose (eqb x 7) w (carries w (without a b (w .items)))
+
+-- busy "from each take that makes it busy"; "A message is untaken until its take is done, a lost one for good."
+abbrev pub afterTake : Board → ℕ → ℕ → Item → Outcome → Board
+afterTake w a b m done =
+    record {
+      nodes = w .nodes;
+      items = without a b (w .items);
+      count = w .count;
+      busy = put (w .busy) b true;
+      untaken = put (w .untaken) (m .name) none;
+      sends = w .sends;
+    }
+afterTake w a b m dropped = carries w (without a b (w .items))
+afterTake w a b m (refused x) = offUnlessEarly w a b x
+
+abbrev pub afterFrame : Board → ℕ → ℕ → Outcome → Board
+afterFrame w a b done = carries w (without a b (w .items))
+afterFrame w a b dropped = carries w (without a b (w .items))
+afterFrame w a b (refused x) = offUnlessEarly w a b x
+
+-- ---- Events and runs
+
+module _ (L : Limits) (P : ℕ) where
+  -- "the oldest item of that link goes into take (a work message ..) or frame in (a frame) at b"
+  abbrev pub delivered : Board → ℕ → ℕ → Item → Load → Board
+  delivered w a b m (work phase) =
+      let r = take L (w .nodes b) a phase in afterTake (gave w b (r .node)) a b m (r .answer)
+  delivered w a b m (frame bytes) =
+      let r = frameIn L (w .nodes b) bytes in afterFrame (gave w b (r .node)) a b (r .answer)
+
+  -- "With none there nothing happens."
+  abbrev pub deliveredOldest : Board → ℕ → ℕ → Option Item → Board
+  deliveredOldest w a b none = w
+  deliveredOldest w a b (some m) = delivered w a b m (m .load)
+
+  abbrev pub sendEvent : Board → ℕ → ℕ → Board
+  sendEvent w a b = let r = send L (w .nodes a) b in afterSend (gave w a (r .node)) a b (r .answer)
+
+  abbrev pub idleEvent : Board → ℕ → Board
+  idleEvent w a = let r = idle L (w .nodes a) in afterIdle (gave w a (r .node)) a (r .answer)
+
+  abbrev pub callEvent : Board → ℕ → ℕ → Board
+  callEvent w a room =
+      let r = barrier L (w .nodes a) room in afterCall (gave w a (r .node)) a (w .nodes a) (r .answer)
+
+  -- a call is at a node of the board
+  unfoldable pub step : Board → Event → Board
+  step w (sends a b) = choose (ltb a P) (sendEvent w a b) w
+  step w (idles a) = choose (ltb a P) (idleEvent w a) w
+  step w (calls a room) = choose (ltb a P) (callEvent w a room) w
+  step w (delivers a b) = deliveredOldest w a b (oldest a b (w .items))
+  step w (loses j) = carries w (lessOne j (w .items))
+
+  abbrev pub after : Board → List Event → Board
+  after w [] = w
+  after w (e ∷ es) = after (step w e) es
+
+  -- "A run is any list of these events"
+  abbrev pub run : List Event → Board
+  run es = after (start P) es

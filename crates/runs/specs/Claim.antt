@@ -1,0 +1,86 @@
+-- Demand 3, in its order and words.
+use mathlib.Core.Path.{_≡_}
+use mathlib.Core.Logic.{_≢_}
+use mathlib.Core.Bool.{true, false}
+use mathlib.Core.Option.{some}
+use mathlib.Core.List.{List, [], _∷_, List·Memᴰ}
+use Prim.Native.Nat.{ℕ, _^_, _≤_, _<_}
+use Rattle.base.specs.Limits.{Limits, fieldLimit, width}
+use Rattle.tree.specs.Tree.{dimension}
+use Rattle.frame.specs.Frame.{frameLength}
+use Rattle.node.specs.Answers.{done, Barrier, sent, moved, left}
+use Rattle.node.specs.Calls.{send, take}
+use Rattle.node.specs.Barrier.{barrier}
+use Rattle.runs.specs.Board.{work, Item, Board, Event, sends, idles, calls, delivers, loses, oldest, step, run}
+
+module _ (L : Limits) (P : ℕ) where
+  -- a send of a to b would be done
+  abbrev pub SendDone : Board → ℕ → ℕ → Type 0
+  SendDone w a b = send L (w .nodes a) b .answer ≡ done
+
+  -- the event is a delivery to b whose take, of a message of phase n, is done
+  pub data TakeDone (w : Board) (b n : ℕ) : Event → Type 0 where
+    takes : (a : ℕ) (m : Item) (byte : ℕ) → oldest a b (w .items) ≡ some m → m .load ≡ work byte → m .phase ≡ n
+        → take L (w .nodes b) a byte .answer ≡ done → TakeDone w b n (delivers a b)
+
+  -- a barrier call of a would leave
+  abbrev pub Leaves : Board → ℕ → ℕ → Type 0
+  Leaves w a room = barrier L (w .nodes a) room .answer ≡ left
+
+  pub record Safe (w : Board) : Type 0 where
+    -- "only busy nodes send work"
+    pub busySend : (a b : ℕ) → a < P → SendDone w a b → w .busy a ≡ true
+    -- "A node is busy, as its state must say too"
+    pub busyIs : (a : ℕ) → a < P → w .nodes a .busy ≡ w .busy a
+    -- "within a phase only taken work wakes an idle one"
+    pub wakes : (e : Event) (a : ℕ) → a < P → w .busy a ≡ false → step L P w e .busy a ≡ true
+        → step L P w e .count a ≡ w .count a → TakeDone w a (w .count a) e
+    -- "no node leaves a phase while a work message of it is untaken,
+    pub leavesTaken : (a room : ℕ) → a < P → Leaves w a room → (i : ℕ) → w .untaken i ≢ some (w .count a)
+    -- a node still in it is busy,
+    pub leavesIdle : (a room : ℕ) → a < P → Leaves w a room → (b : ℕ) → b < P → w .count b ≡ w .count a
+        → w .busy b ≡ false
+    -- or a node hasn't reached it;
+    pub leavesReached : (a room : ℕ) → a < P → Leaves w a room → (b : ℕ) → b < P → w .count a ≤ w .count b
+    -- and once a node has left a phase, no work message of it is sent
+    pub leftSend : (a : ℕ) → a < P → (n : ℕ) → n < w .count a → (b c : ℕ) → b < P → w .count b ≡ n → SendDone w b c → ⊥
+    -- or taken."
+    pub leftTake : (a : ℕ) → a < P → (n : ℕ) → n < w .count a → (b : ℕ) (e : Event) → TakeDone w b n e → ⊥
+
+  -- "would send, move or leave"
+  pub data Goes : Barrier → Type 0 where
+    sending : (to : List ℕ) (length : ℕ) → Goes (sent to length)
+    moving : Goes moved
+    leaving : Goes left
+
+  -- node a is in the oldest phase
+  abbrev pub Oldest : Board → ℕ → Type 0
+  Oldest w a = (a < P) × ((b : ℕ) → b < P → w .count a ≤ w .count b)
+
+  -- "some node in the oldest phase is busy, has something of that phase under way to it, or would send, move or leave on a
+  -- barrier call with a long enough buffer"
+  pub data Lives (w : Board) : Type 0 where
+    busy : (a : ℕ) → Oldest w a → w .busy a ≡ true → Lives w
+    underWay : (a : ℕ) → Oldest w a → (m : Item) → List·Memᴰ m (w .items) → m .to ≡ a → m .phase ≡ w .count a → Lives w
+    goes : (a : ℕ) → Oldest w a
+        → ((room : ℕ) → frameLength (dimension P) 1 0 ≤ room → Goes (barrier L (w .nodes a) room .answer)) → Lives w
+
+-- "After every run without a loss"
+abbrev pub NoLoss : List Event → Type 0
+NoLoss [] = Unit {0}
+NoLoss (sends a b ∷ es) = NoLoss es
+NoLoss (idles a ∷ es) = NoLoss es
+NoLoss (calls a room ∷ es) = NoLoss es
+NoLoss (delivers a b ∷ es) = NoLoss es
+NoLoss (loses j ∷ es) = ⊥
+
+-- limits that a build may have: the shells have room, and a number is four bytes
+pub record Fit (L : Limits) : Type 0 where
+  pub room : L .nodes ≤ 2 ^ width
+  pub four : fieldLimit L < 4294967296
+
+-- FOR EVERY RUN of a board of 1 to N nodes
+pub record Demand3 : Type 0 where
+  pub safe : (L : Limits) → Fit L → (P : ℕ) → 1 ≤ P → P ≤ L .nodes → (es : List Event) → Safe L P (run L P es)
+  pub lives : (L : Limits) → Fit L → (P : ℕ) → 1 ≤ P → P ≤ L .nodes → (es : List Event) → NoLoss es
+      → Lives L P (run L P es)

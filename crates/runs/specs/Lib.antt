@@ -1,0 +1,3 @@
+pub mod Board
+pub mod Claim
+pub mod Printed

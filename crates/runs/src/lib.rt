@@ -1,0 +1,1 @@
+// Whole runs of a board: definitions and theorems; there is no code here.
