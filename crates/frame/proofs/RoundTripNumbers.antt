@@ -9,15 +9,15 @@ use lib.Seq.{ext-getD}
 use borrow.Author.Tests.{eq-eqb, ne-eqb}
 use Rattle.base.specs.Choice.{list}
 use Rattle.base.specs.Limits.{width}
-use Rattle.base.proofs.Laws.{choose-yes, choose-no}
+use Rattle.base.proofs.Laws.{choose-yes, choose-no, length-list}
 use Rattle.tree.specs.Tree.{dimension}
 use Rattle.frame.specs.Frame.{sentNumber, takenNumber, sentAt, takenAt, numbersOf, frameBytes, numberAt, shellAt}
 use Rattle.frame.specs.declared.Sent.{Sent}
 use Rattle.frame.specs.declared.Taken.{Taken}
 use Rattle.frame.specs.declared.Frame.{Frame}
 use Rattle.frame.proofs.Words.{length-bytesOf}
-use Rattle.frame.proofs.RoundTripRows.{Gives, length-list, getD-list, gives-join, gives-list, gives-rest}
-use Rattle.frame.proofs.RoundTripChecks.{shell-good}
+use Rattle.frame.proofs.Shells.{shell-there}
+use Rattle.frame.proofs.RoundTripRows.{Gives, getD-list, gives-join, gives-list, gives-rest}
 use Rattle.frame.proofs.RoundTripAccepted.{size, size-first, size-second}
 
 -- ---- arrays of tallies
@@ -61,11 +61,10 @@ module _ {A : Type 0} (kind : Kind A) where
   -- an array that lists the shells of bytes has their numbers
   pub array-reads : (p k : ℕ) → p ≤ width → (bs : List ℕ) (start : ℕ)
       → Tallies p k (numberAt bs) start (tallyAt (array (shellAt p k bs start)))
-  unfolding shellAt
   array-reads p k fits bs start m a b =
       ap (kind .number) (array-at (shellAt p k bs start) m (kind .tally 0) (omega arith))
       ∙ kind .same (shellAt p k bs start m)
-      ∙ choose-yes _ _ (shell-good p k m a b)
+      ∙ shell-there p k bs start m a b
 
 -- ---- the numbers of a frame are what g gives
 

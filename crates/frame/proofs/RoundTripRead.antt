@@ -2,7 +2,7 @@
 use mathlib.Core.Path.{_≡_, refl, sym, ap, _∙_, subst}
 use mathlib.Core.Logic.{_⊎_, inl, inr}
 use mathlib.Core.List.{List, [], _∷_}
-use Prim.Native.Nat.{ℕ, suc, _+_, _-_, _*_, _≤_}
+use Prim.Native.Nat.{ℕ, _+_, _-_, _*_, _≤_}
 use native.Mathlib.Omega.{arith}
 use lib.ListN.{length, getD}
 use borrow.Author.Tests.{eq-eqb, ne-eqb}
@@ -10,11 +10,12 @@ use Rattle.base.specs.Limits.{Limits, width}
 use Rattle.base.specs.Refusal.{found}
 use Rattle.base.proofs.Laws.{choose-yes, choose-no}
 use Rattle.tree.specs.Tree.{dimension}
+use Rattle.frame.specs.Numbers.{wordAt}
 use Rattle.frame.specs.Frame.{numbersOf, frameBytes, numberAt, firstFields, secondFields, fieldsOf}
 use Rattle.frame.specs.Frame.{readFrame, writeFrame}
 use Rattle.frame.specs.declared.Frame.{Frame}
 use Rattle.frame.proofs.Words.{length-bytesOf}
-use Rattle.frame.proofs.RoundTripRows.{Gives, Bytes, word-on, words-there}
+use Rattle.frame.proofs.RoundTripRows.{Gives, Bytes, word-on, bytes-on, words-there}
 use Rattle.frame.proofs.RoundTripAccepted.{Small, board-width, write-good, Read, read-known}
 use Rattle.frame.proofs.RoundTripAccepted.{head-pass, head-phase, head-dim, head-sender}
 use Rattle.frame.proofs.RoundTripNumbers.{sents, takens, array-reads, frame-length}
@@ -62,10 +63,8 @@ bytes-are p (x ∷ y ∷ z ∷ []) n small g = absurd (omega arith)
 bytes-are p (x ∷ y ∷ z ∷ w ∷ l) n small g =
     let bs : List ℕ = x ∷ y ∷ z ∷ w ∷ l in
     let ns = numbersOf p (fieldsOf p bs) in
-    let rest =
-    words-there ns l (omega (arith, length-bytesOf ns)) (λ i k. small (suc (suc (suc (suc i)))) (omega arith))
-    (λ i k. g i k ∙ word-on x y z w l (4 + 4 * i) (4 * i) refl)
-    in
+    let there : Gives (λ i. wordAt l (4 * i)) ns = λ i k. g i k ∙ word-on x y z w l (4 + 4 * i) (4 * i) refl in
+    let rest = words-there ns l (omega (arith, length-bytesOf ns)) (bytes-on x y z w l small) there in
     cc (head-pass p bs, head-phase p bs, head-dim p bs, head-sender p bs)
 
 -- ---- the theorems

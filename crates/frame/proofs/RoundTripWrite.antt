@@ -21,6 +21,7 @@ use Rattle.frame.proofs.RoundTripAccepted.{Small, Shaped, Accepted, siz
 use Rattle.frame.proofs.RoundTripNumbers.{Kind, sents, takens, Tallies, tallyAt, array, array-back, frame-length}
 use Rattle.frame.proofs.RoundTripNumbers.{First, Second, first-length, second-length, first-known, second-known}
 
+-- frames are equal by their fields
 same-frame : {f g : Frame} → f .pass ≡ g .pass → f .phase ≡ g .phase → f .dim ≡ g .dim → f .sender ≡ g .sender
     → f .sent ≡ g .sent → f .taken ≡ g .taken → f .issued .0 ≡ g .issued .0 → f .received .0 ≡ g .received .0
     → f .agreed ≡ g .agreed → f ≡ g
@@ -90,6 +91,7 @@ module _ (L : Limits) (small : Small L) (P : ℕ) (f : Frame) (shaped : Shaped f
         array-back kind l count (λ m. 0)
         (λ m h. sym (number-absent L (tells p f m) _ (good m h) (rw (ne-eqb (f .pass) 1 (λ q. omega arith)))))
 
+  -- the fields of a frame of pass 1, and of pass 2, are read back
   first-back : f .pass ≡ 1 → fieldsOf p bs ≡ f
   unfolding fieldsOf frameBytes
   first-back one =
