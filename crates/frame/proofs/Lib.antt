@@ -2,3 +2,4 @@ pub mod Words
 pub mod Pasting
 pub mod Shells
 pub mod Writing
+pub mod Gathering
