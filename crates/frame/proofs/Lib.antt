@@ -2,6 +2,7 @@ pub mod Words
 pub mod Pasting
 pub mod Shells
 pub mod Writing
+pub mod Gathering
 pub mod RoundTripRows
 pub mod RoundTripChecks
 pub mod RoundTripAccepted
