@@ -1,6 +1,5 @@
 -- The numbers of a frame stand where the reader looks for them, and its arrays hold the tallies of its shells.
 use mathlib.Core.Path.{_≡_, refl, sym, ap, _∙_, subst}
-use mathlib.Core.Logic.{_⊎_, inl, inr}
 use mathlib.Core.List.{List, [], _∷_, _++_}
 use Prim.Native.Nat.{ℕ, zero, suc, _+_, _-_, _*_, _≤_, _<_}
 use native.Mathlib.Omega.{arith}
@@ -10,15 +9,12 @@ use borrow.Author.Tests.{eq-eqb, ne-eqb}
 use Rattle.base.specs.Choice.{list}
 use Rattle.base.specs.Limits.{width}
 use Rattle.base.proofs.Laws.{choose-yes, choose-no, length-list}
-use Rattle.tree.specs.Tree.{dimension}
-use Rattle.frame.specs.Frame.{sentNumber, takenNumber, sentAt, takenAt, numbersOf, frameBytes, numberAt, shellAt}
+use Rattle.frame.specs.Frame.{sentNumber, takenNumber, sentAt, takenAt, numbersOf, numberAt, shellAt}
 use Rattle.frame.specs.declared.Sent.{Sent}
 use Rattle.frame.specs.declared.Taken.{Taken}
 use Rattle.frame.specs.declared.Frame.{Frame}
-use Rattle.frame.proofs.Words.{length-bytesOf}
 use Rattle.frame.proofs.Shells.{shell-there}
 use Rattle.frame.proofs.RoundTripRows.{Gives, getD-list, gives-join, gives-list, gives-rest}
-use Rattle.frame.proofs.RoundTripAccepted.{size, size-first, size-second}
 
 -- ---- arrays of tallies
 
@@ -99,8 +95,8 @@ module _ (p : ℕ) (f : Frame) where
   unfolding numbersOf
   second-row e = choose-no _ _ (ne-eqb (f .pass) 1 (λ q. omega arith))
 
-  pub first-length : f .pass ≡ 1 → length (numbersOf p f) ≡ 2 * (p - f .dim) + 2
-  first-length e =
+  pub first-row-length : f .pass ≡ 1 → length (numbersOf p f) ≡ 2 * (p - f .dim) + 2
+  first-row-length e =
       rw (first-row e)
       (omega (
         arith,
@@ -110,8 +106,8 @@ module _ (p : ℕ) (f : Frame) where
         length-list k d (takenAt (f .taken)),
       ))
 
-  pub second-length : f .pass ≡ 2 → length (numbersOf p f) ≡ 2
-  second-length e = rw (second-row e)
+  pub second-row-length : f .pass ≡ 2 → length (numbersOf p f) ≡ 2
+  second-row-length e = rw (second-row e)
 
   module _ (g : ℕ → ℕ) where
     pub first-known : f .pass ≡ 1 → f .dim < p → Gives g (numbersOf p f) → First p f g
@@ -153,11 +149,3 @@ module _ (p : ℕ) (f : Frame) where
         both zero l = h .agreed
         both (suc zero) l = h .issued
         both (suc (suc i)) l = absurd (omega arith)
-
--- the length of a frame's bytes
-pub frame-length : (P : ℕ) (f : Frame) → (f .pass ≡ 1) ⊎ (f .pass ≡ 2) → length (frameBytes (dimension P) f) ≡ size P f
-unfolding frameBytes
-frame-length P f (inl e) =
-    omega (arith, length-bytesOf (numbersOf (dimension P) f), first-length (dimension P) f e, size-first P f e)
-frame-length P f (inr e) =
-    omega (arith, length-bytesOf (numbersOf (dimension P) f), second-length (dimension P) f e, size-second P f e)

@@ -15,10 +15,11 @@ use Rattle.frame.specs.Frame.{numbersOf, frameBytes, numberAt, firstFiel
 use Rattle.frame.specs.Frame.{readFrame, writeFrame}
 use Rattle.frame.specs.declared.Frame.{Frame}
 use Rattle.frame.proofs.Words.{length-bytesOf}
+use Rattle.frame.proofs.Writing.{length-frame}
 use Rattle.frame.proofs.RoundTripRows.{Gives, Bytes, word-on, bytes-on, words-there}
 use Rattle.frame.proofs.RoundTripAccepted.{Small, board-width, write-good, Read, read-known}
 use Rattle.frame.proofs.RoundTripAccepted.{head-pass, head-phase, head-dim, head-sender}
-use Rattle.frame.proofs.RoundTripNumbers.{sents, takens, array-reads, frame-length}
+use Rattle.frame.proofs.RoundTripNumbers.{sents, takens, array-reads}
 use Rattle.frame.proofs.RoundTripNumbers.{First, Second, first-good, second-good}
 
 -- ---- the numbers of the fields are those of the bytes
@@ -75,9 +76,8 @@ pub read-then-bytes : (L : Limits) → Small L → (P : ℕ) (bs : List ℕ) →
 read-then-bytes L small P bs bytes f e =
     let q = read-known L P bs f e .fields in
     let r : Read L P bs (fieldsOf (dimension P) bs) = subst (Read L P bs) q (read-known L P bs f e) in
-    let pass = r .accepted .pass in
     ap (frameBytes (dimension P)) q
-    ∙ bytes-are (dimension P) bs (frame-length P _ pass ∙ sym (r .count)) bytes (gives L small P bs r pass)
+    ∙ bytes-are (dimension P) bs (length-frame _ _ ∙ sym (r .count)) bytes (gives L small P bs r (r .accepted .pass))
 
 -- a frame that is read is written again wherever there is room
 pub read-then-write : (L : Limits) (P : ℕ) (bs : List ℕ) (f : Frame) → readFrame L P bs ≡ found f
