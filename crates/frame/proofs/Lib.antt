@@ -3,3 +3,4 @@ pub mod Pasting
 pub mod Shells
 pub mod Writing
 pub mod Gathering
+pub mod Answers
