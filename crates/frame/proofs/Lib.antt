@@ -3,6 +3,7 @@ pub mod Pasting
 pub mod Shells
 pub mod Writing
 pub mod Gathering
+pub mod Answers
 pub mod RoundTripRows
 pub mod RoundTripChecks
 pub mod RoundTripAccepted

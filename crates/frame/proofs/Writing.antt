@@ -100,5 +100,8 @@ pub length-frame : (p : ℕ) (f : Frame) → length (frameBytes p f) ≡ frameLe
 length-frame p f = go (ℕ-discrete (f .pass) 1)
   where
     go : Dec (f .pass ≡ 1) → length (frameBytes p f) ≡ frameLength p (f .pass) (f .dim)
-    go (yes e) = ?
-    go (no e) = ?
+    go (yes e) =
+        rw (first-bytes p f e, first-length p (f .pass) (f .dim) e)
+        (simp (length-append, length-shells, length-fourBytes) (omega arith))
+    go (no e) =
+        rw (second-bytes p f e, second-length p (f .pass) (f .dim) e) (simp (length-append, length-fourBytes))
