@@ -2,6 +2,8 @@ pub mod Words
 pub mod Pasting
 pub mod Shells
 pub mod Writing
+pub mod Gathering
+pub mod Answers
 pub mod RoundTripRows
 pub mod RoundTripChecks
 pub mod RoundTripAccepted

@@ -6,12 +6,13 @@ use mathlib.Core.List.{List, [], _∷_}
 use Prim.Native.Nat.{ℕ, _≤_, _<_}
 use native.Mathlib.Omega.{arith}
 use lib.Dec.{ltb, leb, eqb}
-use borrow.Author.Tests.{leb-true, leb-false, ltb-true, eqb-true, le-leb, lt-leb, lt-ltb, eq-eqb, ne-eqb}
-use Rattle.base.specs.Choice.{choose, both, either, every}
+use borrow.Author.Tests.{leb-true, leb-false, ltb-true, eqb-true, le-leb, lt-leb, eq-eqb, ne-eqb}
+use Rattle.base.specs.Choice.{choose, either, every}
 use Rattle.base.specs.Limits.{Limits, fieldLimit, width}
 use Rattle.base.specs.Refusal.{refused, found, Check, inOrder, number}
 use Rattle.base.proofs.Laws.{clash, choose-no, both-true, both-make, every-at, every-make}
 use Rattle.frame.specs.Frame.{sentAt, takenAt, hasShell, badStep, numberOk, numbersOk}
+use Rattle.frame.specs.Parts.{hasTallies, shellOk}
 use Rattle.frame.specs.declared.Frame.{Frame}
 
 -- ---- refusals in order
@@ -56,12 +57,8 @@ step-good p pass k (inr e) h = rw (ne-eqb pass 1 (λ q. omega arith), eq-eqb pas
 
 -- ---- a shell
 
-module _ (p k m : ℕ) where
-  pub shell-known : hasShell p k m ≡ true → (k ≤ m) × (m < p)
-  shell-known e = let q = both-true (leb k m) (ltb m p) e in (leb-true k m (q .0), ltb-true m p (q .1))
-
-  pub shell-good : k ≤ m → m < p → hasShell p k m ≡ true
-  shell-good a b = both-make (le-leb k m a) (lt-ltb m p b)
+pub shell-known : (p k m : ℕ) → hasShell p k m ≡ true → (k ≤ m) × (m < p)
+shell-known p k m e = let q = both-true (leb k m) (ltb m p) e in (leb-true k m (q .0), ltb-true m p (q .1))
 
 -- ---- the numbers of a frame
 
@@ -77,7 +74,7 @@ number-absent L false x e n = eqb-true x 0 e
 
 -- the frame has tallies of shell m
 abbrev pub tells : ℕ → Frame → ℕ → Bool
-tells p f m = both (eqb (f .pass) 1) (hasShell p (f .dim) m)
+tells p f m = hasTallies p (f .pass) (f .dim) m
 
 -- what `numbersOk` says, number by number
 pub record Numbers (L : Limits) (p : ℕ) (f : Frame) : Type 0 where
@@ -88,19 +85,10 @@ pub record Numbers (L : Limits) (p : ℕ) (f : Frame) : Type 0 where
   pub agreed : numberOk L (eqb (f .pass) 2) (f .agreed) ≡ true
 
 module _ (L : Limits) (p : ℕ) (f : Frame) where
-  sentOk : ℕ → Bool
-  sentOk m = numberOk L (tells p f m) (sentAt (f .sent) m)
-
-  takenOk : ℕ → Bool
-  takenOk m = numberOk L (tells p f m) (takenAt (f .taken) m)
-
-  shellOk : ℕ → Bool
-  shellOk m = both (sentOk m) (takenOk m)
-
   pub numbers-known : numbersOk L p f ≡ true → Numbers L p f
-  unfolding numbersOk sentOk takenOk shellOk
+  unfolding numbersOk shellOk
   numbers-known e =
-      let a = both-true (every 0 width shellOk) _ e in
+      let a = both-true (every 0 width (shellOk L p f)) _ e in
       let b = both-true (numberOk L true (f .issued .0)) _ (a .1) in
       let c = both-true (numberOk L (eqb (f .pass) 1) (f .received .0)) _ (b .1) in
       record {
@@ -111,8 +99,13 @@ module _ (L : Limits) (p : ℕ) (f : Frame) where
         agreed = c .1;
       }
     where
-      shell : every 0 width shellOk ≡ true → (m : ℕ) → m < width → (sentOk m ≡ true) × (takenOk m ≡ true)
-      shell e m h = both-true (sentOk m) (takenOk m) (every-at 0 width shellOk e m (omega arith) (omega arith))
+      ok : ℕ → ℕ → Bool
+      ok m x = numberOk L (tells p f m) x
+
+      shell : every 0 width (shellOk L p f) ≡ true → (m : ℕ) → m < width
+          → (ok m (sentAt (f .sent) m) ≡ true) × (ok m (takenAt (f .taken) m) ≡ true)
+      shell e m h =
+          both-true (ok m (sentAt (f .sent) m)) _ (every-at 0 width (shellOk L p f) e m (omega arith) (omega arith))
 
   pub numbers-good : Numbers L p f → numbersOk L p f ≡ true
   unfolding numbersOk

@@ -1,6 +1,5 @@
 -- The numbers of a frame stand where the reader looks for them, and its arrays hold the tallies of its shells.
 use mathlib.Core.Path.{_≡_, refl, sym, ap, _∙_, subst}
-use mathlib.Core.Logic.{_⊎_, inl, inr}
 use mathlib.Core.List.{List, [], _∷_, _++_}
 use Prim.Native.Nat.{ℕ, zero, suc, _+_, _-_, _*_, _≤_, _<_}
 use native.Mathlib.Omega.{arith}
@@ -9,16 +8,13 @@ use lib.Seq.{ext-getD}
 use borrow.Author.Tests.{eq-eqb, ne-eqb}
 use Rattle.base.specs.Choice.{list}
 use Rattle.base.specs.Limits.{width}
-use Rattle.base.proofs.Laws.{choose-yes, choose-no}
-use Rattle.tree.specs.Tree.{dimension}
-use Rattle.frame.specs.Frame.{sentNumber, takenNumber, sentAt, takenAt, numbersOf, frameBytes, numberAt, shellAt}
+use Rattle.base.proofs.Laws.{choose-yes, choose-no, length-list}
+use Rattle.frame.specs.Frame.{sentNumber, takenNumber, sentAt, takenAt, numbersOf, numberAt, shellAt}
 use Rattle.frame.specs.declared.Sent.{Sent}
 use Rattle.frame.specs.declared.Taken.{Taken}
 use Rattle.frame.specs.declared.Frame.{Frame}
-use Rattle.frame.proofs.Words.{length-bytesOf}
-use Rattle.frame.proofs.RoundTripRows.{Gives, length-list, getD-list, gives-join, gives-list, gives-rest}
-use Rattle.frame.proofs.RoundTripChecks.{shell-good}
-use Rattle.frame.proofs.RoundTripAccepted.{size, size-first, size-second}
+use Rattle.frame.proofs.Shells.{shell-there}
+use Rattle.frame.proofs.RoundTripRows.{Gives, getD-list, gives-join, gives-list, gives-rest}
 
 -- ---- arrays of tallies
 
@@ -61,11 +57,10 @@ module _ {A : Type 0} (kind : Kind A) where
   -- an array that lists the shells of bytes has their numbers
   pub array-reads : (p k : ℕ) → p ≤ width → (bs : List ℕ) (start : ℕ)
       → Tallies p k (numberAt bs) start (tallyAt (array (shellAt p k bs start)))
-  unfolding shellAt
   array-reads p k fits bs start m a b =
       ap (kind .number) (array-at (shellAt p k bs start) m (kind .tally 0) (omega arith))
       ∙ kind .same (shellAt p k bs start m)
-      ∙ choose-yes _ _ (shell-good p k m a b)
+      ∙ shell-there p k bs start m a b
 
 -- ---- the numbers of a frame are what g gives
 
@@ -100,8 +95,8 @@ module _ (p : ℕ) (f : Frame) where
   unfolding numbersOf
   second-row e = choose-no _ _ (ne-eqb (f .pass) 1 (λ q. omega arith))
 
-  pub first-length : f .pass ≡ 1 → length (numbersOf p f) ≡ 2 * (p - f .dim) + 2
-  first-length e =
+  pub first-row-length : f .pass ≡ 1 → length (numbersOf p f) ≡ 2 * (p - f .dim) + 2
+  first-row-length e =
       rw (first-row e)
       (omega (
         arith,
@@ -111,8 +106,8 @@ module _ (p : ℕ) (f : Frame) where
         length-list k d (takenAt (f .taken)),
       ))
 
-  pub second-length : f .pass ≡ 2 → length (numbersOf p f) ≡ 2
-  second-length e = rw (second-row e)
+  pub second-row-length : f .pass ≡ 2 → length (numbersOf p f) ≡ 2
+  second-row-length e = rw (second-row e)
 
   module _ (g : ℕ → ℕ) where
     pub first-known : f .pass ≡ 1 → f .dim < p → Gives g (numbersOf p f) → First p f g
@@ -154,11 +149,3 @@ module _ (p : ℕ) (f : Frame) where
         both zero l = h .agreed
         both (suc zero) l = h .issued
         both (suc (suc i)) l = absurd (omega arith)
-
--- the length of a frame's bytes
-pub frame-length : (P : ℕ) (f : Frame) → (f .pass ≡ 1) ⊎ (f .pass ≡ 2) → length (frameBytes (dimension P) f) ≡ size P f
-unfolding frameBytes
-frame-length P f (inl e) =
-    omega (arith, length-bytesOf (numbersOf (dimension P) f), first-length (dimension P) f e, size-first P f e)
-frame-length P f (inr e) =
-    omega (arith, length-bytesOf (numbersOf (dimension P) f), second-length (dimension P) f e, size-second P f e)

@@ -2,7 +2,7 @@
 use mathlib.Core.Path.{_≡_, refl, sym, ap, _∙_, subst}
 use mathlib.Core.Logic.{_⊎_, inl, inr}
 use mathlib.Core.List.{List, [], _∷_}
-use Prim.Native.Nat.{ℕ, suc, _+_, _-_, _*_, _≤_}
+use Prim.Native.Nat.{ℕ, _+_, _-_, _*_, _≤_}
 use native.Mathlib.Omega.{arith}
 use lib.ListN.{length, getD}
 use borrow.Author.Tests.{eq-eqb, ne-eqb}
@@ -10,14 +10,16 @@ use Rattle.base.specs.Limits.{Limits, width}
 use Rattle.base.specs.Refusal.{found}
 use Rattle.base.proofs.Laws.{choose-yes, choose-no}
 use Rattle.tree.specs.Tree.{dimension}
+use Rattle.frame.specs.Numbers.{wordAt}
 use Rattle.frame.specs.Frame.{numbersOf, frameBytes, numberAt, firstFields, secondFields, fieldsOf}
 use Rattle.frame.specs.Frame.{readFrame, writeFrame}
 use Rattle.frame.specs.declared.Frame.{Frame}
 use Rattle.frame.proofs.Words.{length-bytesOf}
-use Rattle.frame.proofs.RoundTripRows.{Gives, Bytes, word-on, words-there}
+use Rattle.frame.proofs.Writing.{length-frame}
+use Rattle.frame.proofs.RoundTripRows.{Gives, Bytes, word-on, bytes-on, words-there}
 use Rattle.frame.proofs.RoundTripAccepted.{Small, board-width, write-good, Read, read-known}
 use Rattle.frame.proofs.RoundTripAccepted.{head-pass, head-phase, head-dim, head-sender}
-use Rattle.frame.proofs.RoundTripNumbers.{sents, takens, array-reads, frame-length}
+use Rattle.frame.proofs.RoundTripNumbers.{sents, takens, array-reads}
 use Rattle.frame.proofs.RoundTripNumbers.{First, Second, first-good, second-good}
 
 -- ---- the numbers of the fields are those of the bytes
@@ -62,10 +64,8 @@ bytes-are p (x ∷ y ∷ z ∷ []) n small g = absurd (omega arith)
 bytes-are p (x ∷ y ∷ z ∷ w ∷ l) n small g =
     let bs : List ℕ = x ∷ y ∷ z ∷ w ∷ l in
     let ns = numbersOf p (fieldsOf p bs) in
-    let rest =
-    words-there ns l (omega (arith, length-bytesOf ns)) (λ i k. small (suc (suc (suc (suc i)))) (omega arith))
-    (λ i k. g i k ∙ word-on x y z w l (4 + 4 * i) (4 * i) refl)
-    in
+    let there : Gives (λ i. wordAt l (4 * i)) ns = λ i k. g i k ∙ word-on x y z w l (4 + 4 * i) (4 * i) refl in
+    let rest = words-there ns l (omega (arith, length-bytesOf ns)) (bytes-on x y z w l small) there in
     cc (head-pass p bs, head-phase p bs, head-dim p bs, head-sender p bs)
 
 -- ---- the theorems
@@ -76,9 +76,8 @@ pub read-then-bytes : (L : Limits) → Small L → (P : ℕ) (bs : List ℕ) →
 read-then-bytes L small P bs bytes f e =
     let q = read-known L P bs f e .fields in
     let r : Read L P bs (fieldsOf (dimension P) bs) = subst (Read L P bs) q (read-known L P bs f e) in
-    let pass = r .accepted .pass in
     ap (frameBytes (dimension P)) q
-    ∙ bytes-are (dimension P) bs (frame-length P _ pass ∙ sym (r .count)) bytes (gives L small P bs r pass)
+    ∙ bytes-are (dimension P) bs (length-frame _ _ ∙ sym (r .count)) bytes (gives L small P bs r (r .accepted .pass))
 
 -- a frame that is read is written again wherever there is room
 pub read-then-write : (L : Limits) (P : ℕ) (bs : List ℕ) (f : Frame) → readFrame L P bs ≡ found f

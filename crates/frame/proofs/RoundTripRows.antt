@@ -1,19 +1,17 @@
 -- Rows of numbers: parts of a row are read at their places, and bytes are those of the row of numbers that they give.
 use mathlib.Core.Path.{_≡_, refl, sym, ap, _∙_}
 use mathlib.Core.List.{List, [], _∷_, _++_}
-use Prim.Native.Nat.{ℕ, zero, suc, _+_, _-_, _*_, _/_, _≤_, _<_}
+use Prim.Native.Nat.{ℕ, zero, suc, _+_, _-_, _*_, _≤_, _<_}
 use native.Mathlib.Decide.{decLt}
 use native.Mathlib.Omega.{arith}
 use lib.ListN.{length, getD, length-append, List·getD-append}
 use lib.Seq.{getD-append-add}
 use Rattle.base.specs.Choice.{list}
+use Rattle.base.proofs.Laws.{length-list}
 use Rattle.frame.specs.Numbers.{fourBytes, bytesOf, wordAt}
+use Rattle.frame.proofs.Words.{four-of-digits}
 
 -- ---- listed values
-
-pub length-list : {A : Type 0} (start count : ℕ) (f : ℕ → A) → length (list start count f) ≡ count
-length-list start zero f = refl
-length-list start (suc count) f = ap suc (length-list (suc start) count f)
 
 pub getD-list : {A : Type 0} (start count : ℕ) (f : ℕ → A) (i : ℕ) (d : A) → i < count
     → getD (list start count f) i d ≡ f (start + i)
@@ -74,35 +72,43 @@ module _ (g : ℕ → ℕ) (start count : ℕ) (f : ℕ → ℕ) (rest : List �
 abbrev pub Bytes : List ℕ → Type 0
 Bytes bs = (i : ℕ) → i < length bs → getD bs i 0 < 256
 
-byte-on : (a b c d : ℕ) (l : List ℕ) (i j : ℕ) → i ≡ 4 + j → getD (a ∷ b ∷ c ∷ d ∷ l) i 0 ≡ getD l j 0
-byte-on a b c d l i j e = let z : i ≡ suc (suc (suc (suc j))) = omega arith in rw z
+-- four bytes, then others
+module _ (a b c d : ℕ) (l : List ℕ) where
+  abbrev all : List ℕ
+  all = a ∷ b ∷ c ∷ d ∷ l
 
--- a word after the first four bytes
-pub word-on : (a b c d : ℕ) (l : List ℕ) (i j : ℕ) → i ≡ 4 + j → wordAt (a ∷ b ∷ c ∷ d ∷ l) i ≡ wordAt l j
-unfolding wordAt
-word-on a b c d l i j e =
-    rw (
-      byte-on a b c d l i j e,
-      byte-on a b c d l (i + 1) (j + 1) (omega arith),
-      byte-on a b c d l (i + 2) (j + 2) (omega arith),
-      byte-on a b c d l (i + 3) (j + 3) (omega arith),
-    )
+  byte-on : (i j : ℕ) → i ≡ 4 + j → getD all i 0 ≡ getD l j 0
+  byte-on i j e = let z : i ≡ suc (suc (suc (suc j))) = omega arith in rw z
 
-four-there : (n a b c d : ℕ) → a < 256 → b < 256 → c < 256 → d < 256 → n ≡ a + 256 * b + 65536 * c + 16777216 * d
-    → fourBytes n ≡ a ∷ b ∷ c ∷ d ∷ []
-unfolding fourBytes
-four-there n a b c d ha hb hc hd e =
-    let x : n / 65536 ≡ c + 256 * d = omega arith in
-    let y : n / 16777216 ≡ d = omega arith in
-    rw (x, y) (same (omega arith) (omega arith) (omega arith) (omega arith))
-  where
-    same : {x y z w : ℕ} → x ≡ a → y ≡ b → z ≡ c → w ≡ d → x ∷ y ∷ z ∷ w ∷ [] ≡ a ∷ b ∷ c ∷ d ∷ []
-    same p q r s = cc
+  pub word-on : (i j : ℕ) → i ≡ 4 + j → wordAt all i ≡ wordAt l j
+  unfolding wordAt
+  word-on i j e =
+      rw (
+        byte-on i j e,
+        byte-on (i + 1) (j + 1) (omega arith),
+        byte-on (i + 2) (j + 2) (omega arith),
+        byte-on (i + 3) (j + 3) (omega arith),
+      )
+
+  pub bytes-on : Bytes all → Bytes l
+  bytes-on small i k = small (suc (suc (suc (suc i)))) (omega arith)
+
+  first-four : Bytes all → (n : ℕ) → n ≡ wordAt all 0 → fourBytes n ≡ a ∷ b ∷ c ∷ d ∷ []
+  unfolding wordAt
+  first-four small n e =
+      let w : a < 256 = small 0 (omega arith) in
+      let x : b < 256 = small 1 (omega arith) in
+      let y : c < 256 = small 2 (omega arith) in
+      let z : d < 256 = small 3 (omega arith) in
+      ap fourBytes e ∙ four-of-digits a b c d w x y z
+
+  rest-given : (n : ℕ) (ns : List ℕ) → Gives (λ i. wordAt all (4 * i)) (n ∷ ns) → Gives (λ i. wordAt l (4 * i)) ns
+  rest-given n ns g i k = g (suc i) (omega arith) ∙ word-on (4 * suc i) (4 * i) (omega arith)
 
 -- bytes are those of the numbers that they give
 pub words-there : (ns l : List ℕ) → length l ≡ 4 * length ns → Bytes l → Gives (λ i. wordAt l (4 * i)) ns
     → bytesOf ns ≡ l
-unfolding bytesOf wordAt
+unfolding bytesOf
 words-there [] [] e small g = refl
 words-there [] (x ∷ l) e small g = absurd (omega arith)
 words-there (n ∷ ns) [] e small g = absurd (omega arith)
@@ -110,12 +116,7 @@ words-there (n ∷ ns) (a ∷ []) e small g = absurd (omega arith)
 words-there (n ∷ ns) (a ∷ b ∷ []) e small g = absurd (omega arith)
 words-there (n ∷ ns) (a ∷ b ∷ c ∷ []) e small g = absurd (omega arith)
 words-there (n ∷ ns) (a ∷ b ∷ c ∷ d ∷ l) e small g =
-    let head =
-    four-there n a b c d (small 0 (omega arith)) (small 1 (omega arith)) (small 2 (omega arith)) (small 3 (omega arith))
-    (g 0 (omega arith))
-    in
-    let rest =
-    words-there ns l (omega arith) (λ i k. small (suc (suc (suc (suc i)))) (omega arith))
-    (λ i k. g (suc i) (omega arith) ∙ word-on a b c d l (4 * suc i) (4 * i) (omega arith))
-    in
-    rw (head, rest)
+    rw (
+      first-four a b c d l small n (g 0 (omega arith)),
+      words-there ns l (omega arith) (bytes-on a b c d l small) (rest-given a b c d l n ns g),
+    )

@@ -16,11 +16,14 @@ use Rattle.frame.specs.Frame.{sentNumber, takenNumber, numbersOf, frameB
 use Rattle.frame.specs.Frame.{fieldsOf, numberOk, readFrame, writeFrame}
 use Rattle.frame.specs.declared.Frame.{Frame}
 use Rattle.frame.proofs.Words.{number-back}
+use Rattle.frame.proofs.Writing.{length-frame}
 use Rattle.frame.proofs.RoundTripChecks.{shell-known, number-low, number-absent, tells, Numbers, numbers-known}
 use Rattle.frame.proofs.RoundTripAccepted.{Small, Shaped, Accepted, size, write-known, read-good}
-use Rattle.frame.proofs.RoundTripNumbers.{Kind, sents, takens, Tallies, tallyAt, array, array-back, frame-length}
-use Rattle.frame.proofs.RoundTripNumbers.{First, Second, first-length, second-length, first-known, second-known}
+use Rattle.frame.proofs.RoundTripNumbers.{Kind, sents, takens, Tallies, tallyAt, array, array-back}
+use Rattle.frame.proofs.RoundTripNumbers.{First, Second, first-known, second-known}
+use Rattle.frame.proofs.RoundTripNumbers.{first-row-length, second-row-length}
 
+-- frames are equal by their fields
 same-frame : {f g : Frame} → f .pass ≡ g .pass → f .phase ≡ g .phase → f .dim ≡ g .dim → f .sender ≡ g .sender
     → f .sent ≡ g .sent → f .taken ≡ g .taken → f .issued .0 ≡ g .issued .0 → f .received .0 ≡ g .received .0
     → f .agreed ≡ g .agreed → f ≡ g
@@ -71,7 +74,7 @@ module _ (L : Limits) (small : Small L) (P : ℕ) (f : Frame) (shaped : Shaped f
       there : hasShell p (f .dim) m ≡ true → numberAt bs (start + (m - f .dim)) ≡ x
       there e =
           let s = shell-known p (f .dim) m e in
-          let n = first-length p f one in
+          let n = first-row-length p f one in
           back (start + (m - f .dim)) x (omega arith) (t (s .0) (s .1)) (number-low L (tells p f m) x good)
 
       absent : hasShell p (f .dim) m ≡ false → 0 ≡ x
@@ -90,11 +93,12 @@ module _ (L : Limits) (small : Small L) (P : ℕ) (f : Frame) (shaped : Shaped f
         array-back kind l count (λ m. 0)
         (λ m h. sym (number-absent L (tells p f m) _ (good m h) (rw (ne-eqb (f .pass) 1 (λ q. omega arith)))))
 
+  -- the fields of a frame of pass 1, and of pass 2, are read back
   first-back : f .pass ≡ 1 → fieldsOf p bs ≡ f
   unfolding fieldsOf frameBytes
   first-back one =
       let t : First p f wrote = first-known p f wrote one (ok .dim) (λ i l. refl) in
-      let n = first-length p f one in
+      let n = first-row-length p f one in
       let low = number-low L (eqb (f .pass) 1) (f .received .0) (numbers .received) in
       choose-yes _ _ (eq-eqb (f .pass) 1 one)
       ∙ same-frame refl refl refl refl
@@ -108,7 +112,7 @@ module _ (L : Limits) (small : Small L) (P : ℕ) (f : Frame) (shaped : Shaped f
   unfolding fieldsOf frameBytes
   second-back two =
       let t : Second f wrote = second-known p f wrote two (λ i l. refl) in
-      let n = second-length p f two in
+      let n = second-row-length p f two in
       let low = number-low L (eqb (f .pass) 2) (f .agreed) (numbers .agreed) in
       let not-one = ne-eqb (f .pass) 1 (λ q. omega arith) in
       choose-no _ _ not-one
@@ -126,16 +130,14 @@ module _ (L : Limits) (small : Small L) (P : ℕ) (f : Frame) (shaped : Shaped f
   read-back : readFrame L P bs ≡ found f
   read-back =
       let same = fields-back (ok .pass) in
-      let count = frame-length P f (ok .pass) in
-      read-good L P bs (subst (Accepted L P) (sym same) ok) (count ∙ ap (size P) (sym same)) ∙ ap found same
+      read-good L P bs (subst (Accepted L P) (sym same) ok) (length-frame p f ∙ ap (size P) (sym same)) ∙ ap found same
 
 -- ---- the theorems
 
 -- a written frame has the length that the writer answers
 pub written-length : (L : Limits) (P : ℕ) (f : Frame) (room n : ℕ) → writeFrame L P f room ≡ found n
     → length (frameBytes (dimension P) f) ≡ n
-written-length L P f room n e =
-    let w = write-known L P f room n e in frame-length P f (w .accepted .pass) ∙ sym (w .count)
+written-length L P f room n e = length-frame (dimension P) f ∙ sym (write-known L P f room n e .count)
 
 -- a written frame is read back as it was
 pub write-then-read : (L : Limits) → Small L → (P : ℕ) (f : Frame) → Shaped f → (room n : ℕ)

@@ -57,10 +57,10 @@ unfolding tallies
 tallies-more {A} make k m bs start l x a b e f =
     let g : ℕ → A = λ j. make (shellAt (m + 1) k bs start j) in
     let v : make x ≡ g (0 + m) =
-        ap make (f ∙ sym (shell-there (m + 1) k bs start m a (omega arith))) ∙ ap g (sym (zero-add m)) in
+    ap make (f ∙ sym (shell-there (m + 1) k bs start m a (omega arith))) ∙ ap g (sym (zero-add m)) in
     rw (e, v)
     (list-set 0 8 (λ j. make (shellAt m k bs start j)) g m b
-      (λ j c d n. ap make (same j (λ z. n (z ∙ sym (zero-add m))) (decLe k j) (decLe (m + 1) j))))
+    (λ j c d n. ap make (same j (λ z. n (z ∙ sym (zero-add m))) (decLe k j) (decLe (m + 1) j))))
   where
     same : (j : ℕ) → (j ≡ m → ⊥) → Dec (k ≤ j) → Dec (m + 1 ≤ j) → shellAt m k bs start j ≡ shellAt (m + 1) k bs start j
     same j n (no h) d =

@@ -26,6 +26,10 @@ pub bytesOf-one : (x : ℕ) → bytesOf (x ∷ []) ≡ fourBytes x
 unfolding bytesOf fourBytes
 bytesOf-one x = refl
 
+pub bytesOf-two : (x y : ℕ) → bytesOf (x ∷ y ∷ []) ≡ fourBytes x ++ fourBytes y
+unfolding bytesOf fourBytes
+bytesOf-two x y = refl
+
 -- one number more at the end
 pub bytesOf-more : (xs : List ℕ) (x : ℕ) → bytesOf (xs ++ (x ∷ [])) ≡ bytesOf xs ++ fourBytes x
 bytesOf-more xs x = rw (bytesOf-append, bytesOf-one)

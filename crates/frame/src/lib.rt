@@ -408,7 +408,7 @@ pub fn read(nodes: u32, bytes: &[u8]) -> Reading
     if !numbers_ok(p, f) {
         return refused(10);
     }
-    if nodes <= wide(f.sender) {
+    if nodes <= wide(head.sender) {
         return refused(2);
     }
     Reading {

@@ -1,25 +1,37 @@
+-- `fields` is `fieldsOf`, by the pass.
+use borrow.Author.Tests.{eq-eqb, ne-eqb}
+use borrow.Author.Needs.{needs}
+use native.Mathlib.Omega.{arith}
+use mathlib.Core.Path.{_≡_, ap, _∙_, sym}
+use Rattle.frame.specs.declared.Frame.{Frame}
+use Rattle.frame.specs.Frame.{fieldsOf}
+use Rattle.frame.proofs.Writing.{first-length, second-length}
 use Rattle.frame.proofs.fields.Statement.{statement}
 use Rattle.frame.proofs.fields.Tie as tie
-use Rattle.frame.proofs.fields.Reads as reads
-use Rattle.frame.proofs.fields.Lts as lts
-use Rattle.frame.proofs.first_fields.Reads as first-fields-reads
-use Rattle.frame.proofs.second_fields.Reads as second-fields-reads
 
--- src/lib.rt:382:9
 first-fields-requires : tie.Need-first-fields-requires
-first-fields-requires c κs = ?
+first-fields-requires c κs =
+    let b = c .before .before .before in
+    let x = b .args in
+    (b .pre .0, search needs, search needs, omega (arith, first-length (x .p) (x .head .pass) (x .head .dim) (c .if1 .taken)))
 
--- src/lib.rt:384:9
 second-fields-requires : tie.Need-second-fields-requires
-second-fields-requires c κs = ?
+second-fields-requires c κs =
+    let b = c .before .before .before in
+    let x = b .args in
+    (b .pre .0, omega (arith, second-length (x .p) (x .head .pass) (x .head .dim) (c .if1 .left)))
 
--- src/lib.rt:377:1
 returns : tie.Need-returns
-returns c = ?
+unfolding fieldsOf
+returns c =
+    let b = c .before .before .before .before in
+    rw (eq-eqb _ _ (sym (ap (λ (f : Frame). f .pass) (b .pre .0)) ∙ c .before .if1 .taken)) (c .first-fields .ensures)
 
--- src/lib.rt:377:1
 returns-2 : tie.Need-returns-2
-returns-2 c = ?
+unfolding fieldsOf
+returns-2 c =
+    let b = c .before .before .before .before in
+    rw (ne-eqb _ _ (λ e. c .before .if1 .left (ap (λ (f : Frame). f .pass) (b .pre .0) ∙ e))) (c .second-fields .ensures)
 
 pub fields-spec : {M : Type 1} → statement M
 fields-spec = tie.close (tie.spec first-fields-requires second-fields-requires returns returns-2)

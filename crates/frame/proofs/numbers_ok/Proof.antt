@@ -1,26 +1,18 @@
+-- `numbers_ok` is `numbersOk`.
 use borrow.Author.Needs.{needs}
+use mathlib.Core.Path.{sym, _∙_}
+use Rattle.frame.specs.Frame.{numbersOk}
+use Rattle.frame.specs.Parts.{shellOk, totalsOk}
 use Rattle.frame.proofs.numbers_ok.Statement.{statement}
 use Rattle.frame.proofs.numbers_ok.Tie as tie
-use Rattle.frame.proofs.numbers_ok.Reads as reads
-use Rattle.frame.proofs.numbers_ok.Lts as lts
-use Rattle.frame.proofs.tallies_ok.Reads as tallies-ok-reads
-use Rattle.frame.proofs.totals_ok.Reads as totals-ok-reads
 
--- src/lib.rt:184:5
-tallies-ok-requires : tie.Need-tallies-ok-requires
-tallies-ok-requires c κs = search needs
-
--- src/lib.rt:184:25
-totals-ok-requires : tie.Need-totals-ok-requires
-totals-ok-requires c κs = search needs
-
--- src/lib.rt:181:1
 returns : tie.Need-returns
-returns c = ?
+unfolding numbersOk shellOk totalsOk
+returns c = rw (sym (c .before .before .tallies-ok .ensures), c .before .if1 .taken) (c .totals-ok .ensures)
 
--- src/lib.rt:181:1
 returns-2 : tie.Need-returns-2
-returns-2 c = ?
+unfolding numbersOk shellOk totalsOk
+returns-2 c = rw (sym (c .before .tallies-ok .ensures), c .if1 .left)
 
 pub numbers-ok-spec : {M : Type 1} → statement M
-numbers-ok-spec = tie.close (tie.spec tallies-ok-requires totals-ok-requires returns returns-2)
+numbers-ok-spec = tie.close (tie.spec (λ c κs. search needs) (λ c κs. search needs) returns returns-2)

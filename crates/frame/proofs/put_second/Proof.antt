@@ -1,32 +1,21 @@
+-- `put_second` puts the bytes of a frame of pass 2, piece after piece.
 use borrow.Author.Needs.{needs}
+use Rattle.frame.proofs.Writing.{second-written}
 use Rattle.frame.proofs.put_second.Statement.{statement}
 use Rattle.frame.proofs.put_second.Tie as tie
 use Rattle.frame.proofs.put_second.Reads as reads
 use Rattle.frame.proofs.put_second.Lts as lts
-use Rattle.frame.proofs.put_head.Reads as put-head-reads
-use Rattle.frame.proofs.put_word.Reads as put-word-reads
 
--- src/lib.rt:224:5
-put-head-requires : tie.Need-put-head-requires
-put-head-requires c κs = search needs
-
--- src/lib.rt:225:5
-put-word-requires : tie.Need-put-word-requires
-put-word-requires c κs = search needs
-
--- src/lib.rt:226:5
-put-word-requires-2 : tie.Need-put-word-requires-2
-put-word-requires-2 c κs = search needs
-
--- src/lib.rt:220:1
-same-length : tie.Need-same-length
-same-length c = search needs
-
--- src/lib.rt:220:1
 returns : tie.Need-returns
-returns c = ?
+returns c =
+    let g = c .before .before in
+    let h = g .before .before .before .before in
+    let i = h .before .before .before .before in
+    let b = i .before .before .before in
+    second-written (b .args .p) (b .args .f) _ _ _ _ (b .pre .0) (b .pre .1) (i .put-head .ensures) (h .put-word .ensures)
+    (g .put-word2 .ensures)
 
 pub put-second-spec : {M : Type 1} → statement M
 put-second-spec =
     tie.close
-    (tie.spec put-head-requires put-word-requires put-word-requires-2 same-length returns)
+    (tie.spec (λ c κs. search needs) (λ c κs. search needs) (λ c κs. search needs) (λ c. search needs) returns)

@@ -1,106 +1,109 @@
+-- `write` answers `writeFrame` and leaves `written`: each test is the definition's, in its order.
 use borrow.Author.Needs.{needs}
+use borrow.Author.Tests.{not-true, not-false}
+use native.Mathlib.Omega.{arith}
+use mathlib.Core.Path.{_≡_, sym, ap, _∙_}
+use mathlib.Core.Bool.{true, false}
+use Prim.Native.Nat.{ℕ, _≤_}
+use Rattle.base.specs.Limits.{base}
+use Rattle.tree.specs.Tree.{dimension}
+use Rattle.tree.specs.Lookups.{badBoard, foundAnswer}
+use Rattle.tree.proofs.Lookups.{dimension-refused, dimension-found}
+use Rattle.frame.specs.declared.Frame.{Frame}
+use Rattle.frame.specs.Frame.{badStep, numbersOk}
+use Rattle.frame.proofs.Answers.{write-board, write-step, write-numbers, write-stranger, write-buffer, write-found}
+use Rattle.frame.proofs.Answers.{write-no, write-yes, step-fits}
 use Rattle.frame.proofs.write.Statement.{statement}
 use Rattle.frame.proofs.write.Tie as tie
 use Rattle.frame.proofs.write.Reads as reads
 use Rattle.frame.proofs.write.Lts as lts
-use Rattle.frame.proofs.length_of.Reads as length-of-reads
-use Rattle.frame.proofs.numbers_ok.Reads as numbers-ok-reads
-use Rattle.frame.proofs.put_frame.Reads as put-frame-reads
-use Rattle.frame.proofs.step_bad.Reads as step-bad-reads
-use Rattle.frame.proofs.wide.Reads as wide-reads
-use Rattle.tree.proofs.dimension_of.Reads as dimension-of-reads
 
--- src/lib.rt:261:24
-dimension-of-requires : tie.Need-dimension-of-requires
-dimension-of-requires c κs = search needs
-
--- src/lib.rt:261:19
-enum-known-d : tie.Need-enum-known-d
-enum-known-d c = search needs
-
--- src/lib.rt:262:9
-enum-told : tie.Need-enum-told
-enum-told c = search needs
-
--- src/lib.rt:262:9
 returns : tie.Need-returns
-returns c = ?
+returns c =
+    let d = c .before .before .dimension-of in
+    write-no _ _ _ _ _
+    (write-board base _ _ _ (dimension-refused base _ _ (sym (d .ensures) ∙ ap foundAnswer (c .enum-told .given .1))))
 
--- src/lib.rt:264:13
-cast-p : tie.Need-cast-p
-cast-p c = search needs
+-- what is handed, and the dimension found
+abbrev nodes : tie.After-known-told → ℕ
+nodes k = k .before .before .before .before .before .args .nodes
 
--- src/lib.rt:265:13
-cast-k : tie.Need-cast-k
-cast-k c = search needs
+abbrev frame : tie.After-known-told → Frame
+frame k = k .before .before .before .before .before .args .f
 
--- src/lib.rt:266:8
-step-bad-requires : tie.Need-step-bad-requires
-step-bad-requires c κs = search needs
+abbrev dims : tie.After-known-told → ℕ
+dims k = k .before .d .given .0 .0
 
--- src/lib.rt:267:9
+known : (k : tie.After-known-told) → (badBoard base (nodes k) ≡ false) × (dims k ≡ dimension (nodes k))
+known k =
+    let d = k .before .before .before .dimension-of in
+    dimension-found base _ _ (sym (d .ensures) ∙ ap foundAnswer (k .before .d .given .1))
+
+-- the pass and the dimension are right
+step : (c : tie.Else1)
+    → let k = c .before .before .before in
+    badStep (dims k) (frame k .pass) (frame k .dim) ≡ false
+step c = sym (c .before .step-bad .ensures) ∙ c .if1 .left
+
+-- so there is room for its shells
+fits : (c : tie.Else1) → let k = c .before .before .before in (frame k .dim ≤ dims k) × (dims k ≤ 8)
+fits c =
+    let k = c .before .before .before in
+    step-fits _ _ (frame k .pass) _ (known k .0) (known k .1) (step c)
+
+-- the numbers are right
+numbers : (c : tie.Else2)
+    → let k = c .before .before .before .before .before in
+    numbersOk base (dims k) (frame k) ≡ true
+numbers c = sym (c .before .numbers-ok .ensures) ∙ not-false _ (c .if2 .left)
+
 returns-2 : tie.Need-returns-2
-returns-2 c = ?
+returns-2 c =
+    let k = known (c .before .before .before) in
+    write-no _ _ _ _ _ (write-step base _ _ _ _ (k .0) (k .1) (sym (c .before .step-bad .ensures) ∙ c .if1 .taken))
 
--- src/lib.rt:269:9
-numbers-ok-requires : tie.Need-numbers-ok-requires
-numbers-ok-requires c κs = search needs
-
--- src/lib.rt:270:9
 returns-3 : tie.Need-returns-3
-returns-3 c = ?
+returns-3 c =
+    let s = c .before .before in
+    let k = known (s .before .before .before) in
+    write-no _ _ _ _ _
+    (write-numbers base _ _ _ _ (k .0) (k .1) (step s) (sym (c .before .numbers-ok .ensures) ∙ not-true _ (c .if2 .taken)))
 
--- src/lib.rt:272:17
-wide-requires : tie.Need-wide-requires
-wide-requires c κs = search needs
-
--- src/lib.rt:273:9
 returns-4 : tie.Need-returns-4
-returns-4 c = ?
+returns-4 c =
+    let n = c .before .before in
+    let s = n .before .before in
+    let k = known (s .before .before .before) in
+    write-no _ _ _ _ _ (write-stranger base _ _ _ _ (k .0) (k .1) (step s) (numbers n) (omega arith))
 
--- src/lib.rt:275:9
 length-of-requires : tie.Need-length-of-requires
-length-of-requires c κs = ?
+length-of-requires c κs = fits (c .before .before .before .before)
 
--- src/lib.rt:277:9
 returns-5 : tie.Need-returns-5
-returns-5 c = ?
+returns-5 c =
+    let n = c .before .before .before .before in
+    let s = n .before .before in
+    let k = known (s .before .before .before) in
+    write-no _ _ _ _ _ (write-buffer base _ _ _ _ (k .0) (k .1) (step s) (numbers n) (omega arith) (omega arith))
 
--- src/lib.rt:279:5
 put-frame-requires : tie.Need-put-frame-requires
-put-frame-requires c κs = ?
+put-frame-requires c κs =
+    let h = fits (c .before .before .before .before .before .before .before) in
+    (h .0, h .1, omega arith)
 
--- src/lib.rt:280:15
-cast-t12 : tie.Need-cast-t12
-cast-t12 c = search needs
-
--- src/lib.rt:257:1
-same-length : tie.Need-same-length
-same-length c = search needs
-
--- src/lib.rt:257:1
 returns-6 : tie.Need-returns-6
-returns-6 c = ?
+returns-6 c =
+    let p = c .before .before in
+    let r = p .before .before in
+    let n = r .before .before .before .before in
+    let s = n .before .before in
+    let k = known (s .before .before .before) in
+    write-yes base _ _ _ _ _ _ (k .1) (r .before .length-of .ensures .0)
+    (write-found base _ _ _ _ (k .0) (k .1) (step s) (numbers n) (omega arith) (omega arith)) (p .put-frame .ensures)
 
 pub write-spec : {M : Type 1} → statement M
 write-spec =
     tie.close
-    (tie.spec
-    dimension-of-requires
-    enum-known-d
-    enum-told
-    returns
-    cast-p
-    cast-k
-    step-bad-requires
-    returns-2
-    numbers-ok-requires
-    returns-3
-    wide-requires
-    returns-4
-    length-of-requires
-    returns-5
-    put-frame-requires
-    cast-t12
-    same-length
-    returns-6)
+    (tie.spec (λ c κs. search needs) (λ c. search needs) (λ c. search needs) returns (λ c. search needs) (λ c. search needs)
+    (λ c κs. search needs) returns-2 (λ c κs. search needs) returns-3 (λ c κs. search needs) returns-4 length-of-requires
+    returns-5 put-frame-requires (λ c. search needs) (λ c. search needs) returns-6)
