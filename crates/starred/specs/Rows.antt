@@ -6,6 +6,10 @@ use Rattle.base.specs.Limits.{base}
 use Rattle.base.specs.Refusal.{Refusal, number, Answered, refused, found}
 use Rattle.tree.specs.Tree.{Place, alone, hermit, neighbour, messenger}
 use Rattle.tree.specs.Lookups.{dimensionLookup, placeLookup, distanceLookup}
+use Rattle.frame.specs.Frame.{frameLength}
+use Rattle.frame.specs.Timing.{timing}
+use Rattle.frame.specs.declared.Timing.{Timing}
+use Rattle.frame.specs.declared.Timing.the-variants.{Early, Late}
 
 -- what is asked of the definitions, and what they must answer
 pub data Row : Type 0 where
@@ -15,11 +19,17 @@ pub data Row : Type 0 where
   place : ℕ → ℕ → ℕ → Answered Place → Row
   -- P, node, node
   distance : ℕ → ℕ → ℕ → Answered ℕ → Row
+  -- p, dimension: the length of a pass 1 frame
+  firstLength : ℕ → ℕ → ℕ → Row
+  -- the phase bytes of a node and of a frame
+  phases : ℕ → ℕ → Timing → Row
 
 abbrev pub Holds : Row → Type 0
 Holds (dimension P x) = dimensionLookup base P ≡ x
 Holds (place P k a x) = placeLookup base P k a ≡ x
 Holds (distance P a b x) = distanceLookup base P a b ≡ x
+Holds (firstLength p k x) = frameLength p 1 k ≡ x
+Holds (phases node other x) = timing other node ≡ x
 
 abbrev pub All : List Row → Type 0
 All [] = Unit {0}
@@ -44,4 +54,10 @@ table =
     -- "P 6: distance of 1 and 2 is 1, of 2 and 5 is 2."
     ∷ distance 6 1 2 (found 1)
     ∷ distance 6 2 5 (found 2)
+    -- "Pass 1 length: p 8, k 0: 76; p 3, k 2: 20."
+    ∷ firstLength 8 0 76
+    ∷ firstLength 3 2 20
+    -- "Node phase 0, frame 255: late. Node 255, frame 0: early."
+    ∷ phases 0 255 Late
+    ∷ phases 255 0 Early
     ∷ []
