@@ -95,7 +95,8 @@ module _ (P a b : ℕ) (ha : a < P) (ne : a ≢ b) where
       top (no q) r = let z : k ≡ suc n = omega arith in subst (λ (k : ℕ). In (runOf P k a) b) (sym z) i
 
       go : (In (runOf P n a) b → (k : ℕ) → k ≤ n → Apart n k) → Dec (In (runOf P n a) b) → Dec (k ≤ n)
-          → (In (runOf P k a) b → distanceBelow P a b (suc n) < k) × (distanceBelow P a b (suc n) < k → In (runOf P k a) b)
+          → (In (runOf P k a) b → distanceBelow P a b (suc n) < k)
+          × (distanceBelow P a b (suc n) < k → In (runOf P k a) b)
       go ih (yes j) (yes q) = rw (below-together P a b n j) (ih j k q)
       go ih (yes j) (no q) =
           let s = ih j n (omega arith) .0 j in
@@ -157,7 +158,8 @@ module _ (P k a : ℕ) (l : k < dimension P) (ha : a < P) where
   shell-awaited w b q s =
       let d = s .2 in
       let up = nearer P a b ha (s .1) (s .0) (suc k) l (omega arith) in
-      joined-other b (joined P k a l ha w q) up (λ i. far k (omega arith) (near P a b ha (s .1) (s .0) k (omega arith) i))
+      joined-other b (joined P k a l ha w q) up (λ i. far k (omega arith)
+      (near P a b ha (s .1) (s .0) k (omega arith) i))
     where
       far : (k : ℕ) → k ≤ distance P a b → distance P a b < k → ⊥
       far k e f = omega arith

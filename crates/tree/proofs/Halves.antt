@@ -8,7 +8,8 @@ use native.Mathlib.Omega.{arith}
 use lib.Pow.{pow-mono}
 use Rattle.tree.specs.Tree.{dimension, root, left, part, runOf, awaited}
 use Rattle.tree.specs.declared.Run.{Run}
-use Rattle.tree.proofs.Runs.{In, size, run-is, part-left, part-right, run-has, run-same, run-step, run-top, run-large}
+use Rattle.tree.proofs.Runs.{In, size, run-is, part-left, part-right, run-has, run-same, run-step, run-top}
+use Rattle.tree.proofs.Runs.{run-large}
 use Rattle.tree.proofs.Places.{Sides, leftRight, rightLeft, awaited-side, awaited-in, alone-one}
 
 -- two runs side by side, that make up a third

@@ -28,10 +28,12 @@ dimension-refused L P x e = go (badBoard L P) e
     go true q = refl
     go false q = let z : _≡_ {A = ℕ} 0 1 = cc in absurd (omega arith)
 
-pub dimension-found : (L : Limits) (P p : ℕ) → dimensionLookup L P ≡ found p → (badBoard L P ≡ false) × (p ≡ dimension P)
+pub dimension-found : (L : Limits) (P p : ℕ) → dimensionLookup L P ≡ found p → (badBoard L P ≡ false)
+    × (p ≡ dimension P)
 unfolding dimensionLookup
 dimension-found L P p e = go (badBoard L P) e
   where
-    go : (t : Bool) → _≡_ {A = Answered ℕ} (choose t (refused 1) (found (dimension P))) (found p) → (t ≡ false) × (p ≡ dimension P)
+    go : (t : Bool) → _≡_ {A = Answered ℕ} (choose t (refused 1) (found (dimension P))) (found p) → (t ≡ false)
+        × (p ≡ dimension P)
     go true q = let z : _≡_ {A = ℕ} 0 1 = cc in absurd (omega arith)
     go false q = (refl, cc)

@@ -2,13 +2,15 @@
 use mathlib.Core.Path.{_≡_, refl, sym, ap, _∙_, subst}
 use mathlib.Core.Logic.{_≢_, _⊎_, inl, inr}
 use mathlib.Core.Option.{Option, none, some}
-use mathlib.Core.List.{List, [], _∷_, List·Memᴰ, List·Memᴰ·head, List·Memᴰ·tail, List·Memᴰ·not-nil, List·Memᴰ·cases-cons, List·Memᴰ·eq-of-singleton}
+use mathlib.Core.List.{List, [], _∷_, List·Memᴰ, List·Memᴰ·head, List·Memᴰ·tail, List·Memᴰ·not-nil}
+use mathlib.Core.List.{List·Memᴰ·cases-cons, List·Memᴰ·eq-of-singleton}
 use Prim.Native.Nat.{ℕ, suc, _+_, _-_, _≤_, _<_}
 use native.Mathlib.Decide.{decLe, ℕ-discrete}
 use native.Mathlib.Omega.{arith}
 use borrow.Author.Tests.{le-leb, lt-leb, lt-ltb, le-ltb, eq-eqb, ne-eqb}
 use Rattle.base.proofs.Laws.{choose-yes, choose-no}
-use Rattle.tree.specs.Tree.{middle, left, right, leftSize, rightSize, across, Place, alone, hermit, neighbour, messenger, placeIn, place, awaits, sendsTo, awaited, receivers, runOf}
+use Rattle.tree.specs.Tree.{middle, left, right, leftSize, rightSize, across, Place, alone, hermit, neighbour}
+use Rattle.tree.specs.Tree.{messenger, placeIn, place, awaits, sendsTo, awaited, receivers, runOf}
 use Rattle.tree.specs.declared.Run.{Run}
 use Rattle.tree.proofs.Runs.{In, run-has, run-same}
 
@@ -20,7 +22,11 @@ module _ (r : Run) (a : ℕ) where
 
   pub place-even : 0 < rightSize r → leftSize r ≤ rightSize r → placeIn r a ≡ neighbour (across r a)
   unfolding placeIn
-  place-even s e = rw (lt-ltb 0 (rightSize r) s, le-ltb (rightSize r) (leftSize r) e, ne-eqb (rightSize r) 0 (omega arith))
+  place-even s e = rw (
+    lt-ltb 0 (rightSize r) s,
+    le-ltb (rightSize r) (leftSize r) e,
+    ne-eqb (rightSize r) 0 (omega arith),
+  )
 
   module _ (s : 0 < rightSize r) (e : rightSize r < leftSize r) where
     pub place-hermit : a ≡ middle r → placeIn r a ≡ hermit (a + 1)
@@ -30,7 +36,12 @@ module _ (r : Run) (a : ℕ) where
     pub place-messenger : a ≡ middle r + 1 → placeIn r a ≡ messenger (across r a) (middle r)
     unfolding placeIn
     place-messenger m =
-        rw (lt-ltb 0 (rightSize r) s, lt-ltb (rightSize r) (leftSize r) e, ne-eqb a (middle r) (omega arith), eq-eqb a (middle r + 1) m)
+        rw (
+          lt-ltb 0 (rightSize r) s,
+          lt-ltb (rightSize r) (leftSize r) e,
+          ne-eqb a (middle r) (omega arith),
+          eq-eqb a (middle r + 1) m,
+        )
 
     pub place-plain : a ≢ middle r → a ≢ middle r + 1 → placeIn r a ≡ neighbour (across r a)
     unfolding placeIn
@@ -53,15 +64,20 @@ module _ (r : Run) (a : ℕ) where
 pub data PlaceIs (r : Run) (a : ℕ) : Place → Type 0 where
   isAlone : r .low ≡ r .high → PlaceIs r a alone
   isHermit : a ≡ middle r → 0 < rightSize r → rightSize r < leftSize r → PlaceIs r a (hermit (a + 1))
-  isMessenger : (b : ℕ) → a ≡ middle r + 1 → rightSize r < leftSize r → b ≡ r .low → PlaceIs r a (messenger b (middle r))
-  isLeft : (b : ℕ) → a ≤ middle r → a - r .low < rightSize r → b ≡ middle r + 1 + (a - r .low) → PlaceIs r a (neighbour b)
-  isRight : (b : ℕ) → middle r < a → (rightSize r < leftSize r → a ≢ middle r + 1) → b ≡ r .low + (a - (middle r + 1)) → PlaceIs r a (neighbour b)
+  isMessenger : (b : ℕ) → a ≡ middle r + 1 → rightSize r < leftSize r → b ≡ r .low
+      → PlaceIs r a (messenger b (middle r))
+  isLeft : (b : ℕ) → a ≤ middle r → a - r .low < rightSize r → b ≡ middle r + 1 + (a - r .low)
+      → PlaceIs r a (neighbour b)
+  isRight : (b : ℕ) → middle r < a → (rightSize r < leftSize r → a ≢ middle r + 1) → b ≡ r .low + (a - (middle r + 1))
+      → PlaceIs r a (neighbour b)
 
 pub place-is : (r : Run) (a : ℕ) → In r a → PlaceIs r a (placeIn r a)
 place-is r a h =
-    go (ℕ-discrete (rightSize r) 0) (decLe (leftSize r) (rightSize r)) (ℕ-discrete a (middle r)) (ℕ-discrete a (middle r + 1)) (decLe a (middle r))
+    go (ℕ-discrete (rightSize r) 0) (decLe (leftSize r) (rightSize r)) (ℕ-discrete a (middle r))
+    (ℕ-discrete a (middle r + 1)) (decLe a (middle r))
   where
-    beside : (0 < rightSize r) → (rightSize r < leftSize r → a ≢ middle r) → (rightSize r < leftSize r → a ≢ middle r + 1) → Dec (a ≤ middle r) → PlaceIs r a (neighbour (across r a))
+    beside : (0 < rightSize r) → (rightSize r < leftSize r → a ≢ middle r)
+        → (rightSize r < leftSize r → a ≢ middle r + 1) → Dec (a ≤ middle r) → PlaceIs r a (neighbour (across r a))
     beside s m n (yes l) = isLeft (across r a) l (go (decLe (leftSize r) (rightSize r))) (across-left r a l)
       where
         go : Dec (leftSize r ≤ rightSize r) → a - r .low < rightSize r
@@ -69,13 +85,18 @@ place-is r a h =
         go (no e) = let u : a ≢ middle r = m (omega arith) in omega arith
     beside s m n (no l) = isRight (across r a) (omega arith) n (across-right r a (omega arith))
 
-    go : Dec (rightSize r ≡ 0) → Dec (leftSize r ≤ rightSize r) → Dec (a ≡ middle r) → Dec (a ≡ middle r + 1) → Dec (a ≤ middle r) → PlaceIs r a (placeIn r a)
+    go : Dec (rightSize r ≡ 0) → Dec (leftSize r ≤ rightSize r) → Dec (a ≡ middle r) → Dec (a ≡ middle r + 1)
+        → Dec (a ≤ middle r) → PlaceIs r a (placeIn r a)
     go (yes z) e m n l = rw (place-alone r a z) (isAlone (omega arith))
-    go (no z) (yes e) m n l = rw (place-even r a (omega arith) e) (beside (omega arith) (λ f. absurd (omega arith)) (λ f. absurd (omega arith)) l)
-    go (no z) (no e) (yes m) n l = rw (place-hermit r a (omega arith) (omega arith) m) (isHermit m (omega arith) (omega arith))
+    go (no z) (yes e) m n l = rw (place-even r a (omega arith) e)
+        (beside (omega arith) (λ f. absurd (omega arith)) (λ f. absurd (omega arith)) l)
+    go (no z) (no e) (yes m) n l = rw (place-hermit r a (omega arith) (omega arith) m)
+        (isHermit m (omega arith) (omega arith))
     go (no z) (no e) (no m) (yes n) l =
-        rw (place-messenger r a (omega arith) (omega arith) n) (isMessenger (across r a) n (omega arith) (across-right r a (omega arith) ∙ (omega arith)))
-    go (no z) (no e) (no m) (no n) l = rw (place-plain r a (omega arith) (omega arith) m n) (beside (omega arith) (λ f. m) (λ f. n) l)
+        rw (place-messenger r a (omega arith) (omega arith) n)
+        (isMessenger (across r a) n (omega arith) (across-right r a (omega arith) ∙ (omega arith)))
+    go (no z) (no e) (no m) (no n) l = rw (place-plain r a (omega arith) (omega arith) m n)
+        (beside (omega arith) (λ f. m) (λ f. n) l)
 
 -- ---- who is awaited is on the other side, and receivers are those who await
 
@@ -106,7 +127,8 @@ module _ (r : Run) (a b : ℕ) (ha : In r a) (hb : In r b) where
   first e = List·Memᴰ·head e
 
   -- whom b awaits sends to b: b a hermit, in the left part, in the right part
-  to-hermit : {x : Place} → b ≡ middle r → a ≡ middle r + 1 → rightSize r < leftSize r → PlaceIs r a x → List·Memᴰ b (sendsTo x)
+  to-hermit : {x : Place} → b ≡ middle r → a ≡ middle r + 1 → rightSize r < leftSize r → PlaceIs r a x
+      → List·Memᴰ b (sendsTo x)
   to-hermit e f l (isAlone g) = absurd (omega arith)
   to-hermit e f l (isHermit g s m) = absurd (omega arith)
   to-hermit e f l (isMessenger u g m n) = List·Memᴰ·tail (List·Memᴰ·head e)
@@ -149,7 +171,8 @@ module _ (r : Run) (a b : ℕ) (ha : In r a) (hb : In r b) where
   from-right e f (isLeft u g m n) = ap some (omega arith)
   from-right e f (isRight u g m n) = absurd (omega arith)
 
-  from-messenger : {y : Place} → a ≡ middle r + 1 → rightSize r < leftSize r → b ≡ middle r → PlaceIs r b y → awaits y ≡ some a
+  from-messenger : {y : Place} → a ≡ middle r + 1 → rightSize r < leftSize r → b ≡ middle r → PlaceIs r b y
+      → awaits y ≡ some a
   from-messenger e l f (isAlone g) = absurd (omega arith)
   from-messenger e l f (isHermit g s m) = ap some (omega arith)
   from-messenger e l f (isMessenger u g m n) = absurd (omega arith)
@@ -168,7 +191,8 @@ told-in r a b h (isMessenger u e l f) m = go (List·Memᴰ·cases-cons m)
 told-in r a b h (isLeft u l m e) n = let z = List·Memᴰ·eq-of-singleton n in omega arith
 told-in r a b h (isRight u l m e) n = let z = List·Memᴰ·eq-of-singleton n in omega arith
 
-told : (r : Run) (a b : ℕ) {x y : Place} → In r a → In r b → PlaceIs r a x → PlaceIs r b y → List·Memᴰ b (sendsTo x) → awaits y ≡ some a
+told : (r : Run) (a b : ℕ) {x y : Place} → In r a → In r b → PlaceIs r a x → PlaceIs r b y → List·Memᴰ b (sendsTo x)
+    → awaits y ≡ some a
 told r a b ha hb (isAlone e) p m = absurd (List·Memᴰ·not-nil m)
 told r a b ha hb (isHermit e s l) p m = absurd (List·Memᴰ·not-nil m)
 told r a b {y = y} ha hb (isMessenger u e l f) p m = go (List·Memᴰ·cases-cons m)

@@ -80,7 +80,8 @@ below-small : (P n a k : ℕ) → a < P → P ≤ 2 ^ (n + k) → size (runBelow
 unfolding runBelow
 below-small P zero a k h f = let z : 0 + k ≡ k = omega arith in omega (arith, rw z at f)
 below-small P (suc n) a k h f =
-    go (below-small P n a (suc k) h (let z : suc n + k ≡ n + suc k = omega arith in rw z at f)) (parts (runBelow P n a) a (below-has P n a h))
+    go (below-small P n a (suc k) h (let z : suc n + k ≡ n + suc k = omega arith in rw z at f))
+    (parts (runBelow P n a) a (below-has P n a h))
   where
     r : Run
     r = runBelow P n a

@@ -10,7 +10,8 @@ returns : tie.Need-returns
 returns c = let x = c .before .before .before .args in sym (across-left (x .r) (x .node) (omega arith) ∙ (omega arith))
 
 returns-2 : tie.Need-returns-2
-returns-2 c = let x = c .before .before .before .args in sym (across-right (x .r) (x .node) (omega arith) ∙ (omega arith))
+returns-2 c = let x = c .before .before .before .args in
+    sym (across-right (x .r) (x .node) (omega arith) ∙ (omega arith))
 
 pub across-from-spec : {M : Type 1} → statement M
 across-from-spec =

@@ -27,7 +27,11 @@ unfolding dimensionLookup
 returns-4 c =
     let n = c .before .before .before .args .nodes in
     simp (ne-eqb _ _ (c .before .before .if1 .left), le-ltb _ _ (c .before .if2 .left))
-    (ap found (omega (arith, dimension-zeros 32 n (omega (arith, c .before .before .if1 .left, c .if3 .left)) (omega arith))))
+    (ap found (omega (
+      arith,
+      dimension-zeros 32 n (omega (arith, c .before .before .if1 .left, c .if3 .left))
+          (omega arith),
+    )))
 
 pub dimension-of-spec : {M : Type 1} → statement M
 dimension-of-spec =

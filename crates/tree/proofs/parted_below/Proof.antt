@@ -32,7 +32,8 @@ turn : (c : tie.After-part-of Inv-loop μ-loop)
     let l = c .before .before .loop in
     let x = c .before .before .before .args in
     (r ≡ runBelow (x .nodes) (x .p - (l .k - 1)) (x .a))
-    × (inside r (x .b) ≡ true → distanceBelow (x .nodes) (x .a) (x .b) (l .k - 1) ≡ distanceBelow (x .nodes) (x .a) (x .b) (l .k))
+    × (inside r (x .b) ≡ true → distanceBelow (x .nodes) (x .a) (x .b) (l .k - 1) ≡ distanceBelow (x .nodes) (x .a)
+    (x .b) (l .k))
     × (inside r (x .b) ≡ false → l .k - 1 ≡ distanceBelow (x .nodes) (x .a) (x .b) (l .k))
 turn c =
     let l = c .before .before .loop in

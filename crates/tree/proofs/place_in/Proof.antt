@@ -37,7 +37,8 @@ returns-5 : tie.Need-returns-5
 returns-5 c =
     let u = lopsided (c .before .before) in
     let m = sym (c .before .before .before .before .before .before .before .middle-of .ensures .0) in
-    let plain = place-plain _ _ (u .0) (u .1) (λ e. c .before .if3 .left (e ∙ m)) (λ e. c .if4 .left (e ∙ ap (λ x. x + 1) m)) in
+    let plain = place-plain _ _ (u .0) (u .1) (λ e. c .before .if3 .left (e ∙ m))
+    (λ e. c .if4 .left (e ∙ ap (λ x. x + 1) m)) in
     ap found (rw (c .before .before .before .across-from .ensures) (sym plain))
 
 pub place-in-spec : {M : Type 1} → statement M

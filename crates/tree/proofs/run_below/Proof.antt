@@ -22,10 +22,12 @@ loop-again : tie.Need-loop-again Inv-loop μ-loop
 loop-again c = (search needs, rw below-step (cc), search needs, search needs)
 
 returns : tie.Need-returns Inv-loop μ-loop
-returns c = let e : c .before .loop .i ≡ c .before .before .args .splits = omega arith in (cc, search needs, search needs)
+returns c = let e : c .before .loop .i ≡ c .before .before .args .splits = omega arith in
+    (cc, search needs, search needs)
 
 pub run-below-spec : {M : Type 1} → statement M
 run-below-spec =
     tie.close
-    (tie.spec Inv-loop μ-loop (λ c. search needs) loop-holds (λ c κs. search needs) (λ c. search needs) (λ c. search needs)
+    (tie.spec Inv-loop μ-loop (λ c. search needs) loop-holds (λ c κs. search needs) (λ c. search needs)
+    (λ c. search needs)
     loop-again returns)
