@@ -105,7 +105,7 @@ fields-requires : tie.Need-fields-requires
 fields-requires c κs =
     let h = c .before .before .before .before .before in
     let r = fits (c .before .before) in
-    (h .head-of .ensures, r .0, r .1, omega arith)
+    ((h .head-of .ensures, r .0, r .1), omega arith)
 
 -- the test of the numbers, of the bytes
 counted : (c : tie.After-numbers-ok)
