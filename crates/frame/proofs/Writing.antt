@@ -1,5 +1,5 @@
 -- Laws of a frame's bytes: how many there are, and that the pieces written one after the other are they.
-use mathlib.Core.Path.{_≡_, refl, sym, ap, _∙_}
+use mathlib.Core.Path.{_≡_, refl, ap, _∙_}
 use mathlib.Core.List.{List, _++_, append-assoc}
 use Prim.Native.Nat.{ℕ, _+_, _-_, _*_, _≤_}
 use native.Mathlib.Decide.{ℕ-discrete}
@@ -73,7 +73,8 @@ grow l s t bs cs n e h r g =
 
 pub first-written : (p : ℕ) (f : Frame) (l h a b c d : List ℕ) → 12 + 8 * (p - f .dim) ≤ length l
     → h ≡ pasted l 0 (headBytes f) → a ≡ pasted h 4 (sentBytes p f)
-    → b ≡ pasted a (4 + 4 * (p - f .dim)) (takenBytes p f) → c ≡ pasted b (4 + 8 * (p - f .dim)) (fourBytes (f .issued .0))
+    → b ≡ pasted a (4 + 4 * (p - f .dim)) (takenBytes p f)
+    → c ≡ pasted b (4 + 8 * (p - f .dim)) (fourBytes (f .issued .0))
     → d ≡ pasted c (8 + 8 * (p - f .dim)) (fourBytes (f .received .0)) → d ≡ pasted l 0 (firstBytes p f)
 first-written p f l h a b c d r eh ea eb ec ed =
     let n = p - f .dim in
@@ -93,7 +94,8 @@ first-written p f l h a b c d r eh ea eb ec ed =
     grow l c d bs3 (fourBytes (f .received .0)) (8 + 8 * n) g3 l3 (omega arith) ed
 
 pub second-written : (f : Frame) (l h a b : List ℕ) → 12 ≤ length l → h ≡ pasted l 0 (headBytes f)
-    → a ≡ pasted h 4 (fourBytes (f .agreed)) → b ≡ pasted a 8 (fourBytes (f .issued .0)) → b ≡ pasted l 0 (secondBytes f)
+    → a ≡ pasted h 4 (fourBytes (f .agreed)) → b ≡ pasted a 8 (fourBytes (f .issued .0))
+    → b ≡ pasted l 0 (secondBytes f)
 second-written f l h a b r eh ea eb =
     let lt = length-fourBytes (f .agreed) in
     let li = length-fourBytes (f .issued .0) in

@@ -8,7 +8,7 @@ use lib.ListN.{length, getD, take, drop}
 use Rattle.base.specs.Choice.{both, list}
 use Rattle.base.specs.Limits.{Limits, width}
 use Rattle.frame.specs.Numbers.{fourBytes, bytesOf}
-use Rattle.frame.specs.Frame.{sentNumber, takenNumber, sentAt, takenAt, hasShell, shellAt, numberOk, noFrame}
+use Rattle.frame.specs.Frame.{sentAt, takenAt, hasShell, shellAt, numberOk, noFrame}
 use Rattle.frame.specs.declared.Frame.{Frame}
 
 -- l with bs from `at` on

@@ -12,7 +12,8 @@ ghost use Rattle.frame.specs.Numbers.{fourBytes, bytesOf, wordAt};
 ghost use Rattle.frame.specs.Frame.{readFrame, reading, writeFrame, written, frameBytes, frameLength, badStep};
 ghost use Rattle.frame.specs.Frame.{numberOk, numbersOk, fieldsOf, firstFields, secondFields};
 ghost use Rattle.frame.specs.Frame.{sentNumber, takenNumber, sentAt, takenAt, noFrame};
-ghost use Rattle.frame.specs.Parts.{pasted, headBytes, headOf, firstBytes, secondBytes, tallies, hasTallies, pairOk, shellOk, totalsOk};
+ghost use Rattle.frame.specs.Parts.{pasted, headBytes, firstBytes, secondBytes};
+ghost use Rattle.frame.specs.Parts.{headOf, tallies, hasTallies, pairOk, shellOk, totalsOk};
 ghost use Rattle.frame.specs.Timing.{timing};
 use tree::Found;
 

@@ -1,12 +1,8 @@
 -- `pair_ok` is `pairOk`.
-use borrow.Author.Tests.{le-ltb, lt-ltb, le-leb, lt-leb, eq-eqb, ne-eqb, not-true, not-false}
 use mathlib.Core.Path.{sym}
 use borrow.Author.Needs.{needs}
 use Rattle.frame.proofs.pair_ok.Statement.{statement}
 use Rattle.frame.proofs.pair_ok.Tie as tie
-use Rattle.frame.proofs.pair_ok.Reads as reads
-use Rattle.frame.proofs.pair_ok.Lts as lts
-use Rattle.frame.proofs.number_ok.Reads as number-ok-reads
 
 number-ok-requires : tie.Need-number-ok-requires
 number-ok-requires c κs = search needs
