@@ -22,8 +22,11 @@ loop-again : tie.Need-loop-again Inv-loop μ-loop
 loop-again c =
     let b = c .before .before in
     let x = b .before .before .args in
-    let w = tallies-more sentNumber (x .k) (b .loop .m) _ (x .start) _ _ in
-    (search needs, search needs, w (b .loop .inv .0) (omega arith) (b .loop .inv .2) (c .word-at .ensures))
+    let i = b .loop .inv in (
+      search needs,
+      search needs,
+      tallies-more sentNumber (x .k) (b .loop .m) _ (x .start) _ _ (i .0) (omega arith) (i .2) (c .word-at .ensures),
+    )
 
 returns : tie.Need-returns Inv-loop μ-loop
 returns c = let e : c .before .loop .m ≡ c .before .before .before .args .p = omega arith in cc
