@@ -17,6 +17,9 @@ ghost use Rattle.frame.specs.Parts.{headOf, tallies, hasTallies, pairOk,
 ghost use Rattle.frame.specs.Timing.{timing};
 use tree::Found;
 
+// The largest number that a frame may hold.
+const LIMIT: u32 = 16776960;
+
 // A tally of messages sent.
 pub struct Sent(pub u32);
 
@@ -128,7 +131,7 @@ fn length_of(p: usize, pass: u8, k: usize) -> usize
 fn number_ok(has: bool, x: u32) -> bool
     ensures { λ r. ⌜ r ≡ numberOk base has x ⌝ }
 {
-    if has { x <= 16776960 } else { x == 0 }
+    if has { x <= LIMIT } else { x == 0 }
 }
 
 // A frame of this pass and dimension has tallies of shell m.
