@@ -1,12 +1,12 @@
 -- Laws of choice, of joined tests and of values listed by a rule.
 use mathlib.Core.Path.{_≡_, refl, sym, ap, _∙_}
 use mathlib.Core.Bool.{Bool, true, false}
-use mathlib.Core.List.{List, [], _∷_, _++_}
+use mathlib.Core.List.{[], _∷_, _++_}
 use Prim.Native.Nat.{ℕ, zero, suc, _+_, _-_, _≤_, _<_}
 use native.Mathlib.Decide.{ℕ-discrete}
 use native.Mathlib.Numerals.{add-one}
 use native.Mathlib.Omega.{arith}
-use lib.ListN.{length, getD, set}
+use lib.ListN.{length, set}
 use Rattle.base.specs.Choice.{choose, both, every, list}
 
 -- true is not false
@@ -82,9 +82,12 @@ pub list-set : {A : Type 0} (start count : ℕ) (f g : ℕ → A) (i : ℕ) → 
 list-set start zero f g i l h = absurd (omega arith)
 list-set start (suc count) f g zero l h =
     let e : start + 0 ≡ start = omega arith in
-    rw e (ap (λ r. g start ∷ r) (list-same (suc start) count f g (λ j a b. h j (omega arith) (omega arith) (λ z. omega arith))))
+    rw e
+    (ap (λ r. g start ∷ r)
+    (list-same (suc start) count f g (λ j a b. h j (omega arith) (omega arith) (λ z. omega arith))))
 list-set start (suc count) f g (suc i) l h =
     let e : start + suc i ≡ suc start + i = omega arith in
     rw (e, h start (omega arith) (omega arith) (λ z. omega arith))
     (ap (λ r. g start ∷ r)
-    (list-set (suc start) count f g i (omega arith) (λ j a b n. h j (omega arith) (omega arith) (λ z. n (omega arith)))))
+    (list-set (suc start) count f g i (omega arith)
+    (λ j a b n. h j (omega arith) (omega arith) (λ z. n (omega arith)))))

@@ -1,11 +1,11 @@
 -- Laws of the writer's and the reader's answers: each refusal in its order, and what is found when none is met.
-use mathlib.Core.Path.{_≡_, refl, sym, ap, _∙_}
+use mathlib.Core.Path.{_≡_, sym, ap, _∙_}
 use mathlib.Core.Bool.{Bool, true, false, not}
-use mathlib.Core.List.{List, _++_}
+use mathlib.Core.List.{List}
 use Prim.Native.Nat.{ℕ, _+_, _≤_, _<_}
 use native.Mathlib.Nat.{zero-add, le-of-lt}
-use lib.Dec.{ltb, leb, eqb}
-use lib.ListN.{length, getD, drop}
+use lib.Dec.{leb, eqb}
+use lib.ListN.{length, getD}
 use borrow.Author.Tests.{le-ltb, lt-ltb, le-leb, lt-leb, eq-eqb, ne-eqb, leb-false}
 use Rattle.base.specs.Choice.{either}
 use Rattle.base.specs.Limits.{Limits, base}
@@ -16,7 +16,8 @@ use Rattle.tree.specs.Lookups.{badBoard}
 use Rattle.tree.proofs.Dimension.{smallest}
 use Rattle.tree.proofs.Lookups.{board-good}
 use Rattle.frame.specs.declared.Frame.{Frame}
-use Rattle.frame.specs.Frame.{badStep, frameLength, frameBytes, numbersOk, fieldsOf, readFrame, writeFrame, over, written}
+use Rattle.frame.specs.Frame.{badStep, frameLength, frameBytes, numbersOk, fieldsOf}
+use Rattle.frame.specs.Frame.{readFrame, writeFrame, written}
 use Rattle.frame.specs.Parts.{pasted}
 use Rattle.frame.proofs.Writing.{length-frame}
 
@@ -29,7 +30,8 @@ step-below p pass k e = go (either (eqb pass 1) (eqb pass 2)) e
     go false q = clash q
 
 -- and there are at most 8 shells
-pub step-fits : (P p pass k : ℕ) → badBoard base P ≡ false → p ≡ dimension P → badStep p pass k ≡ false → (k ≤ p) × (p ≤ 8)
+pub step-fits : (P p pass k : ℕ) → badBoard base P ≡ false → p ≡ dimension P → badStep p pass k ≡ false
+    → (k ≤ p) × (p ≤ 8)
 step-fits P p pass k g e s =
     (le-of-lt (step-below p pass k s), rw e (smallest P 8 (board-good base P g .1)))
 

@@ -1,5 +1,5 @@
 -- Laws of the fields that a reader gathers: head, tallies and totals make the frame.
-use mathlib.Core.Path.{_≡_, refl, sym, ap, _∙_}
+use mathlib.Core.Path.{_≡_}
 use mathlib.Core.List.{List}
 use Prim.Native.Nat.{ℕ, _+_, _-_, _*_}
 use native.Mathlib.Omega.{arith}
@@ -43,7 +43,8 @@ withSecond h t x =
 
 pub first-read : (p : ℕ) (bs : List ℕ) (h : Frame) (a : List Sent) (b : List Taken) (x y : ℕ) → h ≡ headOf bs
     → a ≡ tallies sentNumber p (h .dim) bs 0 → b ≡ tallies takenNumber p (h .dim) bs (p - h .dim)
-    → x ≡ wordAt bs (4 + 8 * (p - h .dim)) → y ≡ wordAt bs (8 + 8 * (p - h .dim)) → withFirst h a b x y ≡ firstFields p bs
+    → x ≡ wordAt bs (4 + 8 * (p - h .dim)) → y ≡ wordAt bs (8 + 8 * (p - h .dim))
+    → withFirst h a b x y ≡ firstFields p bs
 unfolding tallies
 first-read p bs h a b x y e f g i j =
     let n : ℕ = p - getD bs 2 0 in

@@ -1,11 +1,11 @@
--- Laws of a buffer that is being written: four bytes put, one paste after another, and the numbers of shells one by one.
-use mathlib.Core.Path.{_≡_, refl, sym, ap, _∙_}
+-- Laws of a buffer that is being written: four bytes put, one paste after another, the numbers of shells one by one.
+use mathlib.Core.Path.{_≡_, sym, ap, _∙_}
 use mathlib.Core.List.{List, [], _∷_, _++_, append-assoc, append-nil}
-use Prim.Native.Nat.{ℕ, zero, suc, _+_, _-_, _*_, _≤_, _<_}
+use Prim.Native.Nat.{ℕ, suc, _+_, _-_, _*_, _≤_}
 use native.Mathlib.Nat.{add-zero}
 use native.Mathlib.Omega.{arith}
 use lib.ListN.{length, set, take, drop, length-append, length-drop, take-append-drop}
-use lib.Seq.{sets, sets-eq, take-at, drop-drop, drop-append-add, length-take-le}
+use lib.Seq.{sets-eq, take-at, drop-drop, drop-append-add, length-take-le}
 use Rattle.base.specs.Choice.{list}
 use Rattle.base.proofs.Laws.{length-list, list-more}
 use Rattle.frame.specs.Numbers.{fourBytes, bytesOf}
@@ -39,7 +39,8 @@ paste-more l at n bs cs e h =
     let lp : length p ≡ at + n = simp (length-append, length-take-le at l (omega arith)) (omega arith) in
     let k : at + length bs + length cs ≡ at + length (bs ++ cs) = simp length-append (omega arith) in
     let d : drop (at + n + length cs) (p ++ q) ≡ drop (at + length (bs ++ cs)) l =
-    rw (← lp) (drop-append-add p q (length cs) ∙ drop-drop (length cs) (at + length bs) l ∙ ap (λ (m : ℕ). drop m l) k) in
+    rw (← lp)
+    (drop-append-add p q (length cs) ∙ drop-drop (length cs) (at + length bs) l ∙ ap (λ (m : ℕ). drop m l) k) in
     rw (take-at p q (at + n) lp, d, append-assoc (take at l) bs cs)
 
 -- one turn of a loop that writes the number f m of each shell m, from k on

@@ -6,7 +6,7 @@ use Prim.Native.Nat.{ℕ, _+_, _-_, _≤_, _<_}
 use native.Mathlib.Decide.{decLe}
 use native.Mathlib.Nat.{zero-add}
 use native.Mathlib.Omega.{arith}
-use lib.Dec.{ltb, leb}
+use lib.Dec.{leb}
 use lib.ListN.{set}
 use borrow.Author.Tests.{le-ltb, lt-ltb, le-leb, lt-leb}
 use Rattle.base.specs.Choice.{both, list}
@@ -30,7 +30,8 @@ shell-high p k m a = rw (le-ltb m p a) (go (leb k m))
     go false = refl
 
 -- the number of a shell that the frame has, and of one that it doesn't have
-pub shell-there : (p k : ℕ) (bs : List ℕ) (start m : ℕ) → k ≤ m → m < p → shellAt p k bs start m ≡ numberAt bs (start + (m - k))
+pub shell-there : (p k : ℕ) (bs : List ℕ) (start m : ℕ) → k ≤ m → m < p
+    → shellAt p k bs start m ≡ numberAt bs (start + (m - k))
 unfolding shellAt
 shell-there p k bs start m a b = rw (shell-in p k m a b)
 
@@ -52,7 +53,8 @@ tallies-none make k bs start =
 
 -- one shell more
 pub tallies-more : {A : Type 0} (make : ℕ → A) (k m : ℕ) (bs : List ℕ) (start : ℕ) (l : List A) (x : ℕ) → k ≤ m → m < 8
-    → l ≡ tallies make m k bs start → x ≡ numberAt bs (start + (m - k)) → set l m (make x) ≡ tallies make (m + 1) k bs start
+    → l ≡ tallies make m k bs start → x ≡ numberAt bs (start + (m - k))
+    → set l m (make x) ≡ tallies make (m + 1) k bs start
 unfolding tallies
 tallies-more {A} make k m bs start l x a b e f =
     let g : ℕ → A = λ j. make (shellAt (m + 1) k bs start j) in

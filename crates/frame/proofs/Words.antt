@@ -47,9 +47,9 @@ digits x h =
 pub word-back : (a b : List ℕ) (x : ℕ) → x < 2 ^ 32 → wordAt (a ++ (fourBytes x ++ b)) (length a) ≡ x
 unfolding fourBytes wordAt
 word-back a b x h =
-    let l : List ℕ = a ++ (fourBytes x ++ b) in
-    let g : (i : ℕ) → getD l (length a + i) 0 ≡ getD (fourBytes x ++ b) i 0 = λ i. getD-append-add a (fourBytes x ++ b) i 0 in
-    let g0 : getD l (length a) 0 ≡ x % 256 = getD-append-seam a _ _ 0 in
+    let r : List ℕ = fourBytes x ++ b in
+    let g : (i : ℕ) → getD (a ++ r) (length a + i) 0 ≡ getD r i 0 = λ i. getD-append-add a r i 0 in
+    let g0 : getD (a ++ r) (length a) 0 ≡ x % 256 = getD-append-seam a _ _ 0 in
     rw (g0, g 1, g 2, g 3) (digits x h)
 
 -- the same, with the place given
@@ -64,7 +64,8 @@ number-back a [] b i l h = absurd (omega arith)
 number-back a (x ∷ xs) b zero l h =
     rw append-assoc (word-back-at a (bytesOf xs ++ b) x (length a + 4 * 0) (omega arith) h)
 number-back a (x ∷ xs) b (suc i) l h =
-    let e : length a + 4 * suc i ≡ length (a ++ fourBytes x) + 4 * i = simp (length-append, length-fourBytes) (omega arith) in
+    let e : length a + 4 * suc i ≡ length (a ++ fourBytes x) + 4 * i =
+    simp (length-append, length-fourBytes) (omega arith) in
     rw (e, append-assoc (fourBytes x) (bytesOf xs) b, ← append-assoc a (fourBytes x) (bytesOf xs ++ b))
     (number-back (a ++ fourBytes x) xs b i (omega arith) h)
 
@@ -100,8 +101,8 @@ pub bytes-back : (bs : List ℕ) (at : ℕ) → at + 4 ≤ length bs → ((i : �
     → fourBytes (wordAt bs at) ≡ take 4 (drop at bs)
 unfolding wordAt
 bytes-back bs at l h =
-    four-of-digits (getD bs at 0) (getD bs (at + 1) 0) (getD bs (at + 2) 0) (getD bs (at + 3) 0) (h at) (h (at + 1)) (h (at + 2))
-    (h (at + 3))
+    four-of-digits (getD bs at 0) (getD bs (at + 1) 0) (getD bs (at + 2) 0) (getD bs (at + 3) 0) (h at) (h (at + 1))
+    (h (at + 2)) (h (at + 3))
     ∙ sym (parts (drop at bs) (simp length-drop (omega arith)) (getD-drop at bs))
   where
     parts : (l : List ℕ) → 4 ≤ length l → ((i : ℕ) (d : ℕ) → getD l i d ≡ getD bs (at + i) d)

@@ -1,15 +1,14 @@
--- Definitions that only the contracts of private functions cite: a buffer in the course of being written, a frame of which
--- the head alone is read, and the test of one shell.
+-- Definitions that only the contracts of private functions cite: a buffer that is being written, a frame of which the
+-- head alone is read, and the tests of its numbers.
 use mathlib.Core.Bool.{Bool, true}
 use mathlib.Core.List.{List, [], _∷_, _++_}
-use Prim.Native.Nat.{ℕ, _+_}
+use Prim.Native.Nat.{ℕ, _+_, _-_}
 use lib.Dec.{eqb}
 use lib.ListN.{length, getD, take, drop}
 use Rattle.base.specs.Choice.{both, list}
 use Rattle.base.specs.Limits.{Limits, width}
-use Rattle.frame.specs.Frame.{sentNumber, takenNumber, sentAt, takenAt, hasShell, shellAt, numberOk, noFrame}
-use Rattle.frame.specs.declared.Sent.{Sent}
-use Rattle.frame.specs.declared.Taken.{Taken}
+use Rattle.frame.specs.Numbers.{fourBytes, bytesOf}
+use Rattle.frame.specs.Frame.{sentAt, takenAt, hasShell, shellAt, numberOk, noFrame}
 use Rattle.frame.specs.declared.Frame.{Frame}
 
 -- l with bs from `at` on
@@ -18,6 +17,18 @@ pasted l at bs = take at l ++ bs ++ drop (at + length bs) l
 
 abbrev pub headBytes : Frame → List ℕ
 headBytes f = f .pass ∷ f .phase ∷ f .dim ∷ f .sender ∷ []
+
+-- the pieces of a frame of pass 1 and of pass 2, as they are written
+abbrev pub firstBytes : ℕ → Frame → List ℕ
+firstBytes p f =
+    headBytes f
+    ++ bytesOf (list (f .dim) (p - f .dim) (sentAt (f .sent)))
+    ++ bytesOf (list (f .dim) (p - f .dim) (takenAt (f .taken)))
+    ++ fourBytes (f .issued .0)
+    ++ fourBytes (f .received .0)
+
+abbrev pub secondBytes : Frame → List ℕ
+secondBytes f = headBytes f ++ fourBytes (f .agreed) ++ fourBytes (f .issued .0)
 
 -- the frame with the head of given bytes
 abbrev pub headed : List ℕ → Frame → Frame

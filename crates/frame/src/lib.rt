@@ -1,9 +1,7 @@
 // Frames on a maker's links: a writer and a reader that undo each other, and the timing of a phase byte.
-// Any fields, bytes, buffer and number of nodes may be handed; what document 01 does not allow is refused with its number,
-// and a refused call leaves the buffer as it was.
+// Any fields, bytes, buffer and number of nodes may be handed; what document 01 does not allow is refused with its
+// number, and a refused call leaves the buffer as it was.
 ghost use mathlib.Core.Path.{_≡_};
-ghost use mathlib.Core.List.{_++_};
-ghost use mathlib.Core.Bool.{Bool};
 ghost use Prim.Native.Nat.{_+_, _-_, _*_, _≤_, _<_};
 ghost use lib.ListN.{length};
 ghost use Rattle.base.specs.Choice.{every, list};
@@ -12,11 +10,15 @@ ghost use Rattle.base.specs.Refusal.{refused as refusal};
 ghost use Rattle.tree.specs.Lookups.{foundAnswer};
 ghost use Rattle.frame.specs.Numbers.{fourBytes, bytesOf, wordAt};
 ghost use Rattle.frame.specs.Frame.{readFrame, reading, writeFrame, written, frameBytes, frameLength, badStep};
-ghost use Rattle.frame.specs.Frame.{hasShell, numberOk, numbersOk, fieldsOf, firstFields, secondFields};
+ghost use Rattle.frame.specs.Frame.{numberOk, numbersOk, fieldsOf, firstFields, secondFields};
 ghost use Rattle.frame.specs.Frame.{sentNumber, takenNumber, sentAt, takenAt, noFrame};
-ghost use Rattle.frame.specs.Parts.{pasted, headBytes, headOf, tallies, hasTallies, pairOk, shellOk, totalsOk};
+ghost use Rattle.frame.specs.Parts.{pasted, headBytes, firstBytes, secondBytes};
+ghost use Rattle.frame.specs.Parts.{headOf, tallies, hasTallies, pairOk, shellOk, totalsOk};
 ghost use Rattle.frame.specs.Timing.{timing};
 use tree::Found;
+
+// The largest number that a frame may hold.
+const LIMIT: u32 = 16776960;
 
 // A tally of messages sent.
 pub struct Sent(pub u32);
@@ -75,13 +77,14 @@ pub fn timing_of(other: u8, node: u8) -> Timing
 
 // ---- Bytes
 
+// A byte as a wider number.
 fn wide(x: u8) -> u32
     ensures { λ r. ⌜ (r ≡ x) × (r < 256) ⌝ }
 {
     x as u32
 }
 
-// The number's four bytes, low byte first, from a place on.
+// Puts a number's four bytes, low byte first, from a place on.
 fn put_word(s: &mut [u8], at: usize, x: u32)
     requires { ⌜ at + 4 ≤ length (now s) ⌝ }
     ensures { λ r. ⌜ now (s .exit) ≡ pasted (now (s .entry)) at (fourBytes x) ⌝ }
@@ -128,7 +131,7 @@ fn length_of(p: usize, pass: u8, k: usize) -> usize
 fn number_ok(has: bool, x: u32) -> bool
     ensures { λ r. ⌜ r ≡ numberOk base has x ⌝ }
 {
-    if has { x <= 16776960 } else { x == 0 }
+    if has { x <= LIMIT } else { x == 0 }
 }
 
 // A frame of this pass and dimension has tallies of shell m.
@@ -186,6 +189,7 @@ fn numbers_ok(p: usize, f: Frame) -> bool
 
 // ---- The writer
 
+// Puts the four head bytes.
 fn put_head(s: &mut [u8], f: Frame)
     requires { ⌜ 4 ≤ length (now s) ⌝ }
     ensures { λ r. ⌜ now (s .exit) ≡ pasted (now (s .entry)) 0 (headBytes f) ⌝ }
@@ -196,7 +200,7 @@ fn put_head(s: &mut [u8], f: Frame)
     s[3] = f.sender;
 }
 
-// The sent tallies of shells k to p - 1.
+// Puts the sent tallies of shells k to p - 1, from a place on.
 fn put_sent(s: &mut [u8], at: usize, p: usize, k: usize, l: [Sent; 8])
     requires { ⌜ (k ≤ p) × (p ≤ 8) × (at + 4 * (p - k) ≤ length (now s)) ⌝ }
     ensures { λ r. ⌜ now (s .exit) ≡ pasted (now (s .entry)) at (bytesOf (list k (p - k) (sentAt l))) ⌝ }
@@ -207,7 +211,7 @@ fn put_sent(s: &mut [u8], at: usize, p: usize, k: usize, l: [Sent; 8])
     }
 }
 
-// The taken tallies of shells k to p - 1.
+// Puts the taken tallies of shells k to p - 1, from a place on.
 fn put_taken(s: &mut [u8], at: usize, p: usize, k: usize, l: [Taken; 8])
     requires { ⌜ (k ≤ p) × (p ≤ 8) × (at + 4 * (p - k) ≤ length (now s)) ⌝ }
     ensures { λ r. ⌜ now (s .exit) ≡ pasted (now (s .entry)) at (bytesOf (list k (p - k) (takenAt l))) ⌝ }
@@ -218,9 +222,10 @@ fn put_taken(s: &mut [u8], at: usize, p: usize, k: usize, l: [Taken; 8])
     }
 }
 
+// Puts a frame of pass 1, in one walk.
 fn put_first(s: &mut [u8], p: usize, f: Frame)
-    requires { ⌜ (f .pass ≡ 1) × (f .dim ≤ p) × (p ≤ 8) × (12 + 8 * (p - f .dim) ≤ length (now s)) ⌝ }
-    ensures { λ r. ⌜ now (s .exit) ≡ pasted (now (s .entry)) 0 (frameBytes p f) ⌝ }
+    requires { ⌜ (f .dim ≤ p) × (p ≤ 8) × (12 + 8 * (p - f .dim) ≤ length (now s)) ⌝ }
+    ensures { λ r. ⌜ now (s .exit) ≡ pasted (now (s .entry)) 0 (firstBytes p f) ⌝ }
 {
     let k = f.dim as usize;
     let n = p - k;
@@ -233,15 +238,17 @@ fn put_first(s: &mut [u8], p: usize, f: Frame)
     put_word(&mut *s, 8 + 8 * n, f.received.0);
 }
 
-fn put_second(s: &mut [u8], p: usize, f: Frame)
-    requires { ⌜ ((f .pass ≡ 1) → ⊥) × (12 ≤ length (now s)) ⌝ }
-    ensures { λ r. ⌜ now (s .exit) ≡ pasted (now (s .entry)) 0 (frameBytes p f) ⌝ }
+// Puts a frame of pass 2, in one walk.
+fn put_second(s: &mut [u8], f: Frame)
+    requires { ⌜ 12 ≤ length (now s) ⌝ }
+    ensures { λ r. ⌜ now (s .exit) ≡ pasted (now (s .entry)) 0 (secondBytes f) ⌝ }
 {
     put_head(&mut *s, f);
     put_word(&mut *s, 4, f.agreed);
     put_word(&mut *s, 8, f.issued.0);
 }
 
+// Puts a frame, by its pass.
 fn put_frame(s: &mut [u8], p: usize, f: Frame)
     requires { ⌜ (f .dim ≤ p) × (p ≤ 8) × (frameLength p (f .pass) (f .dim) ≤ length (now s)) ⌝ }
     ensures { λ r. ⌜ now (s .exit) ≡ pasted (now (s .entry)) 0 (frameBytes p f) ⌝ }
@@ -249,7 +256,7 @@ fn put_frame(s: &mut [u8], p: usize, f: Frame)
     if f.pass == 1 {
         put_first(s, p, f);
     } else {
-        put_second(s, p, f);
+        put_second(s, f);
     }
 }
 
@@ -282,6 +289,7 @@ pub fn write(nodes: u32, f: Frame, buf: &mut [u8]) -> Found
 
 // ---- The reader
 
+// A frame of zeros.
 fn no_frame() -> Frame
     ensures { λ r. ⌜ r ≡ noFrame ⌝ }
 {
@@ -298,6 +306,7 @@ fn no_frame() -> Frame
     }
 }
 
+// What is answered with a refusal.
 fn refused(no: u8) -> Reading
     ensures { λ r. ⌜ r ≡ reading (refusal no) ⌝ }
 {
@@ -308,7 +317,7 @@ fn refused(no: u8) -> Reading
     }
 }
 
-// The head bytes, and no numbers yet.
+// The head, and no numbers yet.
 fn head_of(s: &[u8]) -> Frame
     requires { ⌜ 4 ≤ length (now s) ⌝ }
     ensures { λ r. ⌜ r ≡ headOf (now (s .entry)) ⌝ }
@@ -345,6 +354,7 @@ fn read_taken(s: &[u8], start: usize, p: usize, k: usize) -> [Taken; 8]
     l
 }
 
+// The fields of a frame of pass 1 whose head is read.
 fn first_fields(s: &[u8], p: usize, head: Frame) -> Frame
     requires { ⌜ (head ≡ headOf (now s)) × (head .dim ≤ p) × (p ≤ 8) × (12 + 8 * (p - head .dim) ≤ length (now s)) ⌝ }
     ensures { λ r. ⌜ r ≡ firstFields p (now (s .entry)) ⌝ }
@@ -363,6 +373,7 @@ fn first_fields(s: &[u8], p: usize, head: Frame) -> Frame
     f
 }
 
+// The fields of a frame of pass 2 whose head is read.
 fn second_fields(s: &[u8], head: Frame) -> Frame
     requires { ⌜ (head ≡ headOf (now s)) × (12 ≤ length (now s)) ⌝ }
     ensures { λ r. ⌜ r ≡ secondFields (now (s .entry)) ⌝ }
@@ -374,8 +385,10 @@ fn second_fields(s: &[u8], head: Frame) -> Frame
     f
 }
 
+// The fields of a frame whose head is read, by its pass.
 fn fields(s: &[u8], p: usize, head: Frame) -> Frame
-    requires { ⌜ (head ≡ headOf (now s)) × (head .dim ≤ p) × (p ≤ 8) × (frameLength p (head .pass) (head .dim) ≤ length (now s)) ⌝ }
+    requires head { ⌜ (head ≡ headOf (now s)) × (head .dim ≤ p) × (p ≤ 8) ⌝ }
+    requires room { ⌜ frameLength p (head .pass) (head .dim) ≤ length (now s) ⌝ }
     ensures { λ r. ⌜ r ≡ fieldsOf p (now (s .entry)) ⌝ }
 {
     if head.pass == 1 {

@@ -6,9 +6,10 @@ use Rattle.frame.proofs.first_fields.Tie as tie
 
 returns : tie.Need-returns
 returns c =
-    let b = c .before .before .before .before in
-    first-read _ _ _ _ _ _ _ (b .before .before .pre .0) (c .before .before .before .read-sent .ensures) (c .before .before .read-taken .ensures)
-    (c .before .word-at .ensures) (c .word-at2 .ensures)
+    let taken = c .before .before in
+    let sent = taken .before in
+    first-read _ _ _ _ _ _ _ (sent .before .before .before .pre .0) (sent .read-sent .ensures)
+    (taken .read-taken .ensures) (c .before .word-at .ensures) (c .word-at2 .ensures)
 
 pub first-fields-spec : {M : Type 1} → statement M
 first-fields-spec =

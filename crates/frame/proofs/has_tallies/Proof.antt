@@ -1,9 +1,7 @@
 -- `has_tallies` is `hasTallies`.
-use borrow.Author.Tests.{le-ltb, lt-ltb, le-leb, lt-leb, eq-eqb, ne-eqb, not-true, not-false}
+use borrow.Author.Tests.{le-leb, lt-leb, eq-eqb, ne-eqb}
 use Rattle.frame.proofs.has_tallies.Statement.{statement}
 use Rattle.frame.proofs.has_tallies.Tie as tie
-use Rattle.frame.proofs.has_tallies.Reads as reads
-use Rattle.frame.proofs.has_tallies.Lts as lts
 
 returns : tie.Need-returns
 returns c = simp (ne-eqb _ _ (c .if1 .taken))

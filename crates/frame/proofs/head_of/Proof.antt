@@ -6,8 +6,6 @@ use Rattle.frame.specs.declared.Frame.{Frame}
 use Rattle.frame.specs.Parts.{headed}
 use Rattle.frame.proofs.head_of.Statement.{statement}
 use Rattle.frame.proofs.head_of.Tie as tie
-use Rattle.frame.proofs.head_of.Reads as reads
-use Rattle.frame.proofs.head_of.Lts as lts
 
 returns : tie.Need-returns
 returns c =
@@ -17,4 +15,5 @@ returns c =
 pub head-of-spec : {M : Type 1} → statement M
 head-of-spec =
     tie.close
-    (tie.spec (λ c κs. search needs) (λ c. search needs) (λ c. search needs) (λ c. search needs) (λ c. search needs) returns)
+    (tie.spec (λ c κs. search needs) (λ c. search needs) (λ c. search needs) (λ c. search needs) (λ c. search needs)
+    returns)

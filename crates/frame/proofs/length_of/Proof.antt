@@ -5,8 +5,6 @@ use native.Mathlib.Omega.{arith}
 use Rattle.frame.specs.Frame.{frameLength}
 use Rattle.frame.proofs.length_of.Statement.{statement}
 use Rattle.frame.proofs.length_of.Tie as tie
-use Rattle.frame.proofs.length_of.Reads as reads
-use Rattle.frame.proofs.length_of.Lts as lts
 
 returns : tie.Need-returns
 unfolding frameLength

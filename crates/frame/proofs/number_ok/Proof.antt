@@ -1,8 +1,6 @@
 -- `number_ok` is `numberOk`.
 use Rattle.frame.proofs.number_ok.Statement.{statement}
 use Rattle.frame.proofs.number_ok.Tie as tie
-use Rattle.frame.proofs.number_ok.Reads as reads
-use Rattle.frame.proofs.number_ok.Lts as lts
 
 returns : tie.Need-returns
 returns c = simp (c .if1 .taken)

@@ -1,6 +1,6 @@
 -- `numbers_ok` is `numbersOk`.
 use borrow.Author.Needs.{needs}
-use mathlib.Core.Path.{sym, _∙_}
+use mathlib.Core.Path.{sym}
 use Rattle.frame.specs.Frame.{numbersOk}
 use Rattle.frame.specs.Parts.{shellOk, totalsOk}
 use Rattle.frame.proofs.numbers_ok.Statement.{statement}

@@ -1,18 +1,8 @@
 -- `pair_ok` is `pairOk`.
-use borrow.Author.Tests.{le-ltb, lt-ltb, le-leb, lt-leb, eq-eqb, ne-eqb, not-true, not-false}
-use mathlib.Core.Path.{sym}
 use borrow.Author.Needs.{needs}
+use mathlib.Core.Path.{sym}
 use Rattle.frame.proofs.pair_ok.Statement.{statement}
 use Rattle.frame.proofs.pair_ok.Tie as tie
-use Rattle.frame.proofs.pair_ok.Reads as reads
-use Rattle.frame.proofs.pair_ok.Lts as lts
-use Rattle.frame.proofs.number_ok.Reads as number-ok-reads
-
-number-ok-requires : tie.Need-number-ok-requires
-number-ok-requires c κs = search needs
-
-number-ok-requires-2 : tie.Need-number-ok-requires-2
-number-ok-requires-2 c κs = search needs
 
 returns : tie.Need-returns
 returns c = simp (sym (c .before .before .number-ok .ensures), c .before .if1 .taken) (c .number-ok2 .ensures)
@@ -21,4 +11,4 @@ returns-2 : tie.Need-returns-2
 returns-2 c = simp (sym (c .before .number-ok .ensures), c .if1 .left)
 
 pub pair-ok-spec : {M : Type 1} → statement M
-pair-ok-spec = tie.close (tie.spec number-ok-requires number-ok-requires-2 returns returns-2)
+pair-ok-spec = tie.close (tie.spec (λ c κs. search needs) (λ c κs. search needs) returns returns-2)

@@ -5,8 +5,6 @@ use lib.ListN.{length-set}
 use Rattle.frame.proofs.Pasting.{put-four}
 use Rattle.frame.proofs.put_head.Statement.{statement}
 use Rattle.frame.proofs.put_head.Tie as tie
-use Rattle.frame.proofs.put_head.Reads as reads
-use Rattle.frame.proofs.put_head.Lts as lts
 
 returns : tie.Need-returns
 returns c = put-four _ 0 _ _ _ _ (c .pre)

@@ -3,17 +3,15 @@ use borrow.Author.Needs.{needs}
 use Rattle.frame.proofs.Writing.{second-written}
 use Rattle.frame.proofs.put_second.Statement.{statement}
 use Rattle.frame.proofs.put_second.Tie as tie
-use Rattle.frame.proofs.put_second.Reads as reads
-use Rattle.frame.proofs.put_second.Lts as lts
 
 returns : tie.Need-returns
 returns c =
-    let g = c .before .before in
-    let h = g .before .before .before .before in
-    let i = h .before .before .before .before in
-    let b = i .before .before .before in
-    second-written (b .args .p) (b .args .f) _ _ _ _ (b .pre .0) (b .pre .1) (i .put-head .ensures) (h .put-word .ensures)
-    (g .put-word2 .ensures)
+    let issued = c .before .before in
+    let agreed = issued .before .before .before .before in
+    let head = agreed .before .before .before .before in
+    let start = head .before .before .before in
+    second-written (start .args .f) _ _ _ _ (start .pre) (head .put-head .ensures) (agreed .put-word .ensures)
+    (issued .put-word2 .ensures)
 
 pub put-second-spec : {M : Type 1} → statement M
 put-second-spec =

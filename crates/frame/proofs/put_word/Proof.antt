@@ -6,8 +6,6 @@ use Rattle.frame.specs.Numbers.{fourBytes}
 use Rattle.frame.proofs.Pasting.{put-four}
 use Rattle.frame.proofs.put_word.Statement.{statement}
 use Rattle.frame.proofs.put_word.Tie as tie
-use Rattle.frame.proofs.put_word.Reads as reads
-use Rattle.frame.proofs.put_word.Lts as lts
 
 returns : tie.Need-returns
 unfolding fourBytes

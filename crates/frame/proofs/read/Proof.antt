@@ -3,10 +3,10 @@ use borrow.Author.Needs.{needs}
 use borrow.Author.Tests.{not-true, not-false}
 use native.Mathlib.Omega.{arith}
 use mathlib.Core.Path.{_≡_, sym, ap, _∙_}
-use mathlib.Core.Bool.{true, false}
+use mathlib.Core.Bool.{false}
 use mathlib.Core.List.{List}
-use Prim.Native.Nat.{ℕ, _≤_, _<_}
-use lib.ListN.{length, getD}
+use Prim.Native.Nat.{ℕ, _≤_}
+use lib.ListN.{getD}
 use denote.Ref.{now}
 use Rattle.base.specs.Limits.{base}
 use Rattle.base.specs.Refusal.{found}
@@ -19,8 +19,6 @@ use Rattle.frame.proofs.Answers.{read-board, read-short, read-step, rea
 use Rattle.frame.proofs.Answers.{read-found, step-fits}
 use Rattle.frame.proofs.read.Statement.{statement}
 use Rattle.frame.proofs.read.Tie as tie
-use Rattle.frame.proofs.read.Reads as reads
-use Rattle.frame.proofs.read.Lts as lts
 
 returns : tie.Need-returns
 returns c =
@@ -88,7 +86,8 @@ stated : (c : tie.After-length-of)
     c .length-of .result ≡ frameLength (dims k) (getD (bytes k) 0 0) (getD (bytes k) 2 0)
 stated c =
     let h = c .before .before .before .before in
-    c .length-of .ensures .0 ∙ ap (λ (f : Frame). frameLength (dims (h .before .before)) (f .pass) (f .dim)) (h .head-of .ensures)
+    let k = h .before .before in
+    c .length-of .ensures .0 ∙ ap (λ (f : Frame). frameLength (dims k) (f .pass) (f .dim)) (h .head-of .ensures)
 
 returns-4 : tie.Need-returns-4
 returns-4 c =
@@ -105,7 +104,7 @@ fields-requires : tie.Need-fields-requires
 fields-requires c κs =
     let h = c .before .before .before .before .before in
     let r = fits (c .before .before) in
-    (h .head-of .ensures, r .0, r .1, omega arith)
+    ((h .head-of .ensures, r .0, r .1), omega arith)
 
 -- the test of the numbers, of the bytes
 counted : (c : tie.After-numbers-ok)
@@ -165,6 +164,7 @@ pub read-spec : {M : Type 1} → statement M
 read-spec =
     tie.close
     (tie.spec (λ c κs. search needs) (λ c. search needs) (λ c. search needs) (λ c κs. search needs) returns
-    (λ c κs. search needs) returns-2 (λ c κs. search needs) (λ c. search needs) (λ c. search needs) (λ c κs. search needs)
-    (λ c κs. search needs) returns-3 length-of-requires (λ c κs. search needs) returns-4 fields-requires
-    (λ c κs. search needs) (λ c κs. search needs) returns-5 (λ c κs. search needs) (λ c κs. search needs) returns-6 returns-7)
+    (λ c κs. search needs) returns-2 (λ c κs. search needs) (λ c. search needs) (λ c. search needs)
+    (λ c κs. search needs) (λ c κs. search needs) returns-3 length-of-requires (λ c κs. search needs) returns-4
+    fields-requires (λ c κs. search needs) (λ c κs. search needs) returns-5 (λ c κs. search needs)
+    (λ c κs. search needs) returns-6 returns-7)

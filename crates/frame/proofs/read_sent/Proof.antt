@@ -1,15 +1,13 @@
 -- `read_sent`: before shell m is read, the tallies are those of a frame with the shells k to m - 1.
 use borrow.Author.Needs.{needs}
 use native.Mathlib.Omega.{arith}
-use mathlib.Core.Path.{_≡_, sym, ap, _∙_}
-use Prim.Native.Nat.{ℕ, _≤_, _-_}
+use mathlib.Core.Path.{_≡_}
+use Prim.Native.Nat.{_≤_, _-_}
 use Rattle.frame.specs.Frame.{sentNumber}
 use Rattle.frame.specs.Parts.{tallies}
 use Rattle.frame.proofs.Shells.{tallies-none, tallies-more}
 use Rattle.frame.proofs.read_sent.Statement.{statement}
 use Rattle.frame.proofs.read_sent.Tie as tie
-use Rattle.frame.proofs.read_sent.Reads as reads
-use Rattle.frame.proofs.read_sent.Lts as lts
 
 abbrev Inv-loop : tie.InvT-loop
 Inv-loop s start p k l₀ m₀ l m = (k ≤ m) × (m ≤ p) × (l ≡ tallies sentNumber m k s start)
@@ -24,8 +22,11 @@ loop-again : tie.Need-loop-again Inv-loop μ-loop
 loop-again c =
     let b = c .before .before in
     let x = b .before .before .args in
-    let w = tallies-more sentNumber (x .k) (b .loop .m) _ (x .start) _ _ in
-    (search needs, search needs, w (b .loop .inv .0) (omega arith) (b .loop .inv .2) (c .word-at .ensures))
+    let i = b .loop .inv in (
+      search needs,
+      search needs,
+      tallies-more sentNumber (x .k) (b .loop .m) _ (x .start) _ _ (i .0) (omega arith) (i .2) (c .word-at .ensures),
+    )
 
 returns : tie.Need-returns Inv-loop μ-loop
 returns c = let e : c .before .loop .m ≡ c .before .before .before .args .p = omega arith in cc
@@ -34,4 +35,5 @@ pub read-sent-spec : {M : Type 1} → statement M
 read-sent-spec =
     tie.close
     (tie.spec Inv-loop μ-loop loop-holds (λ c. search needs) (λ c. search needs) (λ c. search needs) (λ c. search needs)
-    (λ c κs. search needs) (λ c. search needs) (λ c. search needs) (λ c. search needs) (λ c. search needs) loop-again returns)
+    (λ c κs. search needs) (λ c. search needs) (λ c. search needs) (λ c. search needs) (λ c. search needs) loop-again
+    returns)

@@ -2,8 +2,6 @@
 use borrow.Author.Needs.{needs}
 use Rattle.frame.proofs.refused.Statement.{statement}
 use Rattle.frame.proofs.refused.Tie as tie
-use Rattle.frame.proofs.refused.Reads as reads
-use Rattle.frame.proofs.refused.Lts as lts
 
 returns : tie.Need-returns
 returns c = cc

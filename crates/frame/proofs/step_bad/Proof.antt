@@ -9,8 +9,6 @@ use lib.Dec.{eqb}
 use Rattle.base.specs.Choice.{either}
 use Rattle.frame.proofs.step_bad.Statement.{statement}
 use Rattle.frame.proofs.step_bad.Tie as tie
-use Rattle.frame.proofs.step_bad.Reads as reads
-use Rattle.frame.proofs.step_bad.Lts as lts
 
 one-or-two : (x : ℕ) → 1 ≤ x → x < 3 → either (eqb x 1) (eqb x 2) ≡ true
 one-or-two x a b = go (ℕ-discrete x 1)

@@ -1,17 +1,14 @@
 -- `tallies_ok`: what is left to test at shell m is the test of the shells from m on.
 use borrow.Author.Needs.{needs}
 use borrow.Author.Tests.{not-true, not-false}
-use mathlib.Core.Path.{_≡_, refl, sym, ap, _∙_}
-use mathlib.Core.Bool.{Bool}
+use mathlib.Core.Path.{_≡_, refl, sym, _∙_}
 use Prim.Native.Nat.{_+_, _-_, _≤_}
 use Rattle.base.specs.Choice.{both, every}
 use Rattle.base.specs.Limits.{base, width}
 use Rattle.base.proofs.Laws.{every-here, every-end}
-use Rattle.frame.specs.Parts.{pairOk, shellOk}
+use Rattle.frame.specs.Parts.{shellOk}
 use Rattle.frame.proofs.tallies_ok.Statement.{statement}
 use Rattle.frame.proofs.tallies_ok.Tie as tie
-use Rattle.frame.proofs.tallies_ok.Reads as reads
-use Rattle.frame.proofs.tallies_ok.Lts as lts
 
 abbrev Inv-loop : tie.InvT-loop
 Inv-loop p f k m₀ m = (m ≤ 8) × (every 0 width (shellOk base p f) ≡ every m (8 - m) (shellOk base p f))

@@ -7,8 +7,6 @@ use Prim.Native.Nat.{ℕ, _+_, _%_, _<_}
 use Rattle.frame.specs.Timing.{difference, timing}
 use Rattle.frame.proofs.timing_of.Statement.{statement}
 use Rattle.frame.proofs.timing_of.Tie as tie
-use Rattle.frame.proofs.timing_of.Reads as reads
-use Rattle.frame.proofs.timing_of.Lts as lts
 
 wrapped : (f n d : ℕ) → f < 256 → n < 256 → d < 256 → (d + n) % 256 ≡ f → difference f n ≡ d
 wrapped f n d hf hn hd e = omega arith

@@ -3,8 +3,6 @@ use borrow.Author.Needs.{needs}
 use Rattle.frame.specs.Numbers.{wordAt}
 use Rattle.frame.proofs.word_at.Statement.{statement}
 use Rattle.frame.proofs.word_at.Tie as tie
-use Rattle.frame.proofs.word_at.Reads as reads
-use Rattle.frame.proofs.word_at.Lts as lts
 
 returns : tie.Need-returns
 unfolding wordAt

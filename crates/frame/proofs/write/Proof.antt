@@ -11,12 +11,10 @@ use Rattle.tree.specs.Lookups.{badBoard, foundAnswer}
 use Rattle.tree.proofs.Lookups.{dimension-refused, dimension-found}
 use Rattle.frame.specs.declared.Frame.{Frame}
 use Rattle.frame.specs.Frame.{badStep, numbersOk}
-use Rattle.frame.proofs.Answers.{write-board, write-step, write-numbers, write-stranger, write-buffer, write-found}
-use Rattle.frame.proofs.Answers.{write-no, write-yes, step-fits}
+use Rattle.frame.proofs.Answers.{write-board, write-step, write-numbers, write-stranger, write-buffer}
+use Rattle.frame.proofs.Answers.{write-found, write-no, write-yes, step-fits}
 use Rattle.frame.proofs.write.Statement.{statement}
 use Rattle.frame.proofs.write.Tie as tie
-use Rattle.frame.proofs.write.Reads as reads
-use Rattle.frame.proofs.write.Lts as lts
 
 returns : tie.Need-returns
 returns c =
@@ -67,7 +65,8 @@ returns-3 c =
     let s = c .before .before in
     let k = known (s .before .before .before) in
     write-no _ _ _ _ _
-    (write-numbers base _ _ _ _ (k .0) (k .1) (step s) (sym (c .before .numbers-ok .ensures) ∙ not-true _ (c .if2 .taken)))
+    (write-numbers base _ _ _ _ (k .0) (k .1) (step s)
+    (sym (c .before .numbers-ok .ensures) ∙ not-true _ (c .if2 .taken)))
 
 returns-4 : tie.Need-returns-4
 returns-4 c =
@@ -104,6 +103,6 @@ returns-6 c =
 pub write-spec : {M : Type 1} → statement M
 write-spec =
     tie.close
-    (tie.spec (λ c κs. search needs) (λ c. search needs) (λ c. search needs) returns (λ c. search needs) (λ c. search needs)
-    (λ c κs. search needs) returns-2 (λ c κs. search needs) returns-3 (λ c κs. search needs) returns-4 length-of-requires
-    returns-5 put-frame-requires (λ c. search needs) (λ c. search needs) returns-6)
+    (tie.spec (λ c κs. search needs) (λ c. search needs) (λ c. search needs) returns (λ c. search needs)
+    (λ c. search needs) (λ c κs. search needs) returns-2 (λ c κs. search needs) returns-3 (λ c κs. search needs)
+    returns-4 length-of-requires returns-5 put-frame-requires (λ c. search needs) (λ c. search needs) returns-6)
