@@ -1,4 +1,10 @@
-// Prints who talks to whom on boards of five and of six nodes: a line for each node and dimension.
+// Prints document 01's boards to try: who talks to whom on boards of five and of six nodes, a line for each node and dimension;
+// the timing of phase bytes; and the frame writer and reader at the limit of a field.
+use frame::Frame;
+use frame::Outcome;
+use frame::Sent;
+use frame::Taken;
+use frame::Timing;
 use libc::STDOUT_FILENO;
 use tree::Found;
 use tree::Placed;
@@ -62,8 +68,100 @@ fn print_board(nodes: u32) {
     }
 }
 
+fn print_timing(node: u8, other: u8) {
+    io::write_all(STDOUT_FILENO, b"node in phase");
+    print_next(node as u32);
+    io::write_all(STDOUT_FILENO, b", frame of phase");
+    print_next(other as u32);
+    let timing = frame::timing_of(other, node);
+    match timing {
+        Timing::Now => {
+            io::write_all(STDOUT_FILENO, b": now\n");
+        }
+        Timing::Early => {
+            io::write_all(STDOUT_FILENO, b": early, 7\n");
+        }
+        Timing::Late => {
+            io::write_all(STDOUT_FILENO, b": late\n");
+        }
+        Timing::Foreign => {
+            io::write_all(STDOUT_FILENO, b": foreign, 8\n");
+        }
+    }
+}
+
+// A pass 2 frame with a number as T.
+fn confirming(agreed: u32) -> Frame {
+    Frame {
+        pass: 2,
+        phase: 0,
+        dim: 0,
+        sender: 1,
+        sent: [Sent(0); 8],
+        taken: [Taken(0); 8],
+        issued: Sent(0),
+        received: Taken(0),
+        agreed: agreed,
+    }
+}
+
+fn print_found(answer: Found) {
+    match answer {
+        Found::Is(length) => {
+            io::write_all(STDOUT_FILENO, b" length");
+            print_next(length);
+        }
+        Found::Refused(number) => {
+            io::write_all(STDOUT_FILENO, b" refused");
+            print_next(number as u32);
+        }
+    }
+}
+
+fn print_outcome(answer: Outcome) {
+    match answer {
+        Outcome::Done => {
+            io::write_all(STDOUT_FILENO, b" done");
+        }
+        Outcome::Refused(number) => {
+            io::write_all(STDOUT_FILENO, b" refused");
+            print_next(number as u32);
+        }
+    }
+}
+
+// A field of a frame, written on a board of two nodes.
+fn print_written(agreed: u32) {
+    io::write_all(STDOUT_FILENO, b"field");
+    print_next(agreed);
+    io::write_all(STDOUT_FILENO, b" written:");
+    let mut buffer = [0u8; 12];
+    print_found(frame::write(2, confirming(agreed), &mut buffer));
+    io::write_all(STDOUT_FILENO, b"\n");
+}
+
+// The bytes of a pass 2 frame whose T is the limit 16,776,960 = 0x00ffff00, with `more` as its low byte.
+fn print_read(more: u8) {
+    io::write_all(STDOUT_FILENO, b"field 16776960 and");
+    print_next(more as u32);
+    io::write_all(STDOUT_FILENO, b" read:");
+    let bytes = [2, 0, 0, 1, more, 255, 255, 0, 0, 0, 0, 0];
+    let r = frame::read(2, &bytes);
+    let answer = r.answer;
+    print_outcome(answer);
+    io::write_all(STDOUT_FILENO, b"\n");
+}
+
 fn main() {
     io::write_all(STDOUT_FILENO, b"nodes node dimension place\n");
     print_board(5);
     print_board(6);
+    print_timing(0, 255);
+    print_timing(255, 0);
+    print_timing(3, 5);
+    print_timing(3, 3);
+    print_written(16776960);
+    print_written(16776961);
+    print_read(0);
+    print_read(1);
 }
