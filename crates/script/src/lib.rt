@@ -128,7 +128,19 @@ fn is_nodes(w: &[u8]) -> bool
     if w.len() != 5 {
         return false;
     }
-    w[0] == 110 && w[1] == 111 && w[2] == 100 && w[3] == 101 && w[4] == 115
+    if w[0] != 110 {
+        return false;
+    }
+    if w[1] != 111 {
+        return false;
+    }
+    if w[2] != 100 {
+        return false;
+    }
+    if w[3] != 101 {
+        return false;
+    }
+    w[4] == 115
 }
 
 fn is_letter(letter: u8, w: &[u8]) -> bool
