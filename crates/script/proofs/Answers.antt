@@ -9,11 +9,9 @@ use lib.Dec.{ltb}
 use lib.ListN.{length, take, drop, length-drop}
 use Rattle.base.specs.Choice.{choose, both}
 use Rattle.base.proofs.Laws.{choose-yes, choose-no, clash}
-use Rattle.script.specs.declared.Line.{Line}
 use Rattle.script.specs.declared.Line.the-variants.{Bad}
 use Rattle.script.specs.declared.Number.{Number}
 use Rattle.script.specs.declared.Number.the-variants.{Is, None}
-use Rattle.script.specs.declared.Parsed.{Parsed}
 use Rattle.script.specs.Script.{before, partsWithin, byParts, isNumber, valueAfter, isNodes, isLetter}
 use Rattle.script.specs.Script.{oneNumber, twoNumbers, lineOf, lineAt}
 
@@ -49,30 +47,39 @@ line-one bs h = rw (parts-last (length bs) bs h)
 shorter : (bs rest : List ℕ) (most a : ℕ) → rest ≡ drop (a + 1) bs → length bs ≤ most → length rest ≤ most - 1
 shorter bs rest most a e l = let d = length-drop (a + 1) bs in let g = ap length e in omega arith
 
-module _ (bs : List ℕ) (a : ℕ) (p : a ≡ before 32 bs) (h : a < length bs) (rest : List ℕ) (e : rest ≡ drop (a + 1) bs) where
-  after-one : lineOf bs ≡ byParts (take a bs ∷ partsWithin (length bs - 1) rest)
-  unfolding lineOf
-  after-one = rw (parts-first (length bs) bs a p h (omega arith), ← e)
+-- the bytes before the first blank, and after it
+module _
+    (bs : List ℕ)
+    (a : ℕ)
+    (p : a ≡ before 32 bs)
+    (h : a < length bs)
+    (rest : List ℕ)
+    (e : rest ≡ drop (a + 1) bs)
+  where
+    after-one : lineOf bs ≡ byParts (take a bs ∷ partsWithin (length bs - 1) rest)
+    unfolding lineOf
+    after-one = rw (parts-first (length bs) bs a p h (omega arith), ← e)
 
-  pub line-two : length rest ≤ before 32 rest → lineOf bs ≡ oneNumber (take a bs) rest
-  line-two k = after-one ∙ rw (parts-last (length bs - 1) rest k)
+    pub line-two : length rest ≤ before 32 rest → lineOf bs ≡ oneNumber (take a bs) rest
+    line-two k = after-one ∙ rw (parts-last (length bs - 1) rest k)
 
-  module _ (b : ℕ) (q : b ≡ before 32 rest) (k : b < length rest) (last : List ℕ) (f : last ≡ drop (b + 1) rest) where
-    l : length rest ≤ length bs - 1
-    l = shorter bs rest (length bs) a e (omega arith)
+    -- the bytes before the second blank, and after it
+    module _ (b : ℕ) (q : b ≡ before 32 rest) (k : b < length rest) (last : List ℕ) (f : last ≡ drop (b + 1) rest) where
+      fewer : length rest ≤ length bs - 1
+      fewer = shorter bs rest (length bs) a e (omega arith)
 
-    after-two : lineOf bs ≡ byParts (take a bs ∷ take b rest ∷ partsWithin (length bs - 1 - 1) last)
-    after-two = after-one ∙ rw (parts-first (length bs - 1) rest b q k l, ← f)
+      after-two : lineOf bs ≡ byParts (take a bs ∷ take b rest ∷ partsWithin (length bs - 1 - 1) last)
+      after-two = after-one ∙ rw (parts-first (length bs - 1) rest b q k fewer, ← f)
 
-    pub line-three : length last ≤ before 32 last → lineOf bs ≡ twoNumbers (take a bs) (take b rest) last
-    line-three m = after-two ∙ rw (parts-last (length bs - 1 - 1) last m)
+      pub line-three : length last ≤ before 32 last → lineOf bs ≡ twoNumbers (take a bs) (take b rest) last
+      line-three m = after-two ∙ rw (parts-last (length bs - 1 - 1) last m)
 
-    pub line-four : before 32 last < length last → lineOf bs ≡ Bad
-    line-four m =
-        let o = before 32 last in
-        after-two
-        ∙ rw (parts-first (length bs - 1 - 1) last o refl m (shorter rest last (length bs - 1) b f l))
-        (parts-over (take a bs) (take b rest) (take o last) (length bs - 1 - 1 - 1) _)
+      pub line-four : before 32 last < length last → lineOf bs ≡ Bad
+      line-four m =
+          let o = before 32 last in
+          after-two
+          ∙ rw (parts-first (length bs - 1 - 1) last o refl m (shorter rest last (length bs - 1) b f fewer))
+          (parts-over (take a bs) (take b rest) (take o last) (length bs - 1 - 1 - 1) _)
 
 -- ---- Lines by their newlines
 
@@ -86,7 +93,9 @@ module _ (text : List ℕ) (at : ℕ) (rest : List ℕ) (e : rest ≡ drop at te
   at-end h = rw (← e, ← p) (choose-no _ _ (le-ltb _ _ h))
 
 pub at-past : (text : List ℕ) (at : ℕ) → length text ≤ at → lineAt text at ≡ record { line = Bad; next = length text }
-at-past text at h = let d = length-drop at text in at-end text at (drop at text) refl (before 10 (drop at text)) refl (omega arith)
+at-past text at h =
+    let d = length-drop at text in
+    at-end text at (drop at text) refl (before 10 (drop at text)) refl (omega arith)
 
 -- ---- Numbers
 

@@ -1,7 +1,7 @@
 -- A walk through bytes by a place: what the search, the digits and the value are from there on.
-use borrow.Author.Tests.{le-ltb, eq-eqb, ne-eqb, leb-true}
-use mathlib.Core.Path.{_≡_, refl, sym, ap, _∙_}
-use mathlib.Core.Bool.{true, false}
+use borrow.Author.Tests.{eq-eqb, ne-eqb, leb-true}
+use mathlib.Core.Path.{_≡_}
+use mathlib.Core.Bool.{true}
 use mathlib.Core.List.{List, [], _∷_}
 use Prim.Native.Nat.{ℕ, zero, suc, _+_, _-_, _*_, _^_, _≤_, _<_}
 use native.Mathlib.Numerals.{add-one}
@@ -9,7 +9,7 @@ use native.Mathlib.Omega.{arith}
 use lib.ListN.{length, getD, drop, drop-of-length-le}
 use lib.Seq.{drop-cons}
 use Rattle.base.specs.Choice.{both}
-use Rattle.base.proofs.Laws.{both-true, clash}
+use Rattle.base.proofs.Laws.{both-true}
 use Rattle.script.specs.Script.{before, isDigit, allDigits, valueAfter}
 
 -- the byte at a place, and those after it
@@ -33,7 +33,8 @@ found-nowhere byte s i h = rw (drop-of-length-le s h)
 
 -- ---- Digits
 
-pub digits-step : (s : List ℕ) (i : ℕ) → i < length s → allDigits (drop i s) ≡ both (isDigit (getD s i 0)) (allDigits (drop (i + 1) s))
+pub digits-step : (s : List ℕ) (i : ℕ) → i < length s
+    → allDigits (drop i s) ≡ both (isDigit (getD s i 0)) (allDigits (drop (i + 1) s))
 digits-step s i h = rw (here s i h)
 
 pub digits-end : (s : List ℕ) (i : ℕ) → length s ≤ i → allDigits (drop i s) ≡ true
@@ -50,9 +51,9 @@ digit-at (x ∷ s) (suc i) e h = digit-at s i (both-true (isDigit x) (allDigits 
 
 -- ---- The value
 
-pub value-step : (s : List ℕ) (i v : ℕ) → i < length s
-    → valueAfter v (drop i s) ≡ valueAfter (10 * v + (getD s i 0 - 48)) (drop (i + 1) s)
-value-step s i v h = rw (here s i h)
+pub value-step : (s : List ℕ) (i v x : ℕ) → i < length s → x ≡ getD s i 0
+    → valueAfter v (drop i s) ≡ valueAfter (10 * v + (x - 48)) (drop (i + 1) s)
+value-step s i v x h e = rw (here s i h, e)
 
 pub value-end : (s : List ℕ) (i v : ℕ) → length s ≤ i → valueAfter v (drop i s) ≡ v
 value-end s i v h = rw (drop-of-length-le s h)

@@ -73,10 +73,10 @@ fn all_digits(s: &[u8]) -> bool
     let mut i = 0;
     while i < s.len() {
         let x = s[i];
-        if x < 48 {
+        if x < b'0' {
             return false;
         }
-        if 57 < x {
+        if b'9' < x {
             return false;
         }
         i += 1;
@@ -112,7 +112,7 @@ fn number_of(s: &[u8]) -> Number
     if !all_digits(s) {
         return Number::None;
     }
-    if s[0] == 48 {
+    if s[0] == b'0' {
         if n != 1 {
             return Number::None;
         }
@@ -128,19 +128,19 @@ fn is_nodes(w: &[u8]) -> bool
     if w.len() != 5 {
         return false;
     }
-    if w[0] != 110 {
+    if w[0] != b'n' {
         return false;
     }
-    if w[1] != 111 {
+    if w[1] != b'o' {
         return false;
     }
-    if w[2] != 100 {
+    if w[2] != b'd' {
         return false;
     }
-    if w[3] != 101 {
+    if w[3] != b'e' {
         return false;
     }
-    w[4] == 115
+    w[4] == b's'
 }
 
 fn is_letter(letter: u8, w: &[u8]) -> bool
@@ -164,10 +164,10 @@ fn one_number(word: &[u8], first: &[u8]) -> Line
     if is_nodes(word) {
         return Line::Nodes(x);
     }
-    if is_letter(105, word) {
+    if is_letter(b'i', word) {
         return Line::Idles(x);
     }
-    if is_letter(98, word) {
+    if is_letter(b'b', word) {
         return Line::Calls(x);
     }
     Line::Bad
@@ -183,10 +183,10 @@ fn two_numbers(word: &[u8], first: &[u8], second: &[u8]) -> Line
     let Number::Is(y) = number_of(second) else {
         return Line::Bad;
     };
-    if is_letter(115, word) {
+    if is_letter(b's', word) {
         return Line::Sends(x, y);
     }
-    if is_letter(100, word) {
+    if is_letter(b'd', word) {
         return Line::Delivers(x, y);
     }
     Line::Bad
@@ -196,17 +196,17 @@ fn two_numbers(word: &[u8], first: &[u8], second: &[u8]) -> Line
 fn line_of(line: &[u8]) -> Line
     ensures { λ r. ⌜ r ≡ lineOf (now (line .entry)) ⌝ }
 {
-    let a = find(line, 32);
+    let a = find(line, b' ');
     if line.len() <= a {
         return Line::Bad;
     }
     let rest = from(line, a + 1);
-    let b = find(rest, 32);
+    let b = find(rest, b' ');
     if rest.len() <= b {
         return one_number(&line[..a], rest);
     }
     let last = from(rest, b + 1);
-    if find(last, 32) < last.len() {
+    if find(last, b' ') < last.len() {
         return Line::Bad;
     }
     two_numbers(&line[..a], &rest[..b], last)
@@ -218,7 +218,7 @@ pub fn line_at(text: &[u8], at: usize) -> Parsed
 {
     if at < text.len() {
         let rest = from(text, at);
-        let n = find(rest, 10);
+        let n = find(rest, b'\n');
         if n < rest.len() {
             return Parsed {
                 line: line_of(&rest[..n]),

@@ -3,9 +3,10 @@ use borrow.Author.Needs.{needs}
 use borrow.Author.Tests.{le-leb, lt-leb}
 use native.Mathlib.Omega.{arith}
 use mathlib.Core.Path.{_≡_, refl, sym, _∙_}
-use Prim.Native.Nat.{_-_, _≤_}
-use lib.ListN.{length, drop}
-use Rattle.script.specs.Script.{allDigits}
+use Prim.Native.Nat.{_+_, _-_, _≤_}
+use lib.ListN.{length, getD, drop}
+use Rattle.base.specs.Choice.{both}
+use Rattle.script.specs.Script.{isDigit, allDigits}
 use Rattle.script.proofs.Walks.{digits-step, digits-end}
 use Rattle.script.proofs.all_digits.Statement.{statement}
 use Rattle.script.proofs.all_digits.Tie as tie
@@ -19,25 +20,30 @@ abbrev μ-loop : tie.MeasureT-loop
 loop-holds : tie.Need-loop-holds Inv-loop μ-loop
 loop-holds c = (search needs, refl)
 
+-- the byte, and those after it
+step : (b : tie.In-loop Inv-loop μ-loop)
+    → let s = b .before .before .args .s .now in
+    let i = b .before .loop .i in
+    allDigits s ≡ both (isDigit (getD s i 0)) (allDigits (drop (i + 1) s))
+step b = b .before .loop .inv .1 ∙ digits-step (b .before .before .args .s .now) (b .before .loop .i) (omega arith)
+
 returns : tie.Need-returns Inv-loop μ-loop
-returns c =
-    let b = c .before .before .before in
-    sym (b .loop .inv .1 ∙ digits-step (b .before .args .s .now) (b .loop .i) (omega arith) ∙ rw (lt-leb _ _ (c .if1 .taken)))
+returns c = sym (step (c .before .before) ∙ rw (lt-leb _ _ (c .if1 .taken)))
 
 returns-2 : tie.Need-returns-2 Inv-loop μ-loop
 returns-2 c =
-    let b = c .before .before .before .before in
-    sym (b .loop .inv .1 ∙ digits-step (b .before .args .s .now) (b .loop .i) (omega arith) ∙ rw (le-leb _ _ (c .before .if1 .left), lt-leb _ _ (c .if2 .taken)))
+    let o = c .before in
+    sym (step (o .before .before) ∙ rw (le-leb _ _ (o .if1 .left), lt-leb _ _ (c .if2 .taken)))
 
 loop-again : tie.Need-loop-again Inv-loop μ-loop
 loop-again c =
-    let b = c .before .before .before .before in (
-      search needs,
-      b .loop .inv .1 ∙ digits-step (b .before .args .s .now) (b .loop .i) (omega arith) ∙ rw (le-leb _ _ (c .before .if1 .left), le-leb _ _ (c .if2 .left)),
-    )
+    let o = c .before in
+    (search needs, step (o .before .before) ∙ rw (le-leb _ _ (o .if1 .left), le-leb _ _ (c .if2 .left)))
 
 returns-3 : tie.Need-returns-3 Inv-loop μ-loop
-returns-3 c = sym (c .before .loop .inv .1 ∙ digits-end (c .before .before .args .s .now) (c .before .loop .i) (omega arith))
+returns-3 c =
+    let l = c .before .loop in
+    sym (l .inv .1 ∙ digits-end (c .before .before .args .s .now) (l .i) (omega arith))
 
 pub all-digits-spec : {M : Type 1} → statement M
 all-digits-spec =

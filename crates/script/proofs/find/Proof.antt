@@ -32,10 +32,12 @@ loop-again c =
 
 returns-2 : tie.Need-returns-2 Inv-loop μ-loop
 returns-2 c =
-    let e = found-nowhere (c .before .before .args .byte) (c .before .before .args .s .now) (c .before .loop .i) (omega arith) in
+    let x = c .before .before .args in
+    let e = found-nowhere (x .byte) (x .s .now) (c .before .loop .i) (omega arith) in
     (omega arith, search needs)
 
 pub find-spec : {M : Type 1} → statement M
 find-spec =
     tie.close
-    (tie.spec Inv-loop μ-loop loop-holds (λ c. search needs) returns (λ c. search needs) (λ c. search needs) loop-again returns-2)
+    (tie.spec Inv-loop μ-loop loop-holds (λ c. search needs) returns (λ c. search needs) (λ c. search needs)
+    loop-again returns-2)

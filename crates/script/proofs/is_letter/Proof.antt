@@ -1,7 +1,6 @@
 -- `is_letter` is `isLetter`.
 use borrow.Author.Needs.{needs}
 use borrow.Author.Tests.{eq-eqb, ne-eqb}
-use mathlib.Core.Path.{_≡_}
 use Rattle.script.proofs.is_letter.Statement.{statement}
 use Rattle.script.proofs.is_letter.Tie as tie
 

@@ -1,7 +1,6 @@
 -- `is_nodes` is `isNodes`, byte by byte.
 use borrow.Author.Needs.{needs}
 use borrow.Author.Tests.{eq-eqb, ne-eqb}
-use mathlib.Core.Path.{_≡_}
 use Rattle.script.proofs.is_nodes.Statement.{statement}
 use Rattle.script.proofs.is_nodes.Tie as tie
 
@@ -20,7 +19,12 @@ returns-4 : tie.Need-returns-4
 returns-4 c =
     let d = c .before .before in
     let b = d .before .before in
-    rw (eq-eqb _ _ (b .before .before .if1 .left), eq-eqb _ _ (b .if2 .left), eq-eqb _ _ (d .if3 .left), ne-eqb _ _ (c .if4 .taken))
+    rw (
+      eq-eqb _ _ (b .before .before .if1 .left),
+      eq-eqb _ _ (b .if2 .left),
+      eq-eqb _ _ (d .if3 .left),
+      ne-eqb _ _ (c .if4 .taken),
+    )
 
 returns-5 : tie.Need-returns-5
 returns-5 c =

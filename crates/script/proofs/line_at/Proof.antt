@@ -1,7 +1,6 @@
 -- `line_at` is `lineAt`.
 use borrow.Author.Needs.{needs}
-use native.Mathlib.Omega.{arith}
-use mathlib.Core.Path.{_≡_, sym, ap, _∙_}
+use mathlib.Core.Path.{sym, ap, _∙_}
 use Prim.Native.Nat.{_+_}
 use lib.Seq.{length-take-le}
 use Rattle.script.specs.declared.Line.{Line}
@@ -18,8 +17,9 @@ returns c =
     let f = c .before .before .before in
     let g = f .before in
     let x = g .before .before .before .args in
-    ap (λ (l : Line). let r : Parsed = record { line = l; next = x .at + f .find .result + 1 } in r) (c .line-of .ensures)
-    ∙ sym (at-newline (x .text .now) (x .at) _ (g .from .ensures) _ (f .find .ensures .0) (c .before .before .if2 .taken))
+    let made : Line → Parsed = λ l. record { line = l; next = x .at + f .find .result + 1 } in
+    let w = at-newline (x .text .now) (x .at) _ (g .from .ensures) _ (f .find .ensures .0) in
+    ap made (c .line-of .ensures) ∙ sym (w (c .before .before .if2 .taken))
 
 returns-2 : tie.Need-returns-2
 returns-2 c =

@@ -1,7 +1,7 @@
 -- `line_of` is `lineOf`: a line has up to three parts, or is bad.
 use borrow.Author.Needs.{needs}
 use native.Mathlib.Omega.{arith}
-use mathlib.Core.Path.{_≡_, sym, _∙_}
+use mathlib.Core.Path.{sym, _∙_}
 use lib.Seq.{length-take-le}
 use Rattle.script.proofs.Answers.{line-one, line-two, line-three, line-four}
 use Rattle.script.proofs.line_of.Statement.{statement}
@@ -51,11 +51,13 @@ returns-4 c =
     c .two-numbers .ensures
     ∙ sym
     (line-three (o .before .before .args .line .now) _ (o .find .ensures .0) (f .before .if1 .left) _ (f .from .ensures)
-    _ (g .find2 .ensures .0) (s .before .if2 .left) _ (s .from2 .ensures) (rw (e .before .find3 .ensures .0) at (e .if3 .left)))
+    _ (g .find2 .ensures .0) (s .before .if2 .left) _ (s .from2 .ensures)
+    (rw (e .before .find3 .ensures .0) at (e .if3 .left)))
 
 pub line-of-spec : {M : Type 1} → statement M
 line-of-spec =
     tie.close
     (tie.spec (λ c κs. search needs) returns (λ c. search needs) (λ c κs. search needs) (λ c κs. search needs)
     slice-aggregate-one-number (λ c κs. search needs) returns-2 (λ c. search needs) (λ c κs. search needs)
-    (λ c κs. search needs) returns-3 slice-aggregate-two-numbers slice-aggregate-two-numbers-2 (λ c κs. search needs) returns-4)
+    (λ c κs. search needs) returns-3 slice-aggregate-two-numbers slice-aggregate-two-numbers-2 (λ c κs. search needs)
+    returns-4)

@@ -1,6 +1,6 @@
 -- `two_numbers` is `twoNumbers`.
 use borrow.Author.Needs.{needs}
-use mathlib.Core.Path.{_≡_, sym, ap, ap₂, _∙_}
+use mathlib.Core.Path.{_≡_, sym, ap₂, _∙_}
 use mathlib.Core.Bool.{true}
 use Rattle.script.specs.declared.Line.the-variants.{Sends, Delivers}
 use Rattle.script.specs.Script.{isNumber, valueAfter}
@@ -32,7 +32,8 @@ returns-2 c =
 
 -- the second number read
 second : (c : tie.After-known-told2)
-    → let s = c .before .before .before .before .before .before .before .before .before .before .before .args .second .now in
+    → let n = c .before .before .before in
+    let s = n .before .before .before .before .before .before .before .before .args .second .now in
     (isNumber s ≡ true) × (c .before .y .given .0 .0 ≡ valueAfter 0 s)
 second c =
     let n = c .before .before .before in

@@ -1,9 +1,9 @@
 -- `value_of` is `valueAfter 0`: after i digits the number is below 10 ^ i, and the rest is added to it.
 use borrow.Author.Needs.{needs}
 use native.Mathlib.Omega.{arith}
-use mathlib.Core.Path.{_≡_, refl, sym, ap, _∙_}
-use Prim.Native.Nat.{ℕ, _+_, _*_, _-_, _^_, _≤_, _<_}
-use lib.ListN.{length, getD, drop}
+use mathlib.Core.Path.{_≡_, refl, sym, _∙_}
+use Prim.Native.Nat.{_-_, _^_, _≤_, _<_}
+use lib.ListN.{length, drop}
 use Rattle.script.specs.Script.{valueAfter}
 use Rattle.script.proofs.Walks.{digit-at, value-step, value-end, value-more, value-small}
 use Rattle.script.proofs.value_of.Statement.{statement}
@@ -44,16 +44,16 @@ loop-again c =
       search needs,
       value-more _ _ _ (b .loop .inv .1) (d .0) (d .1),
       b .loop .inv .2
-      ∙ value-step (b .before .before .args .s .now) (b .loop .i) (b .loop .v) (omega arith)
-      ∙ ap (λ (x : ℕ). valueAfter (10 * b .loop .v + (x - 48)) (drop (b .loop .i + 1) (b .before .before .args .s .now)))
-        (sym (c .wide .ensures .0)),
+          ∙ value-step (b .before .before .args .s .now) (b .loop .i) _ _ (omega arith) (c .wide .ensures .0),
     )
 
 returns : tie.Need-returns Inv-loop μ-loop
-returns c = sym (c .before .loop .inv .2 ∙ value-end (c .before .before .before .args .s .now) (c .before .loop .i) _ (omega arith))
+returns c =
+    let b = c .before in
+    sym (b .loop .inv .2 ∙ value-end (b .before .before .args .s .now) (b .loop .i) _ (omega arith))
 
 pub value-of-spec : {M : Type 1} → statement M
 value-of-spec =
     tie.close
-    (tie.spec Inv-loop μ-loop loop-holds mul-v (λ c. search needs) (λ c κs. search needs) sub-v add-v (λ c. search needs)
-    (λ c. search needs) loop-again returns)
+    (tie.spec Inv-loop μ-loop loop-holds mul-v (λ c. search needs) (λ c κs. search needs) sub-v add-v
+    (λ c. search needs) (λ c. search needs) loop-again returns)
