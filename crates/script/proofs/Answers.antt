@@ -1,4 +1,4 @@
--- What a line says, by the blanks in it and by its numbers.
+-- What a line says, by the blanks, the newline and the numbers in it.
 use borrow.Author.Tests.{lt-ltb, le-ltb}
 use mathlib.Core.Path.{_≡_, refl, sym, ap, _∙_}
 use mathlib.Core.Bool.{Bool, true, false}

@@ -13,7 +13,7 @@ use Rattle.base.proofs.Laws.{both-true}
 use Rattle.script.specs.Script.{before, isDigit, allDigits, valueAfter}
 
 -- the byte at a place, and those after it
-pub here : (s : List ℕ) (i : ℕ) → i < length s → drop i s ≡ getD s i 0 ∷ drop (i + 1) s
+here : (s : List ℕ) (i : ℕ) → i < length s → drop i s ≡ getD s i 0 ∷ drop (i + 1) s
 here s i h = rw (add-one, drop-cons s i 0)
 
 -- ---- The search

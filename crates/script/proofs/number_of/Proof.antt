@@ -18,7 +18,7 @@ returns c = rw (lt-leb _ _ (c .if1 .taken))
 returns-2 : tie.Need-returns-2
 returns-2 c = rw (le-leb _ _ (c .before .if1 .left), lt-leb _ _ (c .if2 .taken))
 
--- so many bytes are one to three
+-- there are one to three bytes
 few : (c : tie.Else2)
     → let s = c .before .before .before .args .s .now in
     (leb 1 (length s) ≡ true) × (leb (length s) 3 ≡ true)
