@@ -1,7 +1,6 @@
--- The lines of a script: "nodes P, then s a b .., d a b .., i a (idle), b a (barrier call). One blank between parts, decimal,
--- one to three digits, no leading zeros, newline at each end."
-use mathlib.Core.Bool.{Bool, true, false, not}
-use mathlib.Core.Option.{Option, none, some}
+-- The lines of a script: "nodes P, then s a b .., d a b .., i a (idle), b a (barrier call). One blank between parts,
+-- decimal, one to three digits, no leading zeros, newline at each end."
+use mathlib.Core.Bool.{Bool, true}
 use mathlib.Core.List.{List, [], _∷_}
 use Prim.Native.Nat.{ℕ, zero, suc, _+_, _-_, _*_}
 use lib.Dec.{ltb, leb, eqb}
