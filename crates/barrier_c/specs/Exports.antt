@@ -1,0 +1,87 @@
+-- What the exported functions answer and leave in lent memory.
+use mathlib.Core.Bool.{Bool, true}
+use mathlib.Core.List.{List, [], _∷_}
+use Prim.Native.Nat.{ℕ}
+use lib.ListN.{length}
+use Rattle.base.specs.Choice.{choose}
+use Rattle.base.specs.Limits.{Limits}
+use Rattle.base.specs.Refusal.{Refusal, number, Answered, refused, found}
+use Rattle.tree.specs.Tree.{Place, alone, hermit, neighbour, messenger}
+use Rattle.node.specs.Agree.{clauses, mayName}
+use Rattle.node.specs.Answers.{Given, Outcome, outcomeNumber, Barrier, sent, waits, moved, left, barred, barrierNumber}
+use Rattle.node.specs.Barrier.{barrier, barrierBytes}
+use Rattle.node.specs.declared.Node.{Node}
+use Rattle.barrier_c.specs.Words.{packed, unpacked, isPacked}
+
+-- words that are no state give 13
+abbrev pub noState : ℕ
+noState = number Refusal.state
+
+-- a call on words: its answer's number, and the words after it
+abbrev pub answerOn : (Node → Given Outcome) → List ℕ → ℕ
+answerOn call ws = choose (isPacked ws) (outcomeNumber (call (unpacked ws) .answer)) noState
+
+abbrev pub wordsOn : (Node → Given Outcome) → List ℕ → List ℕ
+wordsOn call ws = choose (isPacked ws) (packed (call (unpacked ws) .node)) ws
+
+-- fresh: the words are written where the call is done
+abbrev pub freshWords : Given Outcome → List ℕ → Outcome → List ℕ
+freshWords r ws Outcome.done = packed (r .node)
+freshWords r ws Outcome.dropped = ws
+freshWords r ws (Outcome.refused x) = ws
+
+-- a lookup: its number, 0 where it is found
+abbrev pub lookupNumber : {A : Type 0} → Answered A → ℕ
+lookupNumber (refused x) = x
+lookupNumber (found a) = 0
+
+-- what it found, in lent words; they stay where it is refused
+abbrev pub numberWords : Answered ℕ → List ℕ → List ℕ
+numberWords (refused x) ws = ws
+numberWords (found x) ws = x ∷ []
+
+-- the kind of a place (0 alone, 1 hermit, 2 neighbour, 3 messenger), the awaited node, and the hermit; 0 where there is none
+abbrev pub placeWords : Answered Place → List ℕ → List ℕ
+placeWords (refused x) ws = ws
+placeWords (found alone) ws = 0 ∷ 0 ∷ 0 ∷ []
+placeWords (found (hermit next)) ws = 1 ∷ next ∷ 0 ∷ []
+placeWords (found (neighbour b)) ws = 2 ∷ b ∷ 0 ∷ []
+placeWords (found (messenger b h)) ws = 3 ∷ b ∷ h ∷ []
+
+-- ---- The barrier call on words
+
+abbrev pub barrierAnswer : Limits → List ℕ → ℕ → ℕ
+barrierAnswer L ws room = choose (isPacked ws) (barrierNumber (barrier L (unpacked ws) room .answer)) noState
+
+abbrev pub barrierState : Limits → List ℕ → ℕ → List ℕ
+barrierState L ws room = choose (isPacked ws) (packed (barrier L (unpacked ws) room .node)) ws
+
+abbrev pub barrierBuffer : Limits → List ℕ → List ℕ → List ℕ
+barrierBuffer L ws buf = choose (isPacked ws) (barrierBytes L (unpacked ws) buf) buf
+
+-- five words: how many receivers, the first, the second, the frame's length, and the clause that a wait names
+abbrev pub receiverWords : List ℕ → ℕ → List ℕ
+receiverWords [] length = 0 ∷ 0 ∷ 0 ∷ length ∷ 0 ∷ []
+receiverWords (a ∷ []) length = 1 ∷ a ∷ 0 ∷ length ∷ 0 ∷ []
+receiverWords (a ∷ b ∷ l) length = 2 ∷ a ∷ b ∷ length ∷ 0 ∷ []
+
+-- by the answer, and the clause for a wait
+abbrev pub detailWords : ℕ → Barrier → List ℕ
+detailWords clause (sent to length) = receiverWords to length
+detailWords clause waits = 0 ∷ 0 ∷ 0 ∷ 0 ∷ clause ∷ []
+detailWords clause moved = 0 ∷ 0 ∷ 0 ∷ 0 ∷ 0 ∷ []
+detailWords clause left = 0 ∷ 0 ∷ 0 ∷ 0 ∷ 0 ∷ []
+detailWords clause (barred x) = 0 ∷ 0 ∷ 0 ∷ 0 ∷ 0 ∷ []
+
+abbrev pub barrierDetails : Limits → List ℕ → ℕ → ℕ → List ℕ
+barrierDetails L ws room clause =
+    choose (isPacked ws) (detailWords clause (barrier L (unpacked ws) room .answer)) (0 ∷ 0 ∷ 0 ∷ 0 ∷ 0 ∷ [])
+
+-- the clause that a wait names is one that fails
+abbrev pub isClause : Limits → List ℕ → ℕ → Barrier → Bool
+isClause L ws clause (sent to length) = true
+isClause L ws clause waits =
+    mayName (clauses L (unpacked ws) (unpacked ws .pass) (unpacked ws .dim)) clause
+isClause L ws clause moved = true
+isClause L ws clause left = true
+isClause L ws clause (barred x) = true
