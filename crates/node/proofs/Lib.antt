@@ -3,3 +3,4 @@ pub mod Valid
 pub mod Ways
 pub mod Totals
 pub mod Bound
+pub mod Depends
