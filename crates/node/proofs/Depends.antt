@@ -134,15 +134,6 @@ due-same n n′ s (inr e) =
 
 -- ---- a stored frame set
 
--- a place set in a list, whether or not the list has it
-set-either : {A : Type 0} (F : A → Type 0) (l : List A) (k : ℕ) (x d : A) → F x → F (getD l k d)
-    → F (getD (set l k x) k d)
-set-either F l k x d new old = go (decLt k (length l))
-  where
-    go : Dec (k < length l) → F (getD (set l k x) k d)
-    go (yes h) = subst F (sym (getD-set-same l k x d h)) new
-    go (no h) = subst F (ap (λ l. getD l k d) (sym (set-out l k x (omega arith)))) old
-
 module _ (n : Node) (k : ℕ) (x : Stored) where
   abbrev pub storeFirst : Node
   storeFirst = withFirst n (set (n .first) k x)
@@ -153,9 +144,6 @@ module _ (n : Node) (k : ℕ) (x : Stored) where
   pub first-elsewhere : (j : ℕ) → j ≢ k → firstAt storeFirst j ≡ firstAt n j
   first-elsewhere j h = getD-set-other (n .first) k j x _ h
 
-  pub first-either : (F : Stored → Type 0) → F x → F (firstAt n k) → F (firstAt storeFirst k)
-  first-either F new old = set-either F (n .first) k x _ new old
-
 module _ (n : Node) (k : ℕ) (x : Confirm) where
   abbrev pub storeSecond : Node
   storeSecond = withSecond n (set (n .second) k x)
@@ -165,9 +153,6 @@ module _ (n : Node) (k : ℕ) (x : Confirm) where
 
   pub second-elsewhere : (j : ℕ) → j ≢ k → secondAt storeSecond j ≡ secondAt n j
   second-elsewhere j h = getD-set-other (n .second) k j x _ h
-
-  pub second-either : (F : Confirm → Type 0) → F x → F (secondAt n k) → F (secondAt storeSecond k)
-  second-either F new old = set-either F (n .second) k x _ new old
 
 -- ---- the own sums after a change
 

@@ -4,3 +4,6 @@ pub mod Ways
 pub mod Totals
 pub mod Bound
 pub mod Depends
+pub mod Moving
+pub mod Storing
+pub mod ValidOut
