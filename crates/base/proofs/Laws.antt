@@ -1,13 +1,13 @@
 -- Laws of choice, of joined tests, of refusals in order and of values listed by a rule.
 use mathlib.Core.Path.{_≡_, refl, sym, ap, _∙_}
 use mathlib.Core.Bool.{Bool, true, false}
-use mathlib.Core.List.{[], _∷_, _++_}
+use mathlib.Core.List.{List, [], _∷_, _++_}
 use Prim.Native.Nat.{ℕ, zero, suc, _+_, _-_, _≤_, _<_}
 use native.Mathlib.Decide.{ℕ-discrete}
 use native.Mathlib.Nat.{zero-add}
 use native.Mathlib.Numerals.{add-one}
 use native.Mathlib.Omega.{arith}
-use lib.ListN.{length, set}
+use lib.ListN.{length, getD, set}
 use Rattle.base.specs.Choice.{choose, both, every, list}
 use Rattle.base.specs.Refusal.{Check, inOrder, number}
 
@@ -33,7 +33,8 @@ both-true false t e = clash (sym e)
 pub both-make : {s t : Bool} → s ≡ true → t ≡ true → both s t ≡ true
 both-make a b = rw (a, b)
 
-pub every-at : (start count : ℕ) (f : ℕ → Bool) → every start count f ≡ true → (i : ℕ) → start ≤ i → i < start + count → f i ≡ true
+pub every-at : (start count : ℕ) (f : ℕ → Bool) → every start count f ≡ true → (i : ℕ) → start ≤ i → i < start + count
+    → f i ≡ true
 every-at start zero f e i a b = absurd (omega arith)
 every-at start (suc count) f e i a b =
     let q = both-true (f start) (every (suc start) count f) e in
@@ -43,10 +44,12 @@ every-at start (suc count) f e i a b =
     go h r (yes z) = ap f z ∙ h
     go h r (no z) = r (omega arith)
 
-pub every-make : (start count : ℕ) (f : ℕ → Bool) → ((i : ℕ) → start ≤ i → i < start + count → f i ≡ true) → every start count f ≡ true
+pub every-make : (start count : ℕ) (f : ℕ → Bool) → ((i : ℕ) → start ≤ i → i < start + count → f i ≡ true)
+    → every start count f ≡ true
 every-make start zero f h = refl
 every-make start (suc count) f h =
-    both-make (h start (omega arith) (omega arith)) (every-make (suc start) count f (λ i a b. h i (omega arith) (omega arith)))
+    both-make (h start (omega arith) (omega arith))
+    (every-make (suc start) count f (λ i a b. h i (omega arith) (omega arith)))
 
 -- the first of the tests that are left, and the rest
 pub every-here : (i n : ℕ) (f : ℕ → Bool) → i < n → every i (n - i) f ≡ both (f i) (every (i + 1) (n - (i + 1)) f)
@@ -77,7 +80,8 @@ module _ {A : Type 0} (refuse : ℕ → A) where
   order-stops a (later {c = c} e s) = choose-no (refuse (number (c .word))) _ e ∙ order-stops a s
 
   -- a fact by the check that is met, or by none being met
-  pub order-cases : (F : A → Type 0) (cs : List Check) (a : A) → ((x : ℕ) → Stops cs x → F (refuse x)) → (Passes cs → F a)
+  pub order-cases : (F : A → Type 0) (cs : List Check) (a : A) → ((x : ℕ) → Stops cs x → F (refuse x))
+      → (Passes cs → F a)
       → F (inOrder refuse cs a)
   order-cases F [] a f g = g tt
   order-cases F (c ∷ cs) a f g =
