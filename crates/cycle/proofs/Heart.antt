@@ -1,0 +1,105 @@
+-- NO STICK, the part without events: if what every node has stored is what its partner would write now, and all work is taken,
+-- then the sums of a node are the sums over its run, and the two sides of a step agree.
+use mathlib.Core.Path.{_≡_, refl, sym, _∙_}
+use mathlib.Core.Option.{Option, none, some}
+use Prim.Native.Nat.{ℕ, zero, suc, _+_, _≤_, _<_}
+use native.Mathlib.Nat.{add-zero, zero-add}
+use native.Mathlib.Omega.{arith}
+use Rattle.cycle.proofs.Sums.{sum, sum-ext, sum-plus, sum-zero}
+use Rattle.cycle.proofs.Tree.{Tree, Meet, meet-sum}
+
+-- ---- sums of sums
+
+pub sum-swap : (m : ℕ → ℕ → ℕ) (i n j l : ℕ) → sum (λ y. sum (m y) j l) i n ≡ sum (λ z. sum (λ y. m y z) i n) j l
+sum-swap m i n j zero = sum-zero i n
+sum-swap m i n j (suc l) =
+    let a = sum-plus (λ y. sum (m y) j l) (λ y. m y (j + l)) i n in
+    let b = sum-swap m i n j l in
+    omega arith
+
+-- ---- fields of a frame: sent and taken by shell, and in all
+
+pub data Fld : Type 0 where
+  sh : ℕ → Fld
+  th : ℕ → Fld
+  sa : Fld
+  ta : Fld
+
+abbrev pub Fr : Type 0
+Fr = Fld → ℕ
+
+abbrev pub fl : Option Fr → Fr
+fl none f = 0
+fl (some x) f = x f
+
+abbrev pub acc : Fr → (ℕ → Option Fr) → ℕ → Fr
+acc tal g zero f = tal f
+acc tal g (suc k) f = acc tal g k f + fl (g k) f
+
+module _ {P p : ℕ} (tr : Tree P p) where
+  abbrev pub over-run : (ℕ → ℕ) → ℕ → ℕ → ℕ
+  over-run g k a = sum g (tr .lo k a) (tr .size k a)
+
+  -- what is stored for step k, from the awaited node if there is one, is exact in the field f
+  abbrev pub Exact : (ℕ → Fr) → Fld → ℕ → Option ℕ → Option Fr → Type 0
+  Exact tal f k none none = Unit {0}
+  Exact tal f k none (some x) = ⊥
+  Exact tal f k (some w) none = ⊥
+  Exact tal f k (some w) (some x) = x f ≡ over-run (λ y. tal y f) k w
+
+  pub acc-exact : (tal : ℕ → Fr) (f : Fld) (a : ℕ) (g : ℕ → Option Fr) → a < P → (k : ℕ) → k ≤ p
+      → ((i : ℕ) → i < k → Exact tal f i (tr .await i a) (g i)) → acc (tal a) g k f ≡ over-run (λ y. tal y f) k a
+  acc-exact tal f a g h zero l e = rw (tr .lo-zero a h, tr .size-zero a h, add-zero) (omega arith)
+  acc-exact tal f a g h (suc k) l e =
+      go (tr .await k a) (g k) refl (e k (omega arith)) (acc-exact tal f a g h k (omega arith) (λ i q. e i (omega arith)))
+    where
+      go : (o : Option ℕ) (s : Option Fr) → tr .await k a ≡ o → Exact tal f k o s → acc (tal a) g k f ≡ over-run (λ y. tal y f) k a
+          → acc (tal a) g k f + fl s f ≡ over-run (λ y. tal y f) (suc k) a
+      go none none q x ih = let al = tr .alone k a (omega arith) h q in rw (al .0, al .1) (omega arith)
+      go none (some z) q x ih = absurd x
+      go (some w) none q x ih = absurd x
+      go (some w) (some z) q x ih = let m = meet-sum (tr .lo) (tr .size) k a w (λ y. tal y f) (tr .meet k a w (omega arith) h q) in omega arith
+
+  -- ---- across: what one run has sent to its sibling, the sibling has taken
+
+  abbrev pub InRun : ℕ → ℕ → ℕ → Type 0
+  InRun k a y = (tr .lo k a ≤ y) × (y < tr .lo k a + tr .size k a)
+
+  abbrev pub SameRun : ℕ → ℕ → ℕ → Type 0
+  SameRun k a y = (y < P) × (tr .lo k y ≡ tr .lo k a) × (tr .size k y ≡ tr .size k a)
+
+  pub wider : (k b w y : ℕ) → Meet (tr .lo) (tr .size) k b w → InRun k b y → InRun (suc k) b y
+  wider k b w y (Meet.right i j l) h = omega arith
+  wider k b w y (Meet.left i j l) h = omega arith
+
+  pub other : (k b w y : ℕ) → Meet (tr .lo) (tr .size) k b w → InRun k w y → InRun (suc k) b y
+  other k b w y (Meet.right i j l) h = omega arith
+  other k b w y (Meet.left i j l) h = omega arith
+
+  pub back : (k b w : ℕ) → Meet (tr .lo) (tr .size) k b w → SameRun (suc k) b w → Meet (tr .lo) (tr .size) k w b
+  back k b w (Meet.right i j l) s = Meet.left i (s .1 ∙ j) (s .2 ∙ l)
+  back k b w (Meet.left i j l) s = Meet.right i (s .1 ∙ j) (s .2 ∙ l)
+
+  module _ (same-run : (k a y : ℕ) → a < P → InRun k a y → SameRun k a y) (self : (k a : ℕ) → a < P → InRun k a a) where
+    -- a row over the sibling's run, from what it is over the runs of y
+    shell : (k b w y : ℕ) (row t : ℕ → ℕ) → k < p → b < P → Meet (tr .lo) (tr .size) k b w → InRun k b y
+        → ((k : ℕ) → k ≤ p → over-run row k y ≡ sum t 0 k) → over-run row k w ≡ t k
+    shell k b w y row t l h mt i pre =
+        let s = same-run k b y h i in
+        let u = same-run (suc k) b y h (wider k b w y mt i) in
+        let e : over-run row (suc k) b ≡ sum t 0 (suc k) = rw (u .1, u .2) at (pre (suc k) (omega arith)) in
+        let d : over-run row k b ≡ sum t 0 k = rw (s .1, s .2) at (pre k (omega arith)) in
+        let c = meet-sum (tr .lo) (tr .size) k b w row mt in
+        let z : t (0 + k) ≡ t k = rw (zero-add k) refl in
+        omega arith
+
+    pub across : (m : ℕ → ℕ → ℕ) (s t : ℕ → ℕ → ℕ)
+        → ((y : ℕ) → y < P → (k : ℕ) → k ≤ p → over-run (m y) k y ≡ sum (s y) 0 k)
+        → ((z : ℕ) → z < P → (k : ℕ) → k ≤ p → over-run (λ y. m y z) k z ≡ sum (t z) 0 k)
+        → (k b w : ℕ) → k < p → b < P → w < P → Meet (tr .lo) (tr .size) k b w → over-run (λ y. s y k) k b ≡ over-run (λ z. t z k) k w
+    across m s t sp tp k b w l hb hw mt =
+        sym (sum-ext (λ y. over-run (m y) k w) (λ y. s y k) (tr .lo k b) (tr .size k b)
+        (λ y i j. shell k b w y (m y) (s y) l hb mt (i, j) (sp y (same-run k b y hb (i, j) .0))))
+        ∙ sum-swap m (tr .lo k b) (tr .size k b) (tr .lo k w) (tr .size k w)
+        ∙ sum-ext (λ z. over-run (λ y. m y z) k b) (λ z. t z k) (tr .lo k w) (tr .size k w)
+        (λ z i j. shell k w b z (λ y. m y z) (t z) l hw (back k b w mt (same-run (suc k) b w hb (other k b w w mt (self k w hw)))) (i, j) (tp z (same-run k w z hw (i, j) .0)))
