@@ -1,0 +1,210 @@
+-- The untaken messages: their number is what is sent less what is taken.
+use mathlib.Core.Path.{_≡_, refl, sym, ap, _∙_, subst}
+use mathlib.Core.Logic.{_≢_}
+use mathlib.Core.Option.{Option, none, some}
+use mathlib.Core.List.{List, [], _∷_, _++_}
+use Prim.Native.Nat.{ℕ, zero, suc, _+_, _≤_, _<_, zero-le}
+use native.Mathlib.Decide.{ℕ-discrete, decLt}
+use native.Mathlib.Omega.{arith}
+use lib.ListN.{length}
+use Rattle.base.specs.Choice.{both}
+use Rattle.node.specs.Change.{at}
+use Rattle.runs.specs.Board.{put, work, frame, Item, posted}
+use Rattle.cycle.proofs.Sums.{choose as pick, upd, upd-all, sum, sum-ext, sum-upd, length-snoc}
+use Rattle.cycle.proofs.Lists.{All, all-append, all-map, all-mid}
+use Rattle.cycle.proofs.Heart.{ta}
+use Rattle.cycle.proofs.One.{Nd}
+use Rattle.cycle.proofs.Multi.{Msg, Ph, Board as ABoard}
+use Rattle.cycle.proofs.Acts.{seat, phased, sentPh, tookPh}
+use Rattle.runs.proofs.Tools.{put-same, put-other, put-upd}
+
+abbrev pub hit : ℕ → Option ℕ → ℕ
+hit n none = 0
+hit n (some k) = pick (ℕ-discrete k n) 1 0
+
+pub hit-same : (n : ℕ) → hit n (some n) ≡ 1
+hit-same n = go (ℕ-discrete n n)
+  where
+    go : (d : Dec (n ≡ n)) → pick {A = ℕ} d 1 0 ≡ 1
+    go (yes d) = refl
+    go (no d) = absurd (d refl)
+
+pub hit-other : (k n : ℕ) → k ≢ n → hit n (some k) ≡ 0
+hit-other k n q = go (ℕ-discrete k n)
+  where
+    go : (d : Dec (k ≡ n)) → pick {A = ℕ} d 1 0 ≡ 0
+    go (yes d) = absurd (q d)
+    go (no d) = refl
+
+abbrev pub IsWork : Item → Type 0
+IsWork m = (byte : ℕ) × (m .load ≡ work byte)
+
+abbrev pub Apart : List Item → Type 0
+Apart [] = Unit {0}
+Apart (m ∷ ms) = All (λ k. IsWork m → IsWork k → k .name ≢ m .name) ms × Apart ms
+
+apart-less : (xs ys : List Item) (m : Item) → Apart (xs ++ m ∷ ys) → Apart (xs ++ ys)
+apart-less [] ys m h = h .1
+apart-less (x ∷ xs) ys m h = (all-mid (λ k. IsWork x → IsWork k → k .name ≢ x .name) xs ys m (h .0) .1, apart-less xs ys m (h .1))
+
+apart-from : (xs ys : List Item) (m : Item) → Apart (xs ++ m ∷ ys) → All (λ k. IsWork m → IsWork k → k .name ≢ m .name) (xs ++ ys)
+apart-from [] ys m h = h .0
+apart-from (x ∷ xs) ys m h = ((λ a b q. all-mid (λ k. IsWork x → IsWork k → k .name ≢ x .name) xs ys m (h .0) .0 b a (sym q)), apart-from xs ys m (h .1))
+
+apart-snoc : (xs : List Item) (m : Item) → Apart xs → All (λ k. IsWork k → IsWork m → m .name ≢ k .name) xs → Apart (xs ++ (m ∷ []))
+apart-snoc [] m h a = (tt, tt)
+apart-snoc (x ∷ xs) m h a = (all-append (λ k. IsWork x → IsWork k → k .name ≢ x .name) xs (m ∷ []) (h .0) (a .0, tt), apart-snoc xs m (h .1) (a .1))
+
+pub frame-not-work : {A : Type 0} (m : Item) (bs : List ℕ) → m .load ≡ frame bs → IsWork m → A
+frame-not-work m bs e w = let q = w .1 in let b = w .0 in go b q
+  where
+    go : {A : Type 0} (b : ℕ) → m .load ≡ work b → A
+    go b q = let z : _≡_ {A = ℕ} 0 1 = cc in absurd (omega arith)
+
+abbrev pub Named : (ℕ → Option ℕ) → ℕ → Item → Type 0
+Named ut sd m = IsWork m → (m .name < sd) × (ut (m .name) ≡ some (m .phase))
+
+module _ (P : ℕ) where
+  abbrev pub takesIn : ABoard → ℕ → ℕ
+  takesIn B n = sum (λ y. B .phases n .nodes y .tal ta) 0 P
+
+  pub record Marks (ut : ℕ → Option ℕ) (sd : ℕ) (is : List Item) (B : ABoard) : Type 0 where
+    pub tidy : (i : ℕ) → sd ≤ i → ut i ≡ none
+    pub sums : (n : ℕ) → sum (λ i. hit n (ut i)) 0 sd + takesIn B n ≡ length (B .phases n .log)
+    pub named : All (Named ut sd) is
+    pub apart : Apart is
+
+  -- nothing sent, nothing taken
+  pub marks-same : (ut : ℕ → Option ℕ) (sd : ℕ) (is js : List Item) (B C : ABoard) → Marks ut sd is B → All (Named ut sd) js → Apart js
+      → ((n : ℕ) → takesIn C n ≡ takesIn B n) → ((n : ℕ) → C .phases n .log ≡ B .phases n .log) → Marks ut sd js C
+  marks-same ut sd is js B C m na ap′ t l = record { tidy = m .tidy; sums = λ n. omega (arith, m .sums n, t n, ap length (l n)); named = na; apart = ap′ }
+
+  pub less-named : (ut : ℕ → Option ℕ) (sd : ℕ) (xs ys : List Item) (m : Item) → All (Named ut sd) (xs ++ m ∷ ys) → All (Named ut sd) (xs ++ ys)
+  less-named ut sd xs ys m h = all-mid (Named ut sd) xs ys m h .1
+
+  pub less-apart : (xs ys : List Item) (m : Item) → Apart (xs ++ m ∷ ys) → Apart (xs ++ ys)
+  less-apart = apart-less
+
+  -- frames go out
+  pub frames-named : (ut : ℕ → Option ℕ) (sd : ℕ) (xs : List Item) (a : ℕ) (bs : List ℕ) (c : ℕ) (rs : List ℕ) → All (Named ut sd) xs → All (Named ut sd) (xs ++ posted a bs c rs)
+  frames-named ut sd xs a bs c rs h = all-append (Named ut sd) xs (posted a bs c rs) h (new rs)
+    where
+      new : (rs : List ℕ) → All (Named ut sd) (posted a bs c rs)
+      new [] = tt
+      new (r ∷ rs) = ((λ w. frame-not-work (record { from = a; to = r; load = frame bs; phase = c; name = 0 }) bs refl w), new rs)
+
+  pub frames-apart : (xs : List Item) (a : ℕ) (bs : List ℕ) (c : ℕ) (rs : List ℕ) → Apart xs → Apart (xs ++ posted a bs c rs)
+  frames-apart [] a bs c [] h = tt
+  frames-apart [] a bs c (r ∷ rs) h = (new rs, frames-apart [] a bs c rs tt)
+    where
+      m : Item
+      m = record { from = a; to = r; load = frame bs; phase = c; name = 0 }
+      new : (rs : List ℕ) → All (λ k. IsWork (record { from = a; to = r; load = frame bs; phase = c; name = 0 }) → IsWork k → k .name ≢ 0) (posted a bs c rs)
+      new [] = tt
+      new (s ∷ rs) = ((λ w. frame-not-work (record { from = a; to = r; load = frame bs; phase = c; name = 0 }) bs refl w), new rs)
+  frames-apart (x ∷ xs) a bs c rs h = (all-append (λ k. IsWork x → IsWork k → k .name ≢ x .name) xs (posted a bs c rs) (h .0) (new rs), frames-apart xs a bs c rs (h .1))
+    where
+      new : (rs : List ℕ) → All (λ k. IsWork x → IsWork k → k .name ≢ x .name) (posted a bs c rs)
+      new [] = tt
+      new (r ∷ rs) = ((λ u w. frame-not-work (record { from = a; to = r; load = frame bs; phase = c; name = 0 }) bs refl w), new rs)
+
+  -- the takes of every phase, after node a has changed
+  pub takes-same : (B : ABoard) (a : ℕ) (u : Ph) (v : Nd) (ms : List Msg) → u .nodes ≡ upd (B .phases (B .ph a) .nodes) a v → v .tal ta ≡ seat B a .tal ta
+      → (n : ℕ) → takesIn (phased B (B .ph a) u ms) n ≡ takesIn B n
+  takes-same B a u v ms e q =
+      upd-all (λ m w. sum (λ y. w .nodes y .tal ta) 0 P ≡ takesIn B m) (B .phases) (B .ph a) u
+      (subst (λ (f : ℕ → Nd). sum (λ y. f y .tal ta) 0 P ≡ takesIn B (B .ph a)) (sym e)
+        (sum-ext (λ y. upd (B .phases (B .ph a) .nodes) a v y .tal ta) (λ y. B .phases (B .ph a) .nodes y .tal ta) 0 P
+          (λ y k l. upd-all (λ y nd. nd .tal ta ≡ B .phases (B .ph a) .nodes y .tal ta) (B .phases (B .ph a) .nodes) a v q (λ y z. refl) y)))
+      (λ m z. refl)
+
+  pub log-same : (B : ABoard) (n : ℕ) (u : Ph) (ms : List Msg) → u .log ≡ B .phases n .log → (m : ℕ) → phased B n u ms .phases m .log ≡ B .phases m .log
+  log-same B n u ms e = upd-all (λ m w. w .log ≡ B .phases m .log) (B .phases) n u e (λ m z. refl)
+
+  -- a message goes out
+  pub marks-send : (ut : ℕ → Option ℕ) (sd : ℕ) (is : List Item) (B : ABoard) → Marks ut sd is B → (a c : ℕ) (v : Nd) (ms : List Msg) (m : Item) → v .tal ta ≡ seat B a .tal ta → m .name ≡ sd → m .phase ≡ B .ph a
+      → Marks (put ut sd (some (m .phase))) (suc sd) (is ++ (m ∷ [])) (phased B (B .ph a) (sentPh (B .phases (B .ph a)) a c v) ms)
+  marks-send ut sd is B k a c v ms m tv nm ph =
+      record {
+        tidy = λ i l. put-other ut sd (some (m .phase)) i (omega arith) ∙ k .tidy i (omega arith);
+        sums = λ n. sums n;
+        named = all-append (Named ut′ (suc sd)) is (m ∷ [])
+          (all-map (Named ut sd) (Named ut′ (suc sd)) (λ x h w. let q = h w in (omega (arith, q .0), put-other ut sd (some (m .phase)) (x .name) (omega (arith, q .0)) ∙ q .1)) is (k .named))
+          ((λ w. (omega arith, ap ut′ nm ∙ put-same ut sd (some (m .phase)))), tt);
+        apart = apart-snoc is m (k .apart) (all-map (Named ut sd) (λ x. IsWork x → IsWork m → m .name ≢ x .name) (λ x h w y q. let z = h w .0 in omega arith) is (k .named)) }
+    where
+      ut′ : ℕ → Option ℕ
+      ut′ = put ut sd (some (m .phase))
+      C : ABoard
+      C = phased B (B .ph a) (sentPh (B .phases (B .ph a)) a c v) ms
+      old : (n : ℕ) → sum (λ i. hit n (put ut sd (some (m .phase)) i)) 0 sd ≡ sum (λ i. hit n (ut i)) 0 sd
+      old n = sum-ext (λ i. hit n (put ut sd (some (m .phase)) i)) (λ i. hit n (ut i)) 0 sd (λ i x y. ap (hit n) (put-other ut sd (some (m .phase)) i (omega arith)))
+      new : (n : ℕ) → hit n (put ut sd (some (m .phase)) (0 + sd)) ≡ hit n (some (B .ph a))
+      new n = let z : 0 + sd ≡ sd = omega arith in rw z (ap (hit n) (put-same ut sd (some (m .phase)) ∙ ap some ph))
+      logs : (n : ℕ) → length (phased B (B .ph a) (sentPh (B .phases (B .ph a)) a c v) ms .phases n .log) ≡ length (B .phases n .log) + hit n (some (B .ph a))
+      logs = upd-all (λ n w. length (w .log) ≡ length (B .phases n .log) + hit n (some (B .ph a))) (B .phases) (B .ph a) (sentPh (B .phases (B .ph a)) a c v)
+          (omega (arith, length-snoc (B .phases (B .ph a) .log) a, hit-same (B .ph a))) (λ n z. omega (arith, hit-other (B .ph a) n (λ q. z (sym q))))
+      sums : (n : ℕ) → sum (λ i. hit n (put ut sd (some (m .phase)) i)) 0 (suc sd) + takesIn (phased B (B .ph a) (sentPh (B .phases (B .ph a)) a c v) ms) n
+          ≡ length (phased B (B .ph a) (sentPh (B .phases (B .ph a)) a c v) ms .phases n .log)
+      sums n = omega (arith, k .sums n, old n, new n, logs n, takes-same B a (sentPh (B .phases (B .ph a)) a c v) v ms refl tv n)
+
+  -- a message is taken
+  pub marks-take : (ut : ℕ → Option ℕ) (sd : ℕ) (xs ys : List Item) (m : Item) (B : ABoard) → Marks ut sd (xs ++ m ∷ ys) B → IsWork m → (a c : ℕ) (v : Nd) (ms : List Msg) → c < P → m .phase ≡ B .ph c
+      → v .tal ta ≡ suc (seat B c .tal ta) → Marks (put ut (m .name) none) sd (xs ++ ys) (phased B (B .ph c) (tookPh (B .phases (B .ph c)) a c v) ms)
+  marks-take ut sd xs ys m B k w a c v ms hc ph tv =
+      record {
+        tidy = λ i l. put-other ut (m .name) none i (omega (arith, mine .0)) ∙ k .tidy i l;
+        sums = sums;
+        named = both (xs ++ ys) (less-named ut sd xs ys m (k .named)) (apart-from xs ys m (k .apart));
+        apart = apart-less xs ys m (k .apart) }
+    where
+      mine : (m .name < sd) × (ut (m .name) ≡ some (m .phase))
+      mine = all-mid (Named ut sd) xs ys m (k .named) .0 w
+      both : (zs : List Item) → All (Named ut sd) zs → All (λ k. IsWork m → IsWork k → k .name ≢ m .name) zs → All (Named (put ut (m .name) none) sd) zs
+      both [] a b = tt
+      both (z ∷ zs) a b = ((λ q. (a .0 q .0, put-other ut (m .name) none (z .name) (b .0 w q) ∙ a .0 q .1)), both zs (a .1) (b .1))
+      gone : (n : ℕ) → sum (λ i. hit n (put ut (m .name) none i)) 0 sd + hit n (some (B .ph c)) ≡ sum (λ i. hit n (ut i)) 0 sd
+      gone n =
+          let e = sum-ext (λ i. hit n (put ut (m .name) none i)) (upd (λ i. hit n (ut i)) (m .name) 0) 0 sd (λ i x y. ap (hit n) (put-upd ut (m .name) none i) ∙ pull i) in
+          let s = sum-upd (λ i. hit n (ut i)) (m .name) 0 0 sd zero-le (omega (arith, mine .0)) in
+          let h : hit n (ut (m .name)) ≡ hit n (some (B .ph c)) = ap (hit n) (mine .1 ∙ ap some ph) in
+          omega arith
+        where
+          pull : (i : ℕ) → hit n (upd ut (m .name) none i) ≡ upd (λ i. hit n (ut i)) (m .name) 0 i
+          pull i = go (ℕ-discrete i (m .name))
+            where
+              go : (d : Dec (i ≡ m .name)) → hit n (pick {A = Option ℕ} d none (ut i)) ≡ pick {A = ℕ} d 0 (hit n (ut i))
+              go (yes d) = refl
+              go (no d) = refl
+      took : (n : ℕ) → takesIn (phased B (B .ph c) (tookPh (B .phases (B .ph c)) a c v) ms) n ≡ takesIn B n + hit n (some (B .ph c))
+      took =
+          upd-all (λ n w. sum (λ y. w .nodes y .tal ta) 0 P ≡ takesIn B n + hit n (some (B .ph c))) (B .phases) (B .ph c) (tookPh (B .phases (B .ph c)) a c v)
+          (let s = sum-upd (λ y. B .phases (B .ph c) .nodes y .tal ta) c (v .tal ta) 0 P zero-le (omega arith) in
+            let e = sum-ext (λ y. upd (B .phases (B .ph c) .nodes) c v y .tal ta) (upd (λ y. B .phases (B .ph c) .nodes y .tal ta) c (v .tal ta)) 0 P (λ y x z. pull y) in
+            omega (arith, hit-same (B .ph c)))
+          (λ n z. omega (arith, hit-other (B .ph c) n (λ q. z (sym q))))
+        where
+          pull : (y : ℕ) → upd (B .phases (B .ph c) .nodes) c v y .tal ta ≡ upd (λ y. B .phases (B .ph c) .nodes y .tal ta) c (v .tal ta) y
+          pull y = go (ℕ-discrete y c)
+            where
+              go : (d : Dec (y ≡ c)) → pick {A = Nd} d v (B .phases (B .ph c) .nodes y) .tal ta ≡ pick {A = ℕ} d (v .tal ta) (B .phases (B .ph c) .nodes y .tal ta)
+              go (yes d) = refl
+              go (no d) = refl
+      sums : (n : ℕ) → sum (λ i. hit n (put ut (m .name) none i)) 0 sd + takesIn (phased B (B .ph c) (tookPh (B .phases (B .ph c)) a c v) ms) n
+          ≡ length (phased B (B .ph c) (tookPh (B .phases (B .ph c)) a c v) ms .phases n .log)
+      sums n = omega (arith, k .sums n, gone n, took n, ap length (log-same B (B .ph c) (tookPh (B .phases (B .ph c)) a c v) ms refl n))
+
+  -- all of a phase taken: no mark of it is left
+  pub none-left : (ut : ℕ → Option ℕ) (sd : ℕ) (is : List Item) (B : ABoard) → Marks ut sd is B → (n : ℕ) → takesIn B n ≡ length (B .phases n .log) → (i : ℕ) → ut i ≢ some n
+  none-left ut sd is B k n e i q = go (decLt i sd)
+    where
+      ge : (f : ℕ → ℕ) (m : ℕ) → i < m → f i ≤ sum f 0 m
+      ge f zero l = absurd (omega arith)
+      ge f (suc m) l = at (λ l. ge f m l) (ℕ-discrete i m)
+        where
+          at : (i < m → f i ≤ sum f 0 m) → Dec (i ≡ m) → f i ≤ sum f 0 m + f (0 + m)
+          at r (yes z) = let x : f i ≡ f (0 + m) = ap f (z ∙ omega arith) in omega arith
+          at r (no z) = omega (arith, r (omega arith))
+      go : Dec (i < sd) → ⊥
+      go (yes l) = omega (arith, k .sums n, ge (λ i. hit n (ut i)) sd l, ap (hit n) q, hit-same n)
+      go (no l) = let z : none ≡ some n = sym (k .tidy i (omega arith)) ∙ q in let y : _≡_ {A = ℕ} 0 1 = cc in omega arith
