@@ -4,3 +4,6 @@ pub mod Bound
 pub mod View
 pub mod Pairs
 pub mod Marks
+pub mod Ways
+pub mod Setting
+pub mod Sim
