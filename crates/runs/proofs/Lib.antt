@@ -7,3 +7,5 @@ pub mod Marks
 pub mod Ways
 pub mod Setting
 pub mod Sim
+pub mod Due
+pub mod Emit

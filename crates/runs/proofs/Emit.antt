@@ -1,0 +1,138 @@
+-- The bytes that a node writes for its position are those of the frame that the proof has it write.
+use mathlib.Core.Path.{_≡_, refl, sym, ap, _∙_, subst}
+use mathlib.Core.Logic.{_⊎_, inl, inr}
+use mathlib.Core.Bool.{true}
+use Prim.Native.Nat.{ℕ, _+_, _≤_, _<_}
+use native.Mathlib.Omega.{arith}
+use borrow.Author.Tests.{eq-eqb, ne-eqb, lt-ltb, le-leb}
+use Rattle.base.specs.Choice.{choose}
+use Rattle.base.specs.Limits.{Limits, width}
+use Rattle.base.proofs.Laws.{choose-yes, choose-no, both-make}
+use Rattle.tree.specs.Tree.{dimension}
+use Rattle.frame.specs.Frame.{sentNumber, takenNumber, fieldsOf, frameBytes, hasShell}
+use Rattle.frame.specs.declared.Sent.{Sent}
+use Rattle.frame.specs.declared.Taken.{Taken}
+use Rattle.node.specs.Sums.{Field, sentIn, takenIn, allSent, allTaken, dims, number, own, ownIssued}
+use Rattle.node.specs.State.{valid}
+use Rattle.node.specs.Calls.{stepNumber, firstOf, secondOf}
+use Rattle.node.specs.Barrier.{firstFrame, secondFrame, frameDue}
+use Rattle.node.specs.declared.Node.{Node}
+use Rattle.cycle.proofs.Heart.{Fld, sh, th, sa, ta, acc}
+use Rattle.cycle.proofs.One.{Nd, two, ownf, dim}
+use Rattle.cycle.proofs.Still.{ownf-first, ownf-second, dim-first, dim-second}
+use Rattle.frame.proofs.RoundTripAccepted.{Read}
+use Rattle.runs.proofs.Tools.{getD-list}
+use Rattle.runs.proofs.Setting.{Setting, dim-low}
+use Rattle.runs.proofs.Bound.{Shown}
+use Rattle.runs.proofs.View.{mp, fr1, fr2, view, own-acc, issued-acc, acc-like, acc2-like}
+use Rattle.runs.proofs.Sim.{Holds, Says}
+use Rattle.runs.proofs.Due.{due-first, due-second, due-read}
+
+-- steps and dimensions
+pub step-first : (p pass k : ℕ) → pass ≡ 1 → stepNumber p pass k ≡ k
+step-first p pass k e = choose-yes k (p + k) (eq-eqb pass 1 e)
+
+pub step-second : (p pass k : ℕ) → pass ≡ 2 → stepNumber p pass k ≡ p + k
+step-second p pass k e = choose-no k (p + k) (ne-eqb pass 1 (λ q. omega arith))
+
+pub dim-step : (p pass k : ℕ) → (pass ≡ 1) ⊎ (pass ≡ 2) → k < p → dim p (stepNumber p pass k) ≡ k
+dim-step p pass k (inl e) l = ap (dim p) (step-first p pass k e) ∙ dim-first p k l
+dim-step p pass k (inr e) l = ap (dim p) (step-second p pass k e) ∙ dim-second p k
+
+pub step-lt : (p pass k : ℕ) → (pass ≡ 1) ⊎ (pass ≡ 2) → k < p → stepNumber p pass k < p + p
+step-lt p pass k (inl e) l = omega (arith, step-first p pass k e)
+step-lt p pass k (inr e) l = omega (arith, step-second p pass k e)
+
+module _ {L : Limits} {P : ℕ} (setting : Setting L P) where
+  abbrev p : ℕ
+  p = dimension P
+
+  module _ (a c : ℕ) (n : Node) (u : Nd) (h : Holds setting a c n u) (v : valid L n ≡ true) where
+    dims-is : dims n ≡ p
+    dims-is = ap dimension (h .nodes)
+
+    some-node : 1 ≤ L .nodes
+    some-node = omega (arith, setting .two, setting .few)
+
+    wide : dims n ≤ width
+    wide = omega (arith, dims-is, dim-low setting)
+
+    low : n .dim < dims n
+    low = omega (arith, h .low, dims-is)
+
+    -- what the frame of pass 1 shows
+    first-shows : (f : Field) → Shown (n .dim) (dims n) f → number (firstOf (firstFrame n)) f ≡ own n (n .dim) f
+    first-shows (sentIn m) s =
+        let z : 0 + m ≡ m = omega arith in
+        ap (λ (x : Sent). x .0) (getD-list 0 width (λ m. sentNumber (choose (hasShell (dims n) (n .dim) m) (own n (n .dim) (sentIn m)) 0)) m (sentNumber 0) (omega (arith, wide)))
+        ∙ ap (λ m. choose (hasShell (dims n) (n .dim) m) (own n (n .dim) (sentIn m)) 0) z
+        ∙ choose-yes _ _ (both-make (le-leb _ _ (s .0)) (lt-ltb _ _ (s .1)))
+    first-shows (takenIn m) s =
+        let z : 0 + m ≡ m = omega arith in
+        ap (λ (x : Taken). x .0) (getD-list 0 width (λ m. takenNumber (choose (hasShell (dims n) (n .dim) m) (own n (n .dim) (takenIn m)) 0)) m (takenNumber 0) (omega (arith, wide)))
+        ∙ ap (λ m. choose (hasShell (dims n) (n .dim) m) (own n (n .dim) (takenIn m)) 0) z
+        ∙ choose-yes _ _ (both-make (le-leb _ _ (s .0)) (lt-ltb _ _ (s .1)))
+    first-shows allSent s = refl
+    first-shows allTaken s = refl
+
+    first-case : n .pass ≡ 1 → Says setting a c (firstFrame n) (u .at) (ownf p u (u .at))
+    first-case e =
+        record {
+          pass = inl refl; low = h .low; step = at-is; phase = h .phase; sender = h .number;
+          first = λ q. says; second = λ q. absurd (omega (arith, q));
+        }
+      where
+        at-is : n .dim ≡ u .at
+        at-is = sym (step-first p (n .pass) (n .dim) e) ∙ h .like .at
+
+        says : (f : Fld) → Shown (u .at) p (mp f) → fr1 (firstOf (firstFrame n)) f ≡ ownf p u (u .at) f
+        says f s =
+            let s1 : Shown (n .dim) p (mp f) = subst (λ t. Shown t p (mp f)) (sym at-is) s in
+            let s2 : Shown (n .dim) (dims n) (mp f) = subst (λ q. Shown (n .dim) q (mp f)) (sym dims-is) s1 in
+            first-shows (mp f) s2 ∙ own-acc p n (n .dim) (omega (arith, h .low)) f
+            ∙ acc-like p (view p n) u (h .like) (n .dim) (omega (arith, h .low)) f s1
+            ∙ ap (λ t. acc (u .tal) (u .st) t f) at-is
+            ∙ ap (λ g. g f) (sym (ownf-first p u (u .at) (omega (arith, h .low, at-is))))
+
+    second-case : n .pass ≡ 2 → Says setting a c (secondFrame n) (u .at) (ownf p u (u .at))
+    second-case e =
+        record {
+          pass = inr refl; low = h .low; step = at-is; phase = h .phase; sender = h .number;
+          first = λ q. absurd (omega (arith, q)); second = λ q. says;
+        }
+      where
+        at-is : p + n .dim ≡ u .at
+        at-is = sym (step-second p (n .pass) (n .dim) e) ∙ h .like .at
+
+        own2 : ownIssued n (n .dim) ≡ acc (u .tal) (λ i. u .st (p + i)) (n .dim) sa
+        own2 = issued-acc p n (n .dim) ∙ acc2-like p (view p n) u (h .like) (n .dim) (omega (arith, h .low))
+
+        ownf-is : (f : Fld) → two (u .tot) (acc (u .tal) (λ i. u .st (p + i)) (n .dim) sa) f ≡ ownf p u (u .at) f
+        ownf-is f = ap (λ g. g f) (sym (ownf-second p u (n .dim))) ∙ ap (λ t. ownf p u t f) at-is
+
+        says : (f : Fld) → Shown (u .at) p (mp f) → fr2 (secondOf (secondFrame n)) f ≡ ownf p u (u .at) f
+        says (sh j) s = absurd (omega (arith, at-is))
+        says (th j) s = absurd (omega (arith, at-is))
+        says sa s = own2 ∙ ownf-is sa
+        says ta s = h .like .tot ∙ ownf-is ta
+
+    says-due : (n .pass ≡ 1) ⊎ (n .pass ≡ 2) → Says setting a c (frameDue n) (u .at) (ownf p u (u .at))
+    says-due (inl e) =
+        subst (λ f. Says setting a c f (u .at) (ownf p u (u .at)))
+        (sym (due-first L (setting .fit) n v some-node wide low e)) (first-case e)
+    says-due (inr e) =
+        subst (λ f. Says setting a c f (u .at) (ownf p u (u .at)))
+        (sym (due-second L (setting .fit) n v some-node wide low e)) (second-case e)
+
+    -- the frame is read back from its bytes
+    pub emitted-read : Read L P (frameBytes (dims n) (frameDue n)) (fieldsOf p (frameBytes (dims n) (frameDue n)))
+    emitted-read =
+        let r = due-read L (setting .fit) n v some-node wide low (h .pass) in
+        subst (λ N. Read L N (frameBytes (dims n) (frameDue n)) (fieldsOf (dimension N) (frameBytes (dims n) (frameDue n)))) (h .nodes)
+        (subst (Read L (n .nodes) (frameBytes (dims n) (frameDue n))) (r .fields) r)
+
+    pub emitted : Says setting a c (fieldsOf p (frameBytes (dims n) (frameDue n))) (u .at) (ownf p u (u .at))
+    emitted =
+        let r = due-read L (setting .fit) n v some-node wide low (h .pass) in
+        subst (λ f. Says setting a c f (u .at) (ownf p u (u .at)))
+        (r .fields ∙ ap (λ d. fieldsOf d (frameBytes (dims n) (frameDue n))) dims-is) (says-due (h .pass))
