@@ -9,3 +9,4 @@ pub mod Setting
 pub mod Sim
 pub mod Due
 pub mod Emit
+pub mod Steps
