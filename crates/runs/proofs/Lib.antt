@@ -10,3 +10,5 @@ pub mod Sim
 pub mod Due
 pub mod Emit
 pub mod Steps
+pub mod Safety
+pub mod Lone
