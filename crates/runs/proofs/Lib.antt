@@ -12,3 +12,4 @@ pub mod Emit
 pub mod Steps
 pub mod Safety
 pub mod Lone
+pub mod Legal
