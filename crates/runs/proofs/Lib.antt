@@ -13,3 +13,6 @@ pub mod Steps
 pub mod Safety
 pub mod Lone
 pub mod Legal
+pub mod Tidy
+pub mod Clear
+pub mod Room

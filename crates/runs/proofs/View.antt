@@ -32,7 +32,7 @@ use Rattle.runs.proofs.Tools.{getD-list}
 use Rattle.runs.proofs.Bound.{Shown, shown-less, agreed-first, agreed-second}
 
 -- what an array of stored frames gives past its end
-abbrev pastEnd : Stored
+abbrev pub pastEnd : Stored
 pastEnd = record { present = false; sent = []; taken = []; issued = sentNumber 0; received = takenNumber 0 }
 
 abbrev pub mp : Fld → Field

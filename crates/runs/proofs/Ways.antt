@@ -1,5 +1,5 @@
 -- The ways in which each call can end, and what is then known.
-use mathlib.Core.Path.{_≡_, refl, sym, ap}
+use mathlib.Core.Path.{_≡_, refl, sym, ap, _∙_}
 use mathlib.Core.Logic.{_≢_, _⊎_, inl, inr}
 use mathlib.Core.Bool.{Bool, true, false, not}
 use mathlib.Core.Option.{Option, none, some}
@@ -9,7 +9,7 @@ use lib.Dec.{ltb, leb, eqb}
 use borrow.Author.Tests.{leb-false, ltb-true, ltb-false, eqb-true, eqb-false, not-true, not-false}
 use Rattle.base.specs.Choice.{both}
 use Rattle.base.specs.Limits.{Limits, takenLimit}
-use Rattle.base.proofs.Laws.{clash, cases, both-true}
+use Rattle.base.proofs.Laws.{clash, choose-no, cases, both-true}
 use Rattle.tree.specs.Tree.{awaited, distance}
 use Rattle.frame.specs.Frame.{fieldsOf, readChecks, readFrame}
 use Rattle.frame.specs.Timing.{timing, difference}
@@ -38,6 +38,14 @@ order-cases refuse F [] a out through = through tt
 order-cases refuse F (c ∷ cs) a out through =
     cases F (c .met) _ _ (λ e. out (numberOf (c .word)))
     (λ e. order-cases refuse F cs a out (λ q. through (e, q)))
+
+pub order-passes : {A : Type 0} (refuse : ℕ → A) (cs : List Check) (a : A) → Passes cs → inOrder refuse cs a ≡ a
+order-passes refuse [] a h = refl
+order-passes refuse (c ∷ cs) a h = choose-no _ _ (h .0) ∙ order-passes refuse cs a (h .1)
+
+pub passes-append : (cs ds : List Check) → Passes cs → Passes ds → Passes (cs ++ ds)
+passes-append [] ds h k = k
+passes-append (c ∷ cs) ds h k = (h .0, passes-append cs ds (h .1) k)
 
 passes-first : (cs ds : List Check) → Passes (cs ++ ds) → Passes cs
 passes-first [] ds h = tt
@@ -76,7 +84,7 @@ module _ (L : Limits) (n : Node) where
     accepted : valid L n ≡ true → b < n .nodes → b ≢ n .number → n .busy ≡ true → tally n allSent < L .sends
         → SendWay b (give (oneSent n (distance (n .nodes) (n .number) b)) done)
 
-  sendChecks : ℕ → List Check
+  unfoldable pub sendChecks : ℕ → List Check
   sendChecks b =
       badState L n
       ∷ when (leb (n .nodes) b) Refusal.stranger
@@ -98,7 +106,7 @@ module _ (L : Limits) (n : Node) where
     accepted : valid L n ≡ true → a < n .nodes → a ≢ n .number → difference byte (n .phase) ≡ 0
         → tally n allTaken < takenLimit L → TakeWay a byte (give (woken n (distance (n .nodes) (n .number) a)) done)
 
-  takeChecks : ℕ → ℕ → List Check
+  unfoldable pub takeChecks : ℕ → ℕ → List Check
   takeChecks a byte =
       badState L n
       ∷ when (leb (n .nodes) a) Refusal.stranger
@@ -150,7 +158,7 @@ module _ (L : Limits) (n : Node) where
       read-known L (n .nodes) bs (fieldsIn bs)
       (checks-good (when (badBoard L (n .nodes)) Refusal.board ∷ readChecks L (n .nodes) bs) (fieldsIn bs) (good-board v, c))
 
-  lastChecks : Frame → List Check
+  unfoldable pub lastChecks : Frame → List Check
   lastChecks f =
       when (eqb (f .sender) (n .number)) Refusal.self
       ∷ when (not (isAwaited (awaited (n .nodes) (f .dim) (n .number)) (f .sender))) Refusal.partner
@@ -209,7 +217,7 @@ module _ (L : Limits) (n : Node) where
       (λ f. leaves b m g (ltb-false (suc (n .dim)) (dims n) e) (eqb-false (n .pass) 1 f))))
       (λ g. waits b m))
 
-  callChecks : ℕ → List Check
+  unfoldable pub callChecks : ℕ → List Check
   callChecks room =
       badState L n
       ∷ when (n .busy) Refusal.working
