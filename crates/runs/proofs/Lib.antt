@@ -16,3 +16,4 @@ pub mod Legal
 pub mod Tidy
 pub mod Clear
 pub mod Room
+pub mod Alive
