@@ -17,3 +17,5 @@ pub mod Tidy
 pub mod Clear
 pub mod Room
 pub mod Alive
+pub mod Lively
+pub mod Whole

@@ -199,7 +199,7 @@ module _ (L : Limits) (n : Node) where
         → CallWay (leaving n)
     single : n .busy ≡ false → dims n ≡ 0 → CallWay (leaving n)
 
-  mute-is : isDue n ≡ false → Mute
+  pub mute-is : isDue n ≡ false → Mute
   mute-is e = go (n .flag) refl (receiversDue n) refl e
     where
       go : (t : Bool) → n .flag ≡ t → (l : List ℕ) → receiversDue n ≡ l → both t (not (isEmpty l)) ≡ false → Mute

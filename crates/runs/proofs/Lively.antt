@@ -1,0 +1,243 @@
+-- The second half of demand 3, for two nodes and more: no board sticks.
+use mathlib.Core.Path.{_≡_, refl, sym, ap, _∙_, subst}
+use mathlib.Core.Logic.{_≢_, _⊎_, inl, inr}
+use mathlib.Core.Bool.{Bool, true, false}
+use mathlib.Core.List.{List, [], _∷_, List·Memᴰ, List·Memᴰ·head, List·Memᴰ·tail}
+use Prim.Native.Nat.{ℕ, zero, suc, _+_, _-_, _*_, _≤_, _<_}
+use native.Mathlib.Decide.{ℕ-discrete}
+use native.Mathlib.Omega.{arith}
+use lib.Dec.{ltb, eqb}
+use borrow.Author.Tests.{eq-eqb, ne-eqb, le-ltb}
+use Rattle.base.specs.Choice.{both}
+use Rattle.base.specs.Limits.{Limits, fieldLimit}
+use Rattle.base.proofs.Laws.{clash, choose-yes, choose-no, cases}
+use Rattle.tree.specs.Tree.{dimension}
+use Rattle.frame.specs.Frame.{frameLength}
+use Rattle.node.specs.Sums.{dims}
+use Rattle.node.specs.Agree.{isNone, agrees}
+use Rattle.node.specs.State.{valid}
+use Rattle.node.specs.Change.{at}
+use Rattle.node.specs.Answers.{Given, give, Barrier, barred}
+use Rattle.node.specs.Barrier.{lengthDue, isDue, sending, leaving, moving, looking, barrier}
+use Rattle.node.specs.declared.Node.{Node}
+use Rattle.runs.specs.Board.{Item, Board, Event, run}
+use Rattle.runs.specs.Claim.{Goes, Lives, NoLoss}
+use Rattle.cycle.proofs.Sums.{choose as pick}
+use Rattle.cycle.proofs.Tree.{Tree}
+use Rattle.cycle.proofs.Lists.{All}
+use Rattle.cycle.proofs.One.{It, dim, Unheard, Agree}
+use Rattle.cycle.proofs.Still.{least}
+use Rattle.cycle.proofs.Multi.{Msg, Board as ABoard, sub, no-board-sticks}
+use Rattle.cycle.proofs.Acts.{seat}
+use Rattle.frame.proofs.RoundTripChecks.{Passes}
+use Rattle.runs.proofs.Setting.{Setting, tree, dim-pos}
+use Rattle.runs.proofs.Ways.{Mute, mute-is, callChecks, order-passes}
+use Rattle.runs.proofs.Pairs.{Pair, pair-all}
+use Rattle.runs.proofs.Sim.{Carried, Sim}
+use Rattle.runs.proofs.Emit.{step-first, step-second}
+use Rattle.runs.proofs.Steps.{mute-of}
+use Rattle.runs.proofs.Legal.{agrees-first, agrees-second}
+use Rattle.runs.proofs.Alive.{Sound, sound, valid-at}
+
+-- ---- looking for one
+
+search-below : (G : ℕ → Type 0) → ((a : ℕ) → Dec (G a)) → (n : ℕ) → ((a : ℕ) × ((a < n) × G a)) ⊎ ((a : ℕ) → a < n → G a → ⊥)
+search-below G d zero = inr (λ a l g. omega arith)
+search-below G d (suc n) = go (search-below G d n) (d n)
+  where
+    go : ((a : ℕ) × ((a < n) × G a)) ⊎ ((a : ℕ) → a < n → G a → ⊥) → Dec (G n) → ((a : ℕ) × ((a < suc n) × G a)) ⊎ ((a : ℕ) → a < suc n → G a → ⊥)
+    go (inl r) e = inl (r .0, (omega (arith, r .1 .0), r .1 .1))
+    go (inr f) (yes g) = inl (n, (omega arith, g))
+    go (inr f) (no h) = inr (λ a l g. at a l g (ℕ-discrete a n))
+      where
+        at : (a : ℕ) → a < suc n → G a → Dec (a ≡ n) → ⊥
+        at a l g (yes z) = h (subst G z g)
+        at a l g (no z) = f a (omega arith) g
+
+search-list : (G : Item → Type 0) → ((m : Item) → Dec (G m)) → (l : List Item) → ((m : Item) × (List·Memᴰ m l × G m)) ⊎ All (λ m. G m → ⊥) l
+search-list G d [] = inr tt
+search-list G d (m ∷ l) = go (search-list G d l) (d m)
+  where
+    go : ((m : Item) × (List·Memᴰ m l × G m)) ⊎ All (λ m. G m → ⊥) l → Dec (G m) → ((x : Item) × (List·Memᴰ x (m ∷ l) × G x)) ⊎ All (λ m. G m → ⊥) (m ∷ l)
+    go r (yes g) = inl (m, (List·Memᴰ·head refl, g))
+    go (inl r) (no h) = inl (r .0, (List·Memᴰ·tail (r .1 .0), r .1 .1))
+    go (inr f) (no h) = inr (h, f)
+
+both-dec : {A B : Type 0} → Dec A → Dec B → Dec (A × B)
+both-dec (yes a) (yes b) = yes (a, b)
+both-dec (yes a) (no b) = no (λ q. b (q .1))
+both-dec (no a) d = no (λ q. a (q .0))
+
+true-dec : (b : Bool) → Dec (b ≡ true)
+true-dec true = yes refl
+true-dec false = no (λ q. clash (sym q))
+
+false-is : (b : Bool) → (b ≡ true → ⊥) → b ≡ false
+false-is true h = absurd (h refl)
+false-is false h = refl
+
+sub-all : (n : ℕ) (G : It → Type 0) (ms : List Msg) → All (λ m. m .ph ≡ n → G (m .it)) ms → All G (sub n ms)
+sub-all n G [] h = tt
+sub-all n G (m ∷ ms) h = go (ℕ-discrete (m .ph) n) (sub-all n G ms (h .1))
+  where
+    go : (d : Dec (m .ph ≡ n)) → All G (sub n ms) → All G (pick {A = List It} d (m .it ∷ sub n ms) (sub n ms))
+    go (yes e) r = (h .0 e, r)
+    go (no e) r = r
+
+both-no : (t u : Bool) → u ≡ false → both t u ≡ false
+both-no true u e = e
+both-no false u e = refl
+
+module _ (L : Limits) (P : ℕ) where
+  -- ---- a node that would go on
+
+  look-goes : (n : Node) → agrees L n (n .pass) (n .dim) ≡ true → Goes L P (looking L n .answer)
+  look-goes n g =
+      cases Going (eqb (dims n) 0) (leaving n) _ (λ e. Goes.leaving)
+      (λ e. subst Going (sym (choose-yes (moving n) _ g))
+      (cases Going (ltb (suc (n .dim)) (dims n)) _ _ (λ f. Goes.moving)
+      (λ f. cases Going (eqb (n .pass) 1) _ _ (λ h. Goes.moving) (λ h. Goes.leaving))))
+    where
+      Going : Given Barrier → Type 0
+      Going y = Goes L P (y .answer)
+
+  -- with a frame due, or where its step agrees
+  goes-on : (n : Node) (len : ℕ) → valid L n ≡ true → n .busy ≡ false → lengthDue n ≤ len
+      → (isDue n ≡ false → agrees L n (n .pass) (n .dim) ≡ true) → Goes L P (barrier L n len .answer)
+  unfolding barrier callChecks
+  goes-on n len v b l g =
+      subst (λ (y : Given Barrier). Goes L P (y .answer)) (sym (order-passes (λ x. give n (barred x)) (callChecks L n len) _ passes))
+      (cases (λ (y : Given Barrier). Goes L P (y .answer)) (isDue n) (sending n) (looking L n) (λ e. Goes.sending _ _) (λ e. look-goes n (g e)))
+    where
+      passes : Passes (callChecks L n len)
+      passes = (rw v, (b, (both-no (isDue n) (ltb len (lengthDue n)) (le-ltb len (lengthDue n) l), tt)))
+
+  longest : (p pass k : ℕ) → (pass ≡ 1) ⊎ (pass ≡ 2) → frameLength p pass k ≤ frameLength p 1 0
+  unfolding frameLength
+  longest p pass k (inl e) = let z = choose-yes (4 + 8 * (p - k) + 8) 12 (eq-eqb pass 1 e) in omega arith
+  longest p pass k (inr e) = let z = choose-no (4 + 8 * (p - k) + 8) 12 (ne-eqb pass 1 (λ q. omega arith)) in omega arith
+
+module _ {L : Limits} {P : ℕ} (setting : Setting L P) where
+  abbrev p : ℕ
+  p = dimension P
+
+  abbrev Z : 0 < dimension P
+  Z = dim-pos setting
+
+  abbrev T : Tree P (dimension P)
+  T = tree setting
+
+  module _ (w : Board) (s : Sound setting w) where
+    abbrev B : ABoard
+    B = s .played .board
+
+    i : Sim setting w (s .played .board)
+    i = s .played .sim
+
+    ok : (a : ℕ) → a < P → valid L (w .nodes a) ≡ true
+    ok a h = valid-at setting w (s .played) (s .kept) a h
+
+    to-lt : (l : List Item) (ms : List Msg) → Pair (Carried setting) l ms → (m : Item) → List·Memᴰ m l → m .to < P
+    to-lt l ms h m k = at l k ms h
+      where
+        at : (l : List Item) → List·Memᴰ m l → (ms : List Msg) → Pair (Carried setting) l ms → m .to < P
+        at l (List·Memᴰ·head {x = x} {xs = xs} e) [] h = absurd h
+        at l (List·Memᴰ·head {x = x} {xs = xs} e) (t ∷ ms) h = subst (λ (y : Item). y .to < P) (sym e) (h .0 .to-lt)
+        at l (List·Memᴰ·tail {x = x} {xs = xs} k) [] h = absurd h
+        at l (List·Memᴰ·tail {x = x} {xs = xs} k) (t ∷ ms) h = at xs k ms (h .1)
+
+    -- a node of the oldest phase
+    u : ℕ
+    u = least (w .count) P (omega arith) .0
+
+    hu : u < P
+    unfolding u
+    hu = least (w .count) P (omega arith) .1 .0
+
+    old : (y : ℕ) → y < P → w .count u ≤ w .count y
+    unfolding u
+    old = least (w .count) P (omega arith) .1 .1
+
+    from-old : (a : ℕ) → w .count a ≡ w .count u → (y : ℕ) → y < P → w .count a ≤ w .count y
+    from-old a e y h = omega (arith, old y h)
+
+    idle-of : ((a : ℕ) → a < P → (w .count a ≡ w .count u) × (w .busy a ≡ true) → ⊥) → (a : ℕ) → a < P → w .count a ≡ w .count u → w .nodes a .busy ≡ false
+    idle-of f a h e = i .busy a h ∙ false-is (w .busy a) (λ q. f a h (e, q))
+
+    mute-now : ((a : ℕ) → a < P → (w .count a ≡ w .count u) × (isDue (w .nodes a) ≡ true) → ⊥) → (a : ℕ) → a < P → w .count a ≡ w .count u → Mute L (w .nodes a)
+    mute-now f a h e = mute-is L (w .nodes a) (false-is (isDue (w .nodes a)) (λ q. f a h (e, q)))
+
+    stuck : ((a : ℕ) → a < P → (w .count a ≡ w .count u) × (w .busy a ≡ true) → ⊥) → All (λ m. (m .phase ≡ w .count u) × (w .count (m .to) ≡ w .count u) → ⊥) (w .items)
+        → ((a : ℕ) → a < P → (w .count a ≡ w .count u) × (isDue (w .nodes a) ≡ true) → ⊥)
+        → (a : ℕ) × ((a < P) × ((w .count a ≡ w .count u) × (agrees L (w .nodes a) (w .nodes a .pass) (w .nodes a .dim) ≡ true)))
+    stuck f1 f2 f3 =
+        let r = no-board-sticks T (fieldLimit L) (s .played .board) (s .played .reached) u hu (s .calm (s .played .board .ph u)) (λ y h. omega (arith, old y h, i .counts u, i .counts y)) rest under isNone in
+        (r .0, (r .1 .0, (back (r .0) (r .1 .1 .0), agrees-of (r .0) (r .1 .0) (r .1 .1 .0) (r .1 .1 .1))))
+      where
+        back : (a : ℕ) → s .played .board .ph a ≡ s .played .board .ph u → w .count a ≡ w .count u
+        back a e = i .counts a ∙ e ∙ sym (i .counts u)
+        rest : (a : ℕ) → a < P → s .played .board .ph a ≡ s .played .board .ph u → s .played .board .phases (s .played .board .ph u) .nodes a .busy ≡ false
+        rest a h e = subst (λ n. s .played .board .phases n .nodes a .busy ≡ false) e (sym (i .node a h .like .busy) ∙ idle-of f1 a h (back a e))
+        isNone : (a : ℕ) → a < P → s .played .board .ph a ≡ s .played .board .ph u
+            → (s .played .board .phases (s .played .board .ph u) .nodes a .flag ≡ false) ⊎ Unheard T a (s .played .board .phases (s .played .board .ph u) .nodes a .at)
+        isNone a h e =
+            subst (λ n. (s .played .board .phases n .nodes a .flag ≡ false) ⊎ Unheard T a (s .played .board .phases n .nodes a .at)) e
+            (mute-of setting w (s .played .board) (s .played .reached) (s .played .sim) (s .played .marks) a h (mute-now f3 a h (back a e)))
+        under : All (λ t. (t .dest < P) × (s .played .board .ph u < s .played .board .ph (t .dest))) (sub (s .played .board .ph u) (s .played .board .msgs))
+        under =
+            sub-all (s .played .board .ph u) (λ t. (t .dest < P) × (s .played .board .ph u < s .played .board .ph (t .dest))) (s .played .board .msgs)
+            (pair-all (Carried setting) (λ m. (m .phase ≡ w .count u) × (w .count (m .to) ≡ w .count u) → ⊥) (λ m. m .ph ≡ s .played .board .ph u → (m .it .dest < P) × (s .played .board .ph u < s .played .board .ph (m .it .dest)))
+              (λ m t c f e. one m t c f e) (w .items) (s .played .board .msgs) (i .items) f2)
+          where
+            one : (m : Item) (t : Msg) → Carried setting m t → ((m .phase ≡ w .count u) × (w .count (m .to) ≡ w .count u) → ⊥) → t .ph ≡ s .played .board .ph u → (t .it .dest < P) × (s .played .board .ph u < s .played .board .ph (t .it .dest))
+            one m t c f e =
+                let d : m .to < P = c .to-lt in
+                let z : w .count (m .to) ≡ s .played .board .ph (t .it .dest) = i .counts (m .to) ∙ ap (s .played .board .ph) (c .to) in
+                let ne : w .count (m .to) ≢ w .count u = λ y. f (c .phase ∙ e ∙ sym (i .counts u), y) in
+                (omega (arith, c .to), omega (arith, old (m .to) d, i .counts u, z, ne))
+        agrees-of : (a : ℕ) → a < P → s .played .board .ph a ≡ s .played .board .ph u
+            → Agree p (fieldLimit L) (s .played .board .phases (s .played .board .ph u) .nodes a) (s .played .board .phases (s .played .board .ph u) .nodes a .at) (T .await (dim p (s .played .board .phases (s .played .board .ph u) .nodes a .at)) a)
+            → agrees L (w .nodes a) (w .nodes a .pass) (w .nodes a .dim) ≡ true
+        agrees-of a h e g =
+            by (i .node a h .pass) (subst (λ n. Agree p (fieldLimit L) (s .played .board .phases n .nodes a) (s .played .board .phases n .nodes a .at) (T .await (dim p (s .played .board .phases n .nodes a .at)) a)) (sym e) g)
+          where
+            by : (w .nodes a .pass ≡ 1) ⊎ (w .nodes a .pass ≡ 2) → Agree p (fieldLimit L) (seat (s .played .board) a) (seat (s .played .board) a .at) (T .await (dim p (seat (s .played .board) a .at)) a) → agrees L (w .nodes a) (w .nodes a .pass) (w .nodes a .dim) ≡ true
+            by (inl q) g =
+                let at-is : seat (s .played .board) a .at ≡ w .nodes a .dim = sym (i .node a h .like .at) ∙ step-first p (w .nodes a .pass) (w .nodes a .dim) q in
+                subst (λ x. agrees L (w .nodes a) x (w .nodes a .dim) ≡ true) (sym q)
+                (agrees-first setting (s .played .board) (s .played .reached) a (w .count a) h (w .nodes a) (i .node a h) (w .nodes a .dim) (i .node a h .low)
+                  (subst (λ t. Agree p (fieldLimit L) (seat (s .played .board) a) t (T .await (dim p t) a)) at-is g))
+            by (inr q) g =
+                let at-is : seat (s .played .board) a .at ≡ p + w .nodes a .dim = sym (i .node a h .like .at) ∙ step-second p (w .nodes a .pass) (w .nodes a .dim) q in
+                subst (λ x. agrees L (w .nodes a) x (w .nodes a .dim) ≡ true) (sym q)
+                (agrees-second setting (s .played .board) (s .played .reached) a (w .count a) h (w .nodes a) (i .node a h) (w .nodes a .dim) (i .node a h .low)
+                  (subst (λ t. Agree p (fieldLimit L) (seat (s .played .board) a) t (T .await (dim p t) a)) at-is g))
+
+    pub lives-now : Lives L P w
+    lives-now =
+        go (search-below (λ a. (w .count a ≡ w .count u) × (w .busy a ≡ true)) (λ a. both-dec (ℕ-discrete (w .count a) (w .count u)) (true-dec (w .busy a))) P)
+          (search-list (λ m. (m .phase ≡ w .count u) × (w .count (m .to) ≡ w .count u)) (λ m. both-dec (ℕ-discrete (m .phase) (w .count u)) (ℕ-discrete (w .count (m .to)) (w .count u))) (w .items))
+          (search-below (λ a. (w .count a ≡ w .count u) × (isDue (w .nodes a) ≡ true)) (λ a. both-dec (ℕ-discrete (w .count a) (w .count u)) (true-dec (isDue (w .nodes a)))) P)
+      where
+        frame-le : (a : ℕ) → a < P → (len : ℕ) → frameLength (dimension P) 1 0 ≤ len → frameLength (dims (w .nodes a)) (w .nodes a .pass) (w .nodes a .dim) ≤ len
+        frame-le a h len l =
+            let z : frameLength (dims (w .nodes a)) (w .nodes a .pass) (w .nodes a .dim) ≡ frameLength p (w .nodes a .pass) (w .nodes a .dim) = ap (λ d. frameLength d (w .nodes a .pass) (w .nodes a .dim)) (ap dimension (i .node a h .nodes)) in
+            omega (arith, z, longest L P p (w .nodes a .pass) (w .nodes a .dim) (i .node a h .pass))
+        go : ((a : ℕ) × ((a < P) × ((w .count a ≡ w .count u) × (w .busy a ≡ true)))) ⊎ ((a : ℕ) → a < P → (w .count a ≡ w .count u) × (w .busy a ≡ true) → ⊥)
+            → ((m : Item) × (List·Memᴰ m (w .items) × ((m .phase ≡ w .count u) × (w .count (m .to) ≡ w .count u)))) ⊎ All (λ m. (m .phase ≡ w .count u) × (w .count (m .to) ≡ w .count u) → ⊥) (w .items)
+            → ((a : ℕ) × ((a < P) × ((w .count a ≡ w .count u) × (isDue (w .nodes a) ≡ true))))
+              ⊎ ((a : ℕ) → a < P → (w .count a ≡ w .count u) × (isDue (w .nodes a) ≡ true) → ⊥)
+            → Lives L P w
+        go (inl r) f2 f3 = Lives.busy (r .0) (r .1 .0, from-old (r .0) (r .1 .1 .0)) (r .1 .1 .1)
+        go (inr f1) (inl r) f3 =
+            Lives.underWay (r .0 .to) (to-lt (w .items) (s .played .board .msgs) (i .items) (r .0) (r .1 .0), from-old (r .0 .to) (r .1 .1 .1)) (r .0) (r .1 .0) refl (r .1 .1 .0 ∙ sym (r .1 .1 .1))
+        go (inr f1) (inr f2) (inl r) =
+            Lives.goes (r .0) (r .1 .0, from-old (r .0) (r .1 .1 .0))
+            (λ len l. goes-on L P (w .nodes (r .0)) len (ok (r .0) (r .1 .0)) (idle-of f1 (r .0) (r .1 .0) (r .1 .1 .0)) (frame-le (r .0) (r .1 .0) len l) (λ e. clash (sym (r .1 .1 .1) ∙ e)))
+        go (inr f1) (inr f2) (inr f3) =
+            let r = stuck f1 f2 f3 in
+            Lives.goes (r .0) (r .1 .0, from-old (r .0) (r .1 .1 .0))
+            (λ len l. goes-on L P (w .nodes (r .0)) len (ok (r .0) (r .1 .0)) (idle-of f1 (r .0) (r .1 .0) (r .1 .1 .0)) (frame-le (r .0) (r .1 .0) len l) (λ e. r .1 .1 .1))
+
+  pub every-run-lives : (es : List Event) → NoLoss es → Lives L P (run L P es)
+  every-run-lives es l = lives-now (run L P es) (sound setting es l)
