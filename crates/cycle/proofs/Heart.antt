@@ -80,26 +80,25 @@ module _ {P p : ℕ} (tr : Tree P p) where
   back k b w (Meet.right i j l) s = Meet.left i (s .1 ∙ j) (s .2 ∙ l)
   back k b w (Meet.left i j l) s = Meet.right i (s .1 ∙ j) (s .2 ∙ l)
 
-  module _ (same-run : (k a y : ℕ) → a < P → InRun k a y → SameRun k a y) (self : (k a : ℕ) → a < P → InRun k a a) where
-    -- a row over the sibling's run, from what it is over the runs of y
-    shell : (k b w y : ℕ) (row t : ℕ → ℕ) → k < p → b < P → Meet (tr .lo) (tr .size) k b w → InRun k b y
-        → ((k : ℕ) → k ≤ p → over-run row k y ≡ sum t 0 k) → over-run row k w ≡ t k
-    shell k b w y row t l h mt i pre =
-        let s = same-run k b y h i in
-        let u = same-run (suc k) b y h (wider k b w y mt i) in
-        let e : over-run row (suc k) b ≡ sum t 0 (suc k) = rw (u .1, u .2) at (pre (suc k) (omega arith)) in
-        let d : over-run row k b ≡ sum t 0 k = rw (s .1, s .2) at (pre k (omega arith)) in
-        let c = meet-sum (tr .lo) (tr .size) k b w row mt in
-        let z : t (0 + k) ≡ t k = rw (zero-add k) refl in
-        omega arith
+  -- a row over the sibling's run, from what it is over the runs of y
+  shell : (k b w y : ℕ) (row t : ℕ → ℕ) → k < p → b < P → Meet (tr .lo) (tr .size) k b w → InRun k b y
+      → ((k : ℕ) → k ≤ p → over-run row k y ≡ sum t 0 k) → over-run row k w ≡ t k
+  shell k b w y row t l h mt i pre =
+      let s = tr .same k b y h i in
+      let u = tr .same (suc k) b y h (wider k b w y mt i) in
+      let e : over-run row (suc k) b ≡ sum t 0 (suc k) = rw (u .1, u .2) at (pre (suc k) (omega arith)) in
+      let d : over-run row k b ≡ sum t 0 k = rw (s .1, s .2) at (pre k (omega arith)) in
+      let c = meet-sum (tr .lo) (tr .size) k b w row mt in
+      let z : t (0 + k) ≡ t k = rw (zero-add k) refl in
+      omega arith
 
-    pub across : (m : ℕ → ℕ → ℕ) (s t : ℕ → ℕ → ℕ)
-        → ((y : ℕ) → y < P → (k : ℕ) → k ≤ p → over-run (m y) k y ≡ sum (s y) 0 k)
-        → ((z : ℕ) → z < P → (k : ℕ) → k ≤ p → over-run (λ y. m y z) k z ≡ sum (t z) 0 k)
-        → (k b w : ℕ) → k < p → b < P → w < P → Meet (tr .lo) (tr .size) k b w → over-run (λ y. s y k) k b ≡ over-run (λ z. t z k) k w
-    across m s t sp tp k b w l hb hw mt =
-        sym (sum-ext (λ y. over-run (m y) k w) (λ y. s y k) (tr .lo k b) (tr .size k b)
-        (λ y i j. shell k b w y (m y) (s y) l hb mt (i, j) (sp y (same-run k b y hb (i, j) .0))))
-        ∙ sum-swap m (tr .lo k b) (tr .size k b) (tr .lo k w) (tr .size k w)
-        ∙ sum-ext (λ z. over-run (λ y. m y z) k b) (λ z. t z k) (tr .lo k w) (tr .size k w)
-        (λ z i j. shell k w b z (λ y. m y z) (t z) l hw (back k b w mt (same-run (suc k) b w hb (other k b w w mt (self k w hw)))) (i, j) (tp z (same-run k w z hw (i, j) .0)))
+  pub across : (m : ℕ → ℕ → ℕ) (s t : ℕ → ℕ → ℕ)
+      → ((y : ℕ) → y < P → (k : ℕ) → k ≤ p → over-run (m y) k y ≡ sum (s y) 0 k)
+      → ((z : ℕ) → z < P → (k : ℕ) → k ≤ p → over-run (λ y. m y z) k z ≡ sum (t z) 0 k)
+      → (k b w : ℕ) → k < p → b < P → w < P → Meet (tr .lo) (tr .size) k b w → over-run (λ y. s y k) k b ≡ over-run (λ z. t z k) k w
+  across m s t sp tp k b w l hb hw mt =
+      sym (sum-ext (λ y. over-run (m y) k w) (λ y. s y k) (tr .lo k b) (tr .size k b)
+      (λ y i j. shell k b w y (m y) (s y) l hb mt (i, j) (sp y (tr .same k b y hb (i, j) .0))))
+      ∙ sum-swap m (tr .lo k b) (tr .size k b) (tr .lo k w) (tr .size k w)
+      ∙ sum-ext (λ z. over-run (λ y. m y z) k b) (λ z. t z k) (tr .lo k w) (tr .size k w)
+      (λ z i j. shell k w b z (λ y. m y z) (t z) l hw (back k b w mt (tr .same (suc k) b w hb (other k b w w mt (tr .self k w hw)))) (i, j) (tp z (tr .same k w z hw (i, j) .0)))

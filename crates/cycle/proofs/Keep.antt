@@ -348,10 +348,10 @@ module _ {P p : ℕ} (tr : Tree P p) (lim : ℕ) where
 
   -- ---- a send
 
-  send-keep : (b : Bd) → Fit b → 0 < p → (a c j : ℕ) → a < P → c < P → j < p → Shell tr a c j → b .nodes a .busy ≡ true → length (b .log) < lim
+  send-keep : (b : Bd) → Fit b → (a c j : ℕ) → a < P → c < P → j < p → Shell tr a c j → b .nodes a .busy ≡ true → length (b .log) < lim
       → (b .lossy ≡ false → Latest tr (with b a (busy-with (b .nodes a) true (bump-s (b .nodes a .tal) j)) (b .items ++ posts a job (c ∷ [])) (snoc (b .log) a) (more (b .gm) a c) (b .gt)))
       → Fit (with b a (busy-with (b .nodes a) true (bump-s (b .nodes a .tal) j)) (b .items ++ posts a job (c ∷ [])) (snoc (b .log) a) (more (b .gm) a c) (b .gt))
-  send-keep b i p0 a c j h hc jp sl bu lm la = fit-keep b i a v is (snoc (b .log) a) (more (b .gm) a c) (b .gt) (
+  send-keep b i a c j h hc jp sl bu lm la = fit-keep b i a v is (snoc (b .log) a) (more (b .gm) a c) (b .gt) (
       record {
         here = h;
         evol = ev;
@@ -420,11 +420,11 @@ module _ {P p : ℕ} (tr : Tree P p) (lim : ℕ) where
       at y (yes d) = refl
       at y (no d) = refl
 
-  take-keep : (b : Bd) → Fit b → 0 < p → (xs ys : List It) (a c j : ℕ) → c < P → j < p → Shell tr c a j → b .items ≡ xs ++ record { from = a; dest = c; load = job } ∷ ys
+  take-keep : (b : Bd) → Fit b → (xs ys : List It) (a c j : ℕ) → c < P → j < p → Shell tr c a j → b .items ≡ xs ++ record { from = a; dest = c; load = job } ∷ ys
       → b .nodes c .at < p + p
       → (b .lossy ≡ false → Latest tr (with b c (at-step (busy-with (b .nodes c) true (bump-t (b .nodes c .tal) j)) 0 true 0) (xs ++ ys) (b .log) (b .gm) (more (b .gt) a c)))
       → Fit (with b c (at-step (busy-with (b .nodes c) true (bump-t (b .nodes c .tal) j)) 0 true 0) (xs ++ ys) (b .log) (b .gm) (more (b .gt) a c))
-  take-keep b i p0 xs ys a c j h jp sl e u la = fit-keep b i c v (xs ++ ys) (b .log) (b .gm) (more (b .gt) a c) (
+  take-keep b i xs ys a c j h jp sl e u la = fit-keep b i c v (xs ++ ys) (b .log) (b .gm) (more (b .gt) a c) (
       record {
         here = h;
         evol = ev;
@@ -494,110 +494,109 @@ module _ {P p : ℕ} (tr : Tree P p) (lim : ℕ) where
       let q : fl (v .st (p + k)) sa ≡ x sa = rw g refl in
       omega arith
 
-  module _ (p0 : 0 < p) (not-last : (k a : ℕ) → a < P → suc k ≡ p → tr .await k a ≡ none → ⊥) where
-    quiet-now : (b : Bd) → Fit b → (a : ℕ) → a < P → b .nodes a .busy ≡ false → (k : ℕ) → b .nodes a .at ≡ p + k → suc k ≡ p
-        → Agree p lim (b .nodes a) (b .nodes a .at) (tr .await (dim p (b .nodes a .at)) a) → Quiet (b .log) (takes P (world b)) P (world b .done) (b .nodes a .tot)
-    quiet-now b i a h bu k e l ag =
-        final (b .log) (takes P (world b)) P (world b .done) (v .tot) (o .part) (i .below) (o .in-reach) (reach b i) (λ y q. o .claims y zero-le (omega arith)) (sym (o .adds) ∙ total)
-      where
-        v : Nd
-        v = b .nodes a
+  quiet-now : (b : Bd) → Fit b → (a : ℕ) → a < P → b .nodes a .busy ≡ false → (k : ℕ) → b .nodes a .at ≡ p + k → suc k ≡ p
+      → Agree p lim (b .nodes a) (b .nodes a .at) (tr .await (dim p (b .nodes a .at)) a) → Quiet (b .log) (takes P (world b)) P (world b .done) (b .nodes a .tot)
+  quiet-now b i a h bu k e l ag =
+      final (b .log) (takes P (world b)) P (world b .done) (v .tot) (o .part) (i .below) (o .in-reach) (reach b i) (λ y q. o .claims y zero-le (omega arith)) (sym (o .adds) ∙ total)
+    where
+      v : Nd
+      v = b .nodes a
 
-        ok : NodeFit tr lim b a v
-        ok = i .nodes-fit a h
+      ok : NodeFit tr lim b a v
+      ok = i .nodes-fit a h
 
-        here : Agree p lim v (p + k) (tr .await k a)
-        here = rw (dim-second p k) at (subst (λ s. Agree p lim v s (tr .await (dim p s) a)) e ag)
+      here : Agree p lim v (p + k) (tr .await k a)
+      here = rw (dim-second p k) at (subst (λ s. Agree p lim v s (tr .await (dim p s) a)) e ag)
 
-        all : (j : ℕ) → j < p → Agreed tr (v .tot) (tr .await j a) (two-of (v .st (p + j)))
-        all j q = go (ℕ-discrete j k)
-          where
-            go : Dec (j ≡ k) → Agreed tr (v .tot) (tr .await j a) (two-of (v .st (p + j)))
-            go (yes f) = rw f (agreed-of tr lim v k (tr .await k a) here)
-            go (no f) = agreed-of tr lim v j (tr .await j a) (rw (dim-second p j) at (ok .agrees (p + j) (omega arith)))
+      all : (j : ℕ) → j < p → Agreed tr (v .tot) (tr .await j a) (two-of (v .st (p + j)))
+      all j q = go (ℕ-discrete j k)
+        where
+          go : Dec (j ≡ k) → Agreed tr (v .tot) (tr .await j a) (two-of (v .st (p + j)))
+          go (yes f) = rw f (agreed-of tr lim v k (tr .await k a) here)
+          go (no f) = agreed-of tr lim v j (tr .await j a) (rw (dim-second p j) at (ok .agrees (p + j) (omega arith)))
 
-        o : Ok2 P (world b) 0 P (v .tot) (acc (v .tal) (λ i. v .st (p + i)) p sa)
-        o = subst (λ n. Ok2 P (world b) 0 n (v .tot) (acc (v .tal) (λ i. v .st (p + i)) p sa)) (tr .size-top a h)
-            (subst (λ n. Ok2 P (world b) n (tr .size p a) (v .tot) (acc (v .tal) (λ i. v .st (p + i)) p sa)) (tr .lo-top a h)
-            (put2-ok tr lim b a v h ok refl (reach b i) bu p (omega arith) (omega arith) all))
+      o : Ok2 P (world b) 0 P (v .tot) (acc (v .tal) (λ i. v .st (p + i)) p sa)
+      o = subst (λ n. Ok2 P (world b) 0 n (v .tot) (acc (v .tal) (λ i. v .st (p + i)) p sa)) (tr .size-top a h)
+          (subst (λ n. Ok2 P (world b) n (tr .size p a) (v .tot) (acc (v .tal) (λ i. v .st (p + i)) p sa)) (tr .lo-top a h)
+          (put2-ok tr lim b a v h ok refl (reach b i) bu p (omega arith) (omega arith) all))
 
-        total : acc (v .tal) (λ i. v .st (p + i)) p sa ≡ v .tot
-        total = subst (λ n. acc (v .tal) (λ i. v .st (p + i)) n sa ≡ v .tot) l (closing v k (tr .await k a) (not-last k a h l) l here)
+      total : acc (v .tal) (λ i. v .st (p + i)) p sa ≡ v .tot
+      total = subst (λ n. acc (v .tal) (λ i. v .st (p + i)) n sa ≡ v .tot) l (closing v k (tr .await k a) (tr .not-last k a h l) l here)
 
-    moves-keep : (b : Bd) → Fit b → (a T : ℕ) → a < P → b .nodes a .busy ≡ false → b .nodes a .at < p + p
-        → Agree p lim (b .nodes a) (b .nodes a .at) (tr .await (dim p (b .nodes a .at)) a)
-        → (p ≤ b .nodes a .at → T ≡ b .nodes a .tot) → (suc (b .nodes a .at) ≡ p → T ≡ acc (b .nodes a .tal) (b .nodes a .st) p ta)
-        → (b .lossy ≡ false → Latest tr (put b a (at-step (b .nodes a) (suc (b .nodes a .at)) true T) (b .items))) → Fit (put b a (at-step (b .nodes a) (suc (b .nodes a .at)) true T) (b .items))
-    moves-keep b i a T h bu l ag t t1 la =
-        local b i a (at-step v (suc (v .at)) true T) (b .items) h refl (λ q. q)
-        (placed-fit b a v (suc (v .at)) true T ok (omega arith) (λ q. tot-now q (decLe p (v .at))) ags (λ i k q. t (omega arith)))
-        (i .items-fit) refl (λ y z. refl) (λ q. not-busy v bu q)
-        (λ q. subst (λ T. Quiet (b .log) (takes P (world b)) P (world b .done) T) (sym (t (omega arith))) (quiet-now b i a h bu (v .at - p) (omega arith) (omega arith) ag))
-        la
-      where
-        v : Nd
-        v = b .nodes a
+  moves-keep : (b : Bd) → Fit b → (a T : ℕ) → a < P → b .nodes a .busy ≡ false → b .nodes a .at < p + p
+      → Agree p lim (b .nodes a) (b .nodes a .at) (tr .await (dim p (b .nodes a .at)) a)
+      → (p ≤ b .nodes a .at → T ≡ b .nodes a .tot) → (suc (b .nodes a .at) ≡ p → T ≡ acc (b .nodes a .tal) (b .nodes a .st) p ta)
+      → (b .lossy ≡ false → Latest tr (put b a (at-step (b .nodes a) (suc (b .nodes a .at)) true T) (b .items))) → Fit (put b a (at-step (b .nodes a) (suc (b .nodes a .at)) true T) (b .items))
+  moves-keep b i a T h bu l ag t t1 la =
+      local b i a (at-step v (suc (v .at)) true T) (b .items) h refl (λ q. q)
+      (placed-fit b a v (suc (v .at)) true T ok (omega arith) (λ q. tot-now q (decLe p (v .at))) ags (λ i k q. t (omega arith)))
+      (i .items-fit) refl (λ y z. refl) (λ q. not-busy v bu q)
+      (λ q. subst (λ T. Quiet (b .log) (takes P (world b)) P (world b .done) T) (sym (t (omega arith))) (quiet-now b i a h bu (v .at - p) (omega arith) (omega arith) ag))
+      la
+    where
+      v : Nd
+      v = b .nodes a
 
-        ok : NodeFit tr lim b a v
-        ok = i .nodes-fit a h
+      ok : NodeFit tr lim b a v
+      ok = i .nodes-fit a h
 
-        tot-now : p ≤ suc (v .at) → Dec (p ≤ v .at) → T ≡ acc (v .tal) (v .st) p ta
-        tot-now q (yes d) = t d ∙ ok .tot-is d
-        tot-now q (no d) = t1 (omega arith)
+      tot-now : p ≤ suc (v .at) → Dec (p ≤ v .at) → T ≡ acc (v .tal) (v .st) p ta
+      tot-now q (yes d) = t d ∙ ok .tot-is d
+      tot-now q (no d) = t1 (omega arith)
 
-        ags : (s : ℕ) → s < suc (v .at) → Agree p lim v s (tr .await (dim p s) a)
-        ags s q = go (ℕ-discrete s (v .at))
-          where
-            go : Dec (s ≡ v .at) → Agree p lim v s (tr .await (dim p s) a)
-            go (yes f) = subst (λ s. Agree p lim v s (tr .await (dim p s) a)) (sym f) ag
-            go (no f) = ok .agrees s (omega arith)
+      ags : (s : ℕ) → s < suc (v .at) → Agree p lim v s (tr .await (dim p s) a)
+      ags s q = go (ℕ-discrete s (v .at))
+        where
+          go : Dec (s ≡ v .at) → Agree p lim v s (tr .await (dim p s) a)
+          go (yes f) = subst (λ s. Agree p lim v s (tr .await (dim p s) a)) (sym f) ag
+          go (no f) = ok .agrees s (omega arith)
 
-    pub fit-keeps : (b b′ : Bd) → Go tr lim b b′ → Fit b → Fit b′
-    fit-keeps b b′ g i = by b b′ g i (latest-keeps tr lim b b′ g (i .busy0) (i .latest))
-      where
-        by : (b b′ : Bd) → Go tr lim b b′ → Fit b → (b′ .lossy ≡ false → Latest tr b′) → Fit b′
-        by b b′ (Go.sends a c j h hc l sl bu lm) i la = send-keep b i p0 a c j h hc l sl bu lm la
-        by b b′ (Go.rests a h) i la = rests-keep b i a h la
-        by b b′ (Go.takes xs ys a c j ha h l sl e u) i la = take-keep b i p0 xs ys a c j h l sl e u la
-        by b b′ (Go.stores xs ys a c s x h sp e f l aw m) i la =
-            stores-keep b i xs ys a c s x (b .nodes c .at) (b .nodes c .flag) (b .nodes c .tot) h sp e l aw m (omega arith) (λ q. refl) (i .busy0 c) la
-        by b b′ (Go.falls xs ys a c s x T h sp e f l aw m t) i la =
-            stores-keep b i xs ys a c s x s false T h sp e l aw (omega arith) (omega arith) t (λ q. absurd (omega (arith, i .busy0 c q .0))) la
-        by b b′ (Go.drops xs ys a c s x h e l) i la =
-            local b i c (b .nodes c) (xs ++ ys) h refl (λ q. q) (i .nodes-fit c h) (less b i xs ys (record { from = a; dest = c; load = note s x }) e .1)
-            (jobs-less b xs ys a c s x e) (jobs-on-less b xs ys a c s x e) (i .busy0 c) (i .quiet c h) la
-        by b b′ (Go.puts a rs h bu l rc) i la =
-            let q = note (b .nodes a .at) (ownf p (b .nodes a) (b .nodes a .at)) in
-            waits-keep b i a h bu (b .items ++ posts a q rs)
-            (all-append (ItOk tr lim b) (b .items) (posts a q rs) (i .items-fit) (all-posts b a q rs (ownf-ok tr lim b a h (i .nodes-fit a h) (reach b i) bu (b .nodes a .at) l (omega arith))))
-            (omega (arith, jobs-append (b .items) (posts a q rs), jobs-notes a (b .nodes a .at) (ownf p (b .nodes a) (b .nodes a .at)) rs))
-            (λ y z. omega (arith, jobs-on-append y z (b .items) (posts a q rs), jobs-on-notes y z a (b .nodes a .at) (ownf p (b .nodes a) (b .nodes a .at)) rs)) la
-        by b b′ (Go.waits a h bu f) i la = waits-keep b i a h bu (b .items) (i .items-fit) refl (λ y z. refl) la
-        by b b′ (Go.moves a T h bu l f ag t t1) i la = moves-keep b i a T h bu l ag t t1 la
-        by b b′ (Go.loses xs ys t e) i la =
-            record {
-              nodes-fit = λ a h. again a (i .nodes-fit a h);
-              items-fit = all-map (ItOk tr lim b) (ItOk tr lim b′) (λ t x. again-load (t .from) (t .load) x) (xs ++ ys) (less b i xs ys t e .1);
-              below = i .below;
-              covers = omega (arith, i .covers, ap jobs e, jobs-append xs (t ∷ ys), jobs-append xs ys);
-              balance = λ q. never q;
-              pairs = λ q. never q;
-              sent-pre = i .sent-pre;
-              taken-pre = i .taken-pre;
-              small = i .small;
-              busy0 = i .busy0;
-              quiet = i .quiet;
-              latest = la;
-            }
-          where
-            never : {A : Type 0} → _≡_ {A = Bool} true false → A
-            never q = let y : _≡_ {A = ℕ} 0 1 = cc in absurd (omega arith)
+  pub fit-keeps : (b b′ : Bd) → Go tr lim b b′ → Fit b → Fit b′
+  fit-keeps b b′ g i = by b b′ g i (latest-keeps tr lim b b′ g (i .busy0) (i .latest))
+    where
+      by : (b b′ : Bd) → Go tr lim b b′ → Fit b → (b′ .lossy ≡ false → Latest tr b′) → Fit b′
+      by b b′ (Go.sends a c j h hc l sl bu lm) i la = send-keep b i a c j h hc l sl bu lm la
+      by b b′ (Go.rests a h) i la = rests-keep b i a h la
+      by b b′ (Go.takes xs ys a c j ha h l sl e u) i la = take-keep b i xs ys a c j h l sl e u la
+      by b b′ (Go.stores xs ys a c s x h sp e f l aw m) i la =
+          stores-keep b i xs ys a c s x (b .nodes c .at) (b .nodes c .flag) (b .nodes c .tot) h sp e l aw m (omega arith) (λ q. refl) (i .busy0 c) la
+      by b b′ (Go.falls xs ys a c s x T h sp e f l aw m t) i la =
+          stores-keep b i xs ys a c s x s false T h sp e l aw (omega arith) (omega arith) t (λ q. absurd (omega (arith, i .busy0 c q .0))) la
+      by b b′ (Go.drops xs ys a c s x h e l) i la =
+          local b i c (b .nodes c) (xs ++ ys) h refl (λ q. q) (i .nodes-fit c h) (less b i xs ys (record { from = a; dest = c; load = note s x }) e .1)
+          (jobs-less b xs ys a c s x e) (jobs-on-less b xs ys a c s x e) (i .busy0 c) (i .quiet c h) la
+      by b b′ (Go.puts a rs h bu l rc) i la =
+          let q = note (b .nodes a .at) (ownf p (b .nodes a) (b .nodes a .at)) in
+          waits-keep b i a h bu (b .items ++ posts a q rs)
+          (all-append (ItOk tr lim b) (b .items) (posts a q rs) (i .items-fit) (all-posts b a q rs (ownf-ok tr lim b a h (i .nodes-fit a h) (reach b i) bu (b .nodes a .at) l (omega arith))))
+          (omega (arith, jobs-append (b .items) (posts a q rs), jobs-notes a (b .nodes a .at) (ownf p (b .nodes a) (b .nodes a .at)) rs))
+          (λ y z. omega (arith, jobs-on-append y z (b .items) (posts a q rs), jobs-on-notes y z a (b .nodes a .at) (ownf p (b .nodes a) (b .nodes a .at)) rs)) la
+      by b b′ (Go.waits a h bu f) i la = waits-keep b i a h bu (b .items) (i .items-fit) refl (λ y z. refl) la
+      by b b′ (Go.moves a T h bu l f ag t t1) i la = moves-keep b i a T h bu l ag t t1 la
+      by b b′ (Go.loses xs ys t e) i la =
+          record {
+            nodes-fit = λ a h. again a (i .nodes-fit a h);
+            items-fit = all-map (ItOk tr lim b) (ItOk tr lim b′) (λ t x. again-load (t .from) (t .load) x) (xs ++ ys) (less b i xs ys t e .1);
+            below = i .below;
+            covers = omega (arith, i .covers, ap jobs e, jobs-append xs (t ∷ ys), jobs-append xs ys);
+            balance = λ q. never q;
+            pairs = λ q. never q;
+            sent-pre = i .sent-pre;
+            taken-pre = i .taken-pre;
+            small = i .small;
+            busy0 = i .busy0;
+            quiet = i .quiet;
+            latest = la;
+          }
+        where
+          never : {A : Type 0} → _≡_ {A = Bool} true false → A
+          never q = let y : _≡_ {A = ℕ} 0 1 = cc in absurd (omega arith)
 
-            ev : Evol P (world b) (world b′)
-            ev = same refl (λ y. refl) (λ y d. d)
+          ev : Evol P (world b) (world b′)
+          ev = same refl (λ y. refl) (λ y d. d)
 
-            again : (a : ℕ) → NodeFit tr lim b a (b .nodes a) → NodeFit tr lim b′ a (b .nodes a)
-            again a ok = node-keep b b′ ev (λ y f. omega arith) (reach b i) a (b .nodes a) refl ok
+          again : (a : ℕ) → NodeFit tr lim b a (b .nodes a) → NodeFit tr lim b′ a (b .nodes a)
+          again a ok = node-keep b b′ ev (λ y f. omega arith) (reach b i) a (b .nodes a) refl ok
 
-            again-load : (w : ℕ) (q : Load) → LoadOk tr lim b w q → LoadOk tr lim b′ w q
-            again-load w q x = load-keep b b′ ev (λ y f. omega arith) (reach b i) w q x
+          again-load : (w : ℕ) (q : Load) → LoadOk tr lim b w q → LoadOk tr lim b′ w q
+          again-load w q x = load-keep b b′ ev (λ y f. omega arith) (reach b i) w q x

@@ -79,7 +79,7 @@ module _ {P p : ℕ} (tr : Tree P p) (lim : ℕ) where
   fit-all : (b : Board) → Inv b → (n : ℕ) (w : Ph) (ms : List Msg) → Go tr lim (proj b n) (at-phase w (sub n ms)) → ((m : ℕ) → m ≢ n → sub m ms ≡ sub m (b .msgs))
       → (m : ℕ) → Fit tr lim (at-phase (upd (b .phases) n w m) (sub m ms))
   fit-all b i n w ms g o =
-      upd-all (λ m w. Fit tr lim (at-phase w (sub m ms))) (b .phases) n w (fit-keeps tr lim (tr .positive) (tr .not-last) (proj b n) (at-phase w (sub n ms)) g (i .fit n))
+      upd-all (λ m w. Fit tr lim (at-phase w (sub m ms))) (b .phases) n w (fit-keeps tr lim (proj b n) (at-phase w (sub n ms)) g (i .fit n))
       (λ m q. subst (λ is. Fit tr lim (at-phase (b .phases m) is)) (sym (o m q)) (i .fit m))
 
   pub keeps : (b b′ : Board) → Step b b′ → Inv b → Inv b′
@@ -167,7 +167,7 @@ module _ {P p : ℕ} (tr : Tree P p) (lim : ℕ) where
       → ((a : ℕ) → a < P → b .ph a ≡ b .ph u → (b .phases (b .ph u) .nodes a .flag ≡ false) ⊎ Unheard tr a (b .phases (b .ph u) .nodes a .at))
       → (a : ℕ) × ((a < P) × ((b .ph a ≡ b .ph u) × Agree p lim (b .phases (b .ph u) .nodes a) (b .phases (b .ph u) .nodes a .at) (tr .await (dim p (b .phases (b .ph u) .nodes a .at)) a)))
   no-board-sticks b r u hu whole old rest nothing nobody =
-      let q = no-stick tr lim (tr .positive) (tr .not-last) (tr .same) (tr .self) (proj b n) (i .fit n) whole resting
+      let q = no-stick tr lim (proj b n) (i .fit n) whole resting
       (all-map (λ t. (t .dest < P) × (n < b .ph (t .dest))) (λ t. (t .dest < P) × (p + p ≤ b .phases n .nodes (t .dest) .at)) (λ t x. (x .0, i .past (t .dest) n (x .1))) (sub n (b .msgs)) nothing)
       (λ a h l. nobody a h (here a h l)) u hu (i .now u n refl) in
       (q .0, (q .1 .0, (here (q .0) (q .1 .0) (q .1 .1 .0), q .1 .1 .1)))

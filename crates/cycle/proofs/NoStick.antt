@@ -16,7 +16,7 @@ use Rattle.cycle.proofs.Tree.{Tree, meet-sum}
 use Rattle.cycle.proofs.Evol.{takes, Ok2}
 use Rattle.cycle.proofs.Own.{Agreed}
 use Rattle.cycle.proofs.Lists.{All, all-map}
-use Rattle.cycle.proofs.Heart.{Fld, sh, th, sa, ta, Fr, fl, acc, over-run, InRun, SameRun, sum-swap}
+use Rattle.cycle.proofs.Heart.{Fld, sh, th, sa, ta, Fr, fl, acc, over-run, sum-swap}
 use Rattle.cycle.proofs.One.{It, Nd, Bd, ownf, dim, OnLink, Unheard, Agree, alone, first, second, OkF}
 use Rattle.cycle.proofs.Latest.{on-link, Stands, latest-none}
 use Rattle.cycle.proofs.Still.{least, dim-first, dim-second, exact1, unstuck}
@@ -74,12 +74,11 @@ no-jobs : (is : List It) → All (λ i. ⊥) is → jobs is ≡ 0
 no-jobs [] h = refl
 no-jobs (i ∷ is) h = absurd (h .0)
 
-module _ {P p : ℕ} (tr : Tree P p) (lim : ℕ) (p0 : 0 < p) (not-last : (k a : ℕ) → a < P → suc k ≡ p → tr .await k a ≡ none → ⊥)
-    (same-run : (k a y : ℕ) → a < P → InRun tr k a y → SameRun tr k a y) (self : (k a : ℕ) → a < P → InRun tr k a a) where
+module _ {P p : ℕ} (tr : Tree P p) (lim : ℕ) where
   in-board : (k a : ℕ) → a < P → tr .lo k a + tr .size k a ≤ P
   in-board k a h =
-      let s = self k a h in
-      let e = same-run k a (tr .lo k a + (tr .size k a - 1)) h (omega arith) in
+      let s = tr .self k a h in
+      let e = tr .same k a (tr .lo k a + (tr .size k a - 1)) h (omega arith) in
       omega (arith, e .0)
 
   abbrev gap : (ℕ → ℕ) → ℕ → Option ℕ → ℕ
@@ -139,7 +138,7 @@ module _ {P p : ℕ} (tr : Tree P p) (lim : ℕ) (p0 : 0 < p) (not-last : (k a :
         let k = p - 1 in
         let e : suc k ≡ p = omega arith in
         let a : Agree p lim v k (tr .await k w) = rw (dim-first p k (omega arith)) at (ok .agrees k (omega arith)) in
-        let z = subst (λ n. acc (v .tal) (v .st) n sa ≡ acc (v .tal) (v .st) n ta) e (evened k (tr .await k w) (not-last k w h e) e a) in
+        let z = subst (λ n. acc (v .tal) (v .st) n sa ≡ acc (v .tal) (v .st) n ta) e (evened k (tr .await k w) (tr .not-last k w h e) e a) in
         omega (arith, z, all-t, all-count, q .all-sent, q .all-taken)
 
     -- a total that is exact, from shells each of which is at most exact
@@ -202,7 +201,7 @@ module _ {P p : ℕ} (tr : Tree P p) (lim : ℕ) (p0 : 0 < p) (not-last : (k a :
         all2 =
             let k = p - 1 in
             let e : suc k ≡ p = omega arith in
-            let z = subst (λ n. acc (v .tal) (λ i. v .st (p + i)) n sa ≡ v .tot) e (closed k (tr .await k w) (not-last k w h e) e (rw (dim-second p k) at (ok .agrees (p + k) (omega arith)))) in
+            let z = subst (λ n. acc (v .tal) (λ i. v .st (p + i)) n sa ≡ v .tot) e (closed k (tr .await k w) (tr .not-last k w h e) e (rw (dim-second p k) at (ok .agrees (p + k) (omega arith)))) in
             top (λ y. b .nodes y .tal sa) w h ∙ all-count ∙ sym tot-all ∙ sym z
 
   -- ---- a board at rest
@@ -300,7 +299,7 @@ module _ {P p : ℕ} (tr : Tree P p) (lim : ℕ) (p0 : 0 < p) (not-last : (k a :
         a<P,
         (
           A<pp,
-          unstuck tr (b .nodes) (b .nodes a .at) stored-is lone-none (gone1 b i) (gone2 b i) same-run self (b .gm) (i .sent-pre)
+          unstuck tr (b .nodes) (b .nodes a .at) stored-is lone-none (gone1 b i) (gone2 b i) (b .gm) (i .sent-pre)
               (λ z hz k l. sum-ext (λ y. b .gm y z) (λ y. b .gt y z) (tr .lo k z) (tr .size k z) (λ y m n. sym (gt-is-gm y z)) ∙ i .taken-pre z hz k l)
               lim (takes P (world b)) (λ f x k c l hc. omega (arith, sum-part (λ y. b .nodes y .tal f) P (tr .lo k c) (tr .size k c) (in-board k c hc), all-small f x))
               (omega (arith, counted, i .balance whole, jobs-none)) refl tot-R a a<P refl A<pp,

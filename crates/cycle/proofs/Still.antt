@@ -6,7 +6,7 @@ use native.Mathlib.Decide.{decLe, decLt, ℕ-discrete}
 use native.Mathlib.Omega.{arith}
 use Rattle.cycle.proofs.Sums.{choose, sum}
 use Rattle.cycle.proofs.Tree.{Tree, Meet, meet-sum}
-use Rattle.cycle.proofs.Heart.{Fld, sh, th, sa, ta, Fr, acc, over-run, Exact, acc-exact, InRun, SameRun, back, other, across}
+use Rattle.cycle.proofs.Heart.{Fld, sh, th, sa, ta, Fr, acc, over-run, Exact, acc-exact, back, other, across}
 use Rattle.cycle.proofs.One.{Nd, two, ownf, dim, Agree, alone, first, second, OkF, above-ok}
 
 -- ---- the least of the first P
@@ -105,8 +105,7 @@ module _ {P p : ℕ} (tr : Tree P p) (nodes : ℕ → Nd) (A : ℕ)
 
   -- ---- the node that is least far
 
-  module _ (same-run : (k a y : ℕ) → a < P → InRun tr k a y → SameRun tr k a y) (self : (k a : ℕ) → a < P → InRun tr k a a)
-      (m : ℕ → ℕ → ℕ)
+  module _ (m : ℕ → ℕ → ℕ)
       (sent-pre : (y : ℕ) → y < P → (k : ℕ) → k ≤ p → over-run tr (m y) k y ≡ sum (λ j. nodes y .tal (sh j)) 0 k)
       (taken-pre : (z : ℕ) → z < P → (k : ℕ) → k ≤ p → over-run tr (λ y. m y z) k z ≡ sum (λ j. nodes z .tal (th j)) 0 k)
       (lim R : ℕ) (small : (f : Fld) → OkF p f → (k b : ℕ) → k ≤ p → b < P → over-run tr (λ y. nodes y .tal f) k b ≤ lim)
@@ -119,8 +118,8 @@ module _ {P p : ℕ} (tr : Tree P p) (nodes : ℕ → Nd) (A : ℕ)
     agree1 : A < p → (w : ℕ) → tr .await A a ≡ some w → Agree p lim (nodes a) A (some w)
     agree1 l w e =
         first w (acc (nodes w .tal) (nodes w .st) A) l got
-        (own (sh A) l ∙ across tr same-run self m (λ y j. nodes y .tal (sh j)) (λ z j. nodes z .tal (th j)) sent-pre taken-pre A a w l h hw mt ∙ sym (his (th A) l))
-        (own (th A) l ∙ sym (across tr same-run self m (λ y j. nodes y .tal (sh j)) (λ z j. nodes z .tal (th j)) sent-pre taken-pre A w a l hw h bk) ∙ sym (his (sh A) l))
+        (own (sh A) l ∙ across tr m (λ y j. nodes y .tal (sh j)) (λ z j. nodes z .tal (th j)) sent-pre taken-pre A a w l h hw mt ∙ sym (his (th A) l))
+        (own (th A) l ∙ sym (across tr m (λ y j. nodes y .tal (sh j)) (λ z j. nodes z .tal (th j)) sent-pre taken-pre A w a l hw h bk) ∙ sym (his (sh A) l))
         (λ f u. let v = above-ok A p f u in omega (arith, own f v, his f v, meet-sum (tr .lo) (tr .size) A a w (λ y. nodes y .tal f) mt, small f v (suc A) a (omega arith) h))
         (λ last. omega (arith, own sa tt, his sa tt, own ta tt, his ta tt, whole last sa, whole last ta))
       where
@@ -131,7 +130,7 @@ module _ {P p : ℕ} (tr : Tree P p) (nodes : ℕ → Nd) (A : ℕ)
         mt = tr .meet A a w l h e
 
         bk : Meet (tr .lo) (tr .size) A w a
-        bk = back tr A a w mt (same-run (suc A) a w h (other tr A a w w mt (self A w hw)))
+        bk = back tr A a w mt (tr .same (suc A) a w h (other tr A a w w mt (tr .self A w hw)))
 
         own : (f : Fld) → OkF p f → acc (nodes a .tal) (nodes a .st) A f ≡ over-run tr (λ y. nodes y .tal f) A a
         own f v = exact1 A A (omega arith) (omega arith) (omega arith) a h f v

@@ -3,29 +3,13 @@ use mathlib.Core.Path.{_≡_, refl, sym, ap, _∙_, subst}
 use mathlib.Core.Bool.{Bool, true, false}
 use mathlib.Core.Option.{Option, none, some}
 use mathlib.Core.List.{List, [], _∷_, _++_}
-use Prim.Native.Nat.{ℕ, suc, _+_, _-_, _%_, _≤_}
+use Prim.Native.Nat.{ℕ, suc, _≤_}
 use native.Mathlib.Decide.{ℕ-discrete}
 use native.Mathlib.Omega.{arith}
 use Rattle.cycle.proofs.Sums.{upd, upd-all, upd-same, upd-other}
 use Rattle.cycle.proofs.Lists.{All, all-append, all-map, all-mid}
 use Rattle.cycle.proofs.One.{Load, job, note, OnLink}
 use Rattle.cycle.proofs.Multi.{Msg}
-
--- the phase difference of the paper: frame minus node, modulo 256
-abbrev pub diff : ℕ → ℕ → ℕ
-diff x y = (x % 256 + 256 - y % 256) % 256
-
-now : (x y : ℕ) → x ≤ y + 1 → y ≤ x + 1 → diff x y ≡ 0 → x ≡ y
-now x y a b e = omega arith
-
-early : (x y : ℕ) → x ≤ y + 1 → y ≤ x + 1 → diff x y ≡ 1 → x ≡ y + 1
-early x y a b e = omega arith
-
-late : (x y : ℕ) → x ≤ y + 1 → y ≤ x + 1 → diff x y ≡ 255 → y ≡ x + 1
-late x y a b e = omega arith
-
-never : (x y : ℕ) → x ≤ y + 1 → y ≤ x + 1 → 2 ≤ diff x y → diff x y ≤ 254 → ⊥
-never x y a b c d = omega arith
 
 -- ---- the order on each link
 
