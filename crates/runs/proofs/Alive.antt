@@ -41,8 +41,10 @@ use Rattle.runs.proofs.Ways.{SendWay, send-way, TakeWay, take-way, Idle
 use Rattle.runs.proofs.Pairs.{Found, found}
 use Rattle.runs.proofs.Sim.{aw, aw-lt, Holds, Says}
 use Rattle.runs.proofs.Emit.{dim-step, emitted-read}
-use Rattle.runs.proofs.Steps.{Next, next, Mishap, c, ha, hb, whole, not-ahead, job-of, not-behind, note-of, not-behind₂, diff-is}
-use Rattle.runs.proofs.Safety.{Played, begun, begun-calm}
+use Rattle.runs.proofs.Played.{Played, Next, Mishap}
+use Rattle.runs.proofs.Delivering.{c, ha, hb, whole, not-ahead, job-of, not-behind, note-of, not-behind₂, diff-is}
+use Rattle.runs.proofs.Steps.{next}
+use Rattle.runs.proofs.Safety.{begun, begun-calm}
 use Rattle.runs.proofs.Legal.{Tidy, legal}
 use Rattle.runs.proofs.Tidy.{FineBytes, FineLoad, Fine, tidy-fresh, tidy-sent, tidy-taken, tidy-idle, tidy-at, tidy-gotten}
 use Rattle.runs.proofs.Clear.{take-clear, frame-clear}
@@ -87,14 +89,14 @@ module _ {L : Limits} {P : ℕ} (setting : Setting L P) where
       go (Meet.left i j m) s = omega arith
 
   module _ (w : Board) (q : Played setting w) (k : Kept w) where
-    hold : (a : ℕ) (h : a < P) → Holds setting a (w .count a) (w .nodes a) (seat (q .board) a)
+    hold : (a : ℕ) (h : a < P) → Holds setting a (w .count a) (w .nodes a) (seat (q .ledger) a)
     hold a h = q .sim .node a h
 
     dims-is : (a : ℕ) → a < P → dims (w .nodes a) ≡ p
     dims-is a h = ap dimension (hold a h .nodes)
 
     pub valid-at : (a : ℕ) → a < P → valid L (w .nodes a) ≡ true
-    valid-at a h = legal setting (q .board) (q .reached) a (w .count a) h (w .nodes a) (hold a h) (k .tidy a h)
+    valid-at a h = legal setting (q .ledger) (q .reached) a (w .count a) h (w .nodes a) (hold a h) (k .tidy a h)
 
     -- ---- a node changed, items changed
 
@@ -135,7 +137,7 @@ module _ {L : Limits} {P : ℕ} (setting : Setting L P) where
         low : w .nodes a .dim < dims (w .nodes a)
         low = omega (arith, hold a h .low, dims-is a h)
         bytes : FineBytes L P (frameBytes (dims (w .nodes a)) (frameDue (w .nodes a)))
-        bytes = emitted-read setting a (w .count a) (w .nodes a) (seat (q .board) a) (hold a h) v
+        bytes = emitted-read setting a (w .count a) (w .nodes a) (seat (q .ledger) a) (hold a h) v
         rcv-is : receivers (w .nodes a .nodes) (w .nodes a .dim) (w .nodes a .number) ≡ receivers P (w .nodes a .dim) a
         rcv-is = rw (hold a h .nodes, hold a h .number) refl
         awaiting : All (λ c. (c < P) × (T .await (w .nodes a .dim) c ≡ some a)) (receiversDue (w .nodes a))
@@ -165,10 +167,10 @@ module _ {L : Limits} {P : ℕ} (setting : Setting L P) where
       off-fine = subst (All (Fine L P)) (sym (g .rest)) (fine-parts .1)
 
       la : a < P
-      la = ha setting w (q .board) (q .reached) (q .sim) (q .marks) a b m e
+      la = ha setting w q a b m e
 
       lb : b < P
-      lb = hb setting w (q .board) (q .reached) (q .sim) (q .marks) a b m e
+      lb = hb setting w q a b m e
 
       apart : a ≢ b
       apart z = fine-parts .0 .0 (g .from-is ∙ z ∙ sym (g .to-is))
@@ -206,32 +208,32 @@ module _ {L : Limits} {P : ℕ} (setting : Setting L P) where
 
       -- ---- nothing is refused but for being early
 
-      module _ (calm : (n : ℕ) → q .board .phases n .lossy ≡ false) where
+      module _ (calm : (n : ℕ) → q .ledger .phases n .lossy ≡ false) where
         no-bad-take : (byte x : ℕ) → m .load ≡ work byte → take L (w .nodes b) a byte .answer ≡ refused x → x ≢ 7 → ⊥
         no-bad-take byte x lw ans ne =
             ne (take-clear L (w .nodes b) a byte x (valid-at b lb) (omega (arith, la, hold b lb .nodes)) (λ z. apart (z ∙ hold b lb .number)) diffs space ans)
           where
-            j : (c setting w (q .board) (q .reached) (q .sim) (q .marks) a b m e .one .it .load ≡ job) × (byte ≡ m .phase % 256)
-            j = job-of setting w (q .board) (q .reached) (q .sim) (q .marks) a b m e byte lw
-            le1 : m .phase ≤ suc (q .board .ph b)
-            le1 = not-ahead setting w (q .board) (q .reached) (q .sim) (q .marks) a b m e
-            le2 : q .board .ph b ≤ m .phase
-            le2 = not-behind setting w (q .board) (q .reached) (q .sim) (q .marks) a b m e byte lw (j .0) (j .1) b lb
-            diff-eq : difference byte (w .nodes b .phase) ≡ (m .phase % 256 + 256 - q .board .ph b % 256) % 256
+            j : (c setting w q a b m e .one .it .load ≡ job) × (byte ≡ m .phase % 256)
+            j = job-of setting w q a b m e byte lw
+            le1 : m .phase ≤ suc (q .ledger .ph b)
+            le1 = not-ahead setting w q a b m e
+            le2 : q .ledger .ph b ≤ m .phase
+            le2 = not-behind setting w q a b m e byte lw (j .0) (j .1) b lb
+            diff-eq : difference byte (w .nodes b .phase) ≡ (m .phase % 256 + 256 - q .ledger .ph b % 256) % 256
             diff-eq = ap (λ z. (z + 256 - w .nodes b .phase) % 256) (j .1) ∙ ap (λ z. (m .phase % 256 + 256 - z) % 256) (hold b lb .phase ∙ ap (λ n. n % 256) (q .sim .counts b))
             diffs : (difference byte (w .nodes b .phase) ≡ 0) ⊎ (difference byte (w .nodes b .phase) ≡ 1)
-            diffs = go (two-cases (m .phase) (q .board .ph b) le1 le2)
+            diffs = go (two-cases (m .phase) (q .ledger .ph b) le1 le2)
               where
-                go : ((m .phase % 256 + 256 - q .board .ph b % 256) % 256 ≡ 0) ⊎ ((m .phase % 256 + 256 - q .board .ph b % 256) % 256 ≡ 1) → (difference byte (w .nodes b .phase) ≡ 0) ⊎ (difference byte (w .nodes b .phase) ≡ 1)
+                go : ((m .phase % 256 + 256 - q .ledger .ph b % 256) % 256 ≡ 0) ⊎ ((m .phase % 256 + 256 - q .ledger .ph b % 256) % 256 ≡ 1) → (difference byte (w .nodes b .phase) ≡ 0) ⊎ (difference byte (w .nodes b .phase) ≡ 1)
                 go (inl z) = inl (diff-eq ∙ z)
                 go (inr z) = inr (diff-eq ∙ z)
             space : difference byte (w .nodes b .phase) ≡ 0 → tally (w .nodes b) allTaken < takenLimit L
             space z =
-                let ph : m .phase ≡ q .board .ph b = omega (arith, sym diff-eq ∙ z, le1, le2) in
-                let cc′ = c setting w (q .board) (q .reached) (q .sim) (q .marks) a b m e in
-                let wh = whole setting w (q .board) (q .reached) (q .sim) (q .marks) a b m e job (j .0) in
-                let r = taken-room T (fieldLimit L) (L .sends) (proj (q .board) (q .board .ph b)) (inv T (fieldLimit L) (q .board) (q .reached) .fit (q .board .ph b)) (calm (q .board .ph b)) (λ y h. q .sim .capped (q .board .ph b) y h) a b la lb apart
-                  (sub (q .board .ph b) (cc′ .pre)) (sub (q .board .ph b) (cc′ .post)) (ap (sub (q .board .ph b)) wh ∙ sub-mid (q .board .ph b) (cc′ .pre) (cc′ .post) _ ph) in
+                let ph : m .phase ≡ q .ledger .ph b = omega (arith, sym diff-eq ∙ z, le1, le2) in
+                let cc′ = c setting w q a b m e in
+                let wh = whole setting w q a b m e job (j .0) in
+                let r = taken-room T (fieldLimit L) (L .sends) (proj (q .ledger) (q .ledger .ph b)) (inv T (fieldLimit L) (q .ledger) (q .reached) .fit (q .ledger .ph b)) (calm (q .ledger .ph b)) (λ y h. q .sim .capped (q .ledger .ph b) y h) a b la lb apart
+                  (sub (q .ledger .ph b) (cc′ .pre)) (sub (q .ledger .ph b) (cc′ .post)) (ap (sub (q .ledger .ph b)) wh ∙ sub-mid (q .ledger .ph b) (cc′ .pre) (cc′ .post) _ ph) in
                 let lim : (P - 1) * L .sends ≤ (L .nodes - 1) * L .sends = mul-le-mul-right (L .sends) (omega (arith, setting .few)) in
                 omega (arith, r, lim, hold b lb .like .tal ta tt)
 
@@ -239,8 +241,8 @@ module _ {L : Limits} {P : ℕ} (setting : Setting L P) where
         no-bad-frame bs x lf ans ne =
             ne (frame-clear L (w .nodes b) bs (valid-at b lb) (fine-bytes bs lf) (λ z. apart (sym from-a ∙ z ∙ hold b lb .number)) awt x diffs ans)
           where
-            n : (t : ℕ) × ((x : Fr) × ((c setting w (q .board) (q .reached) (q .sim) (q .marks) a b m e .one .it .load ≡ note t x) × Says setting (m .from) (m .phase) (fieldsOf p bs) t x))
-            n = note-of setting w (q .board) (q .reached) (q .sim) (q .marks) a b m e bs lf
+            n : (t : ℕ) × ((x : Fr) × ((c setting w q a b m e .one .it .load ≡ note t x) × Says setting (m .from) (m .phase) (fieldsOf p bs) t x))
+            n = note-of setting w q a b m e bs lf
 
             y : Says setting (m .from) (m .phase) (fieldsIn L (w .nodes b) bs) (n .0) (n .1 .0)
             y = subst (λ d. Says setting (m .from) (m .phase) (fieldsOf d bs) (n .0) (n .1 .0)) (sym (dims-is b lb)) (n .1 .1 .1)
@@ -250,9 +252,9 @@ module _ {L : Limits} {P : ℕ} (setting : Setting L P) where
 
             parts : aw setting (n .0) b ≡ some a
             parts =
-                all-mid (λ (u : Msg). (s : ℕ) → note-step (u .it .load) ≡ some s → aw setting s (u .it .dest) ≡ some (u .it .from)) (c setting w (q .board) (q .reached) (q .sim) (q .marks) a b m e .pre) (c setting w (q .board) (q .reached) (q .sim) (q .marks) a b m e .post)
+                all-mid (λ (u : Msg). (s : ℕ) → note-step (u .it .load) ≡ some s → aw setting s (u .it .dest) ≡ some (u .it .from)) (c setting w q a b m e .pre) (c setting w q a b m e .post)
                 (record { ph = m .phase; it = record { from = a; dest = b; load = note (n .0) (n .1 .0) } })
-                (subst (All (λ (u : Msg). (s : ℕ) → note-step (u .it .load) ≡ some s → aw setting s (u .it .dest) ≡ some (u .it .from))) (whole setting w (q .board) (q .reached) (q .sim) (q .marks) a b m e (note (n .0) (n .1 .0)) (n .1 .1 .0)) (q .sim .win .partner)) .0 (n .0) refl
+                (subst (All (λ (u : Msg). (s : ℕ) → note-step (u .it .load) ≡ some s → aw setting s (u .it .dest) ≡ some (u .it .from))) (whole setting w q a b m e (note (n .0) (n .1 .0)) (n .1 .1 .0)) (q .sim .win .partner)) .0 (n .0) refl
 
             dim-s : dim p (n .0) ≡ fieldsIn L (w .nodes b) bs .dim
             dim-s = ap (dim p) (sym (y .step)) ∙ dim-step p (fieldsIn L (w .nodes b) bs .pass) (fieldsIn L (w .nodes b) bs .dim) (y .pass) (y .low)
@@ -263,13 +265,13 @@ module _ {L : Limits} {P : ℕ} (setting : Setting L P) where
             awt : awaited (w .nodes b .nodes) (fieldsIn L (w .nodes b) bs .dim) (w .nodes b .number) ≡ some (fieldsIn L (w .nodes b) bs .sender)
             awt = awaits-at (fieldsIn L (w .nodes b) bs .dim) ∙ ap (λ d. T .await d b) (sym dim-s) ∙ aw-lt setting (n .0) b a parts .1 ∙ ap some (sym from-a)
 
-            diff-eq : difference (fieldsIn L (w .nodes b) bs .phase) (w .nodes b .phase) ≡ (m .phase % 256 + 256 - q .board .ph b % 256) % 256
-            diff-eq = diff-is setting w (q .board) (q .reached) (q .sim) (q .marks) a b m e bs lf (n .0) (n .1 .0) (n .1 .1 .0) (n .1 .1 .1)
+            diff-eq : difference (fieldsIn L (w .nodes b) bs .phase) (w .nodes b .phase) ≡ (m .phase % 256 + 256 - q .ledger .ph b % 256) % 256
+            diff-eq = diff-is setting w q a b m e bs lf (n .0) (n .1 .0) (n .1 .1 .0) (n .1 .1 .1)
 
             diffs : (difference (fieldsIn L (w .nodes b) bs .phase) (w .nodes b .phase) ≡ 0) ⊎ ((difference (fieldsIn L (w .nodes b) bs .phase) (w .nodes b .phase) ≡ 1) ⊎ (difference (fieldsIn L (w .nodes b) bs .phase) (w .nodes b .phase) ≡ 255))
-            diffs = go (three-cases (m .phase) (q .board .ph b) (not-ahead setting w (q .board) (q .reached) (q .sim) (q .marks) a b m e) (not-behind₂ setting w (q .board) (q .reached) (q .sim) (q .marks) a b m e bs lf (n .0) (n .1 .0) (n .1 .1 .0) (n .1 .1 .1)))
+            diffs = go (three-cases (m .phase) (q .ledger .ph b) (not-ahead setting w q a b m e) (not-behind₂ setting w q a b m e bs lf (n .0) (n .1 .0) (n .1 .1 .0) (n .1 .1 .1)))
               where
-                go : ((m .phase % 256 + 256 - q .board .ph b % 256) % 256 ≡ 0) ⊎ (((m .phase % 256 + 256 - q .board .ph b % 256) % 256 ≡ 1) ⊎ ((m .phase % 256 + 256 - q .board .ph b % 256) % 256 ≡ 255)) → (difference (fieldsIn L (w .nodes b) bs .phase) (w .nodes b .phase) ≡ 0) ⊎ ((difference (fieldsIn L (w .nodes b) bs .phase) (w .nodes b .phase) ≡ 1) ⊎ (difference (fieldsIn L (w .nodes b) bs .phase) (w .nodes b .phase) ≡ 255))
+                go : ((m .phase % 256 + 256 - q .ledger .ph b % 256) % 256 ≡ 0) ⊎ (((m .phase % 256 + 256 - q .ledger .ph b % 256) % 256 ≡ 1) ⊎ ((m .phase % 256 + 256 - q .ledger .ph b % 256) % 256 ≡ 255)) → (difference (fieldsIn L (w .nodes b) bs .phase) (w .nodes b .phase) ≡ 0) ⊎ ((difference (fieldsIn L (w .nodes b) bs .phase) (w .nodes b .phase) ≡ 1) ⊎ (difference (fieldsIn L (w .nodes b) bs .phase) (w .nodes b .phase) ≡ 255))
                 go (inl z) = inl (diff-eq ∙ z)
                 go (inr (inl z)) = inr (inl (diff-eq ∙ z))
                 go (inr (inr z)) = inr (inr (diff-eq ∙ z))
@@ -290,7 +292,7 @@ module _ {L : Limits} {P : ℕ} (setting : Setting L P) where
     kept-step (delivers a b) l = deliver-kept a b (oldest a b (w .items)) refl
     kept-step (loses j) l = absurd l
 
-    no-mishap : ((n : ℕ) → q .board .phases n .lossy ≡ false) → (e : Event) → NoLoss (e ∷ []) → Mishap setting w e → ⊥
+    no-mishap : ((n : ℕ) → q .ledger .phases n .lossy ≡ false) → (e : Event) → NoLoss (e ∷ []) → Mishap setting w e → ⊥
     no-mishap calm e l (Mishap.loss j) = l
     no-mishap calm e l (Mishap.badTake a b m byte x old lw ans ne) = no-bad-take a b m old calm byte x lw ans ne
     no-mishap calm e l (Mishap.badFrame a b m bs x old lf ans ne) = no-bad-frame a b m old calm bs x lf ans ne
@@ -300,15 +302,15 @@ module _ {L : Limits} {P : ℕ} (setting : Setting L P) where
   pub record Sound (w : Board) : Type 0 where
     pub played : Played setting w
     pub kept : Kept w
-    pub calm : (n : ℕ) → played .board .phases n .lossy ≡ false
+    pub calm : (n : ℕ) → played .ledger .phases n .lossy ≡ false
 
   sound-step : (w : Board) → Sound w → (e : Event) → NoLoss (e ∷ []) → Sound (step L P w e)
   sound-step w s e l = go (nx .calm)
     where
-      nx : Next setting w (s .played .board) e (step L P w e)
-      nx = next setting w (s .played .board) (s .played .reached) (s .played .sim) (s .played .marks) e
-      go : ((n : ℕ) → nx .board .phases n .lossy ≡ s .played .board .phases n .lossy) ⊎ Mishap setting w e → Sound (step L P w e)
-      go (inl z) = record { played = record { board = nx .board; reached = nx .reached; sim = nx .sim; marks = nx .marks }; kept = kept-step w (s .played) (s .kept) e l; calm = λ n. z n ∙ s .calm n }
+      nx : Next setting w (s .played) e (step L P w e)
+      nx = next setting w (s .played) e
+      go : ((n : ℕ) → nx .played .ledger .phases n .lossy ≡ s .played .ledger .phases n .lossy) ⊎ Mishap setting w e → Sound (step L P w e)
+      go (inl z) = record { played = nx .played; kept = kept-step w (s .played) (s .kept) e l; calm = λ n. z n ∙ s .calm n }
       go (inr z) = absurd (no-mishap w (s .played) (s .kept) (s .calm) e l z)
 
   sound-on : (w : Board) → Sound w → (es : List Event) → NoLoss es → Sound (after L P w es)

@@ -9,6 +9,10 @@ pub mod Setting
 pub mod Sim
 pub mod Due
 pub mod Emit
+pub mod Played
+pub mod Sending
+pub mod Calling
+pub mod Delivering
 pub mod Steps
 pub mod Safety
 pub mod Lone

@@ -35,7 +35,8 @@ use Rattle.runs.proofs.Ways.{Mute, mute-is, callChecks, order-passes}
 use Rattle.runs.proofs.Pairs.{Pair, pair-all}
 use Rattle.runs.proofs.Sim.{Carried, Sim}
 use Rattle.runs.proofs.Emit.{step-first, step-second}
-use Rattle.runs.proofs.Steps.{mute-of}
+use Rattle.runs.proofs.Calling.{mute-of}
+use Rattle.runs.proofs.Delivering.{c}
 use Rattle.runs.proofs.Legal.{agrees-first, agrees-second}
 use Rattle.runs.proofs.Alive.{Sound, sound, valid-at}
 
@@ -129,9 +130,9 @@ module _ {L : Limits} {P : ℕ} (setting : Setting L P) where
 
   module _ (w : Board) (s : Sound setting w) where
     abbrev B : ABoard
-    B = s .played .board
+    B = s .played .ledger
 
-    i : Sim setting w (s .played .board)
+    i : Sim setting w (s .played .ledger)
     i = s .played .sim
 
     ok : (a : ℕ) → a < P → valid L (w .nodes a) ≡ true
@@ -171,47 +172,47 @@ module _ {L : Limits} {P : ℕ} (setting : Setting L P) where
         → ((a : ℕ) → a < P → (w .count a ≡ w .count u) × (isDue (w .nodes a) ≡ true) → ⊥)
         → (a : ℕ) × ((a < P) × ((w .count a ≡ w .count u) × (agrees L (w .nodes a) (w .nodes a .pass) (w .nodes a .dim) ≡ true)))
     stuck f1 f2 f3 =
-        let r = no-board-sticks T (fieldLimit L) (s .played .board) (s .played .reached) u hu (s .calm (s .played .board .ph u)) (λ y h. omega (arith, old y h, i .counts u, i .counts y)) rest under isNone in
+        let r = no-board-sticks T (fieldLimit L) (s .played .ledger) (s .played .reached) u hu (s .calm (s .played .ledger .ph u)) (λ y h. omega (arith, old y h, i .counts u, i .counts y)) rest under isNone in
         (r .0, (r .1 .0, (back (r .0) (r .1 .1 .0), agrees-of (r .0) (r .1 .0) (r .1 .1 .0) (r .1 .1 .1))))
       where
-        back : (a : ℕ) → s .played .board .ph a ≡ s .played .board .ph u → w .count a ≡ w .count u
+        back : (a : ℕ) → s .played .ledger .ph a ≡ s .played .ledger .ph u → w .count a ≡ w .count u
         back a e = i .counts a ∙ e ∙ sym (i .counts u)
-        rest : (a : ℕ) → a < P → s .played .board .ph a ≡ s .played .board .ph u → s .played .board .phases (s .played .board .ph u) .nodes a .busy ≡ false
-        rest a h e = subst (λ n. s .played .board .phases n .nodes a .busy ≡ false) e (sym (i .node a h .like .busy) ∙ idle-of f1 a h (back a e))
-        isNone : (a : ℕ) → a < P → s .played .board .ph a ≡ s .played .board .ph u
-            → (s .played .board .phases (s .played .board .ph u) .nodes a .flag ≡ false) ⊎ Unheard T a (s .played .board .phases (s .played .board .ph u) .nodes a .at)
+        rest : (a : ℕ) → a < P → s .played .ledger .ph a ≡ s .played .ledger .ph u → s .played .ledger .phases (s .played .ledger .ph u) .nodes a .busy ≡ false
+        rest a h e = subst (λ n. s .played .ledger .phases n .nodes a .busy ≡ false) e (sym (i .node a h .like .busy) ∙ idle-of f1 a h (back a e))
+        isNone : (a : ℕ) → a < P → s .played .ledger .ph a ≡ s .played .ledger .ph u
+            → (s .played .ledger .phases (s .played .ledger .ph u) .nodes a .flag ≡ false) ⊎ Unheard T a (s .played .ledger .phases (s .played .ledger .ph u) .nodes a .at)
         isNone a h e =
-            subst (λ n. (s .played .board .phases n .nodes a .flag ≡ false) ⊎ Unheard T a (s .played .board .phases n .nodes a .at)) e
-            (mute-of setting w (s .played .board) (s .played .reached) (s .played .sim) (s .played .marks) a h (mute-now f3 a h (back a e)))
-        under : All (λ t. (t .dest < P) × (s .played .board .ph u < s .played .board .ph (t .dest))) (sub (s .played .board .ph u) (s .played .board .msgs))
+            subst (λ n. (s .played .ledger .phases n .nodes a .flag ≡ false) ⊎ Unheard T a (s .played .ledger .phases n .nodes a .at)) e
+            (mute-of setting w (s .played) a h (mute-now f3 a h (back a e)))
+        under : All (λ t. (t .dest < P) × (s .played .ledger .ph u < s .played .ledger .ph (t .dest))) (sub (s .played .ledger .ph u) (s .played .ledger .msgs))
         under =
-            sub-all (s .played .board .ph u) (λ t. (t .dest < P) × (s .played .board .ph u < s .played .board .ph (t .dest))) (s .played .board .msgs)
-            (pair-all (Carried setting) (λ m. (m .phase ≡ w .count u) × (w .count (m .to) ≡ w .count u) → ⊥) (λ m. m .ph ≡ s .played .board .ph u → (m .it .dest < P) × (s .played .board .ph u < s .played .board .ph (m .it .dest)))
-              (λ m t c f e. one m t c f e) (w .items) (s .played .board .msgs) (i .items) f2)
+            sub-all (s .played .ledger .ph u) (λ t. (t .dest < P) × (s .played .ledger .ph u < s .played .ledger .ph (t .dest))) (s .played .ledger .msgs)
+            (pair-all (Carried setting) (λ m. (m .phase ≡ w .count u) × (w .count (m .to) ≡ w .count u) → ⊥) (λ m. m .ph ≡ s .played .ledger .ph u → (m .it .dest < P) × (s .played .ledger .ph u < s .played .ledger .ph (m .it .dest)))
+              (λ m t c f e. one m t c f e) (w .items) (s .played .ledger .msgs) (i .items) f2)
           where
-            one : (m : Item) (t : Msg) → Carried setting m t → ((m .phase ≡ w .count u) × (w .count (m .to) ≡ w .count u) → ⊥) → t .ph ≡ s .played .board .ph u → (t .it .dest < P) × (s .played .board .ph u < s .played .board .ph (t .it .dest))
+            one : (m : Item) (t : Msg) → Carried setting m t → ((m .phase ≡ w .count u) × (w .count (m .to) ≡ w .count u) → ⊥) → t .ph ≡ s .played .ledger .ph u → (t .it .dest < P) × (s .played .ledger .ph u < s .played .ledger .ph (t .it .dest))
             one m t c f e =
                 let d : m .to < P = c .to-lt in
-                let z : w .count (m .to) ≡ s .played .board .ph (t .it .dest) = i .counts (m .to) ∙ ap (s .played .board .ph) (c .to) in
+                let z : w .count (m .to) ≡ s .played .ledger .ph (t .it .dest) = i .counts (m .to) ∙ ap (s .played .ledger .ph) (c .to) in
                 let ne : w .count (m .to) ≢ w .count u = λ y. f (c .phase ∙ e ∙ sym (i .counts u), y) in
                 (omega (arith, c .to), omega (arith, old (m .to) d, i .counts u, z, ne))
-        agrees-of : (a : ℕ) → a < P → s .played .board .ph a ≡ s .played .board .ph u
-            → Agree p (fieldLimit L) (s .played .board .phases (s .played .board .ph u) .nodes a) (s .played .board .phases (s .played .board .ph u) .nodes a .at) (T .await (dim p (s .played .board .phases (s .played .board .ph u) .nodes a .at)) a)
+        agrees-of : (a : ℕ) → a < P → s .played .ledger .ph a ≡ s .played .ledger .ph u
+            → Agree p (fieldLimit L) (s .played .ledger .phases (s .played .ledger .ph u) .nodes a) (s .played .ledger .phases (s .played .ledger .ph u) .nodes a .at) (T .await (dim p (s .played .ledger .phases (s .played .ledger .ph u) .nodes a .at)) a)
             → agrees L (w .nodes a) (w .nodes a .pass) (w .nodes a .dim) ≡ true
         agrees-of a h e g =
-            by (i .node a h .pass) (subst (λ n. Agree p (fieldLimit L) (s .played .board .phases n .nodes a) (s .played .board .phases n .nodes a .at) (T .await (dim p (s .played .board .phases n .nodes a .at)) a)) (sym e) g)
+            by (i .node a h .pass) (subst (λ n. Agree p (fieldLimit L) (s .played .ledger .phases n .nodes a) (s .played .ledger .phases n .nodes a .at) (T .await (dim p (s .played .ledger .phases n .nodes a .at)) a)) (sym e) g)
           where
-            by : (w .nodes a .pass ≡ 1) ⊎ (w .nodes a .pass ≡ 2) → Agree p (fieldLimit L) (seat (s .played .board) a) (seat (s .played .board) a .at) (T .await (dim p (seat (s .played .board) a .at)) a) → agrees L (w .nodes a) (w .nodes a .pass) (w .nodes a .dim) ≡ true
+            by : (w .nodes a .pass ≡ 1) ⊎ (w .nodes a .pass ≡ 2) → Agree p (fieldLimit L) (seat (s .played .ledger) a) (seat (s .played .ledger) a .at) (T .await (dim p (seat (s .played .ledger) a .at)) a) → agrees L (w .nodes a) (w .nodes a .pass) (w .nodes a .dim) ≡ true
             by (inl q) g =
-                let at-is : seat (s .played .board) a .at ≡ w .nodes a .dim = sym (i .node a h .like .at) ∙ step-first p (w .nodes a .pass) (w .nodes a .dim) q in
+                let at-is : seat (s .played .ledger) a .at ≡ w .nodes a .dim = sym (i .node a h .like .at) ∙ step-first p (w .nodes a .pass) (w .nodes a .dim) q in
                 subst (λ x. agrees L (w .nodes a) x (w .nodes a .dim) ≡ true) (sym q)
-                (agrees-first setting (s .played .board) (s .played .reached) a (w .count a) h (w .nodes a) (i .node a h) (w .nodes a .dim) (i .node a h .low)
-                  (subst (λ t. Agree p (fieldLimit L) (seat (s .played .board) a) t (T .await (dim p t) a)) at-is g))
+                (agrees-first setting (s .played .ledger) (s .played .reached) a (w .count a) h (w .nodes a) (i .node a h) (w .nodes a .dim) (i .node a h .low)
+                  (subst (λ t. Agree p (fieldLimit L) (seat (s .played .ledger) a) t (T .await (dim p t) a)) at-is g))
             by (inr q) g =
-                let at-is : seat (s .played .board) a .at ≡ p + w .nodes a .dim = sym (i .node a h .like .at) ∙ step-second p (w .nodes a .pass) (w .nodes a .dim) q in
+                let at-is : seat (s .played .ledger) a .at ≡ p + w .nodes a .dim = sym (i .node a h .like .at) ∙ step-second p (w .nodes a .pass) (w .nodes a .dim) q in
                 subst (λ x. agrees L (w .nodes a) x (w .nodes a .dim) ≡ true) (sym q)
-                (agrees-second setting (s .played .board) (s .played .reached) a (w .count a) h (w .nodes a) (i .node a h) (w .nodes a .dim) (i .node a h .low)
-                  (subst (λ t. Agree p (fieldLimit L) (seat (s .played .board) a) t (T .await (dim p t) a)) at-is g))
+                (agrees-second setting (s .played .ledger) (s .played .reached) a (w .count a) h (w .nodes a) (i .node a h) (w .nodes a .dim) (i .node a h .low)
+                  (subst (λ t. Agree p (fieldLimit L) (seat (s .played .ledger) a) t (T .await (dim p t) a)) at-is g))
 
     pub lives-now : Lives L P w
     lives-now =
@@ -230,7 +231,7 @@ module _ {L : Limits} {P : ℕ} (setting : Setting L P) where
             → Lives L P w
         go (inl r) f2 f3 = Lives.busy (r .0) (r .1 .0, from-old (r .0) (r .1 .1 .0)) (r .1 .1 .1)
         go (inr f1) (inl r) f3 =
-            Lives.underWay (r .0 .to) (to-lt (w .items) (s .played .board .msgs) (i .items) (r .0) (r .1 .0), from-old (r .0 .to) (r .1 .1 .1)) (r .0) (r .1 .0) refl (r .1 .1 .0 ∙ sym (r .1 .1 .1))
+            Lives.underWay (r .0 .to) (to-lt (w .items) (s .played .ledger .msgs) (i .items) (r .0) (r .1 .0), from-old (r .0 .to) (r .1 .1 .1)) (r .0) (r .1 .0) refl (r .1 .1 .0 ∙ sym (r .1 .1 .1))
         go (inr f1) (inr f2) (inl r) =
             Lives.goes (r .0) (r .1 .0, from-old (r .0) (r .1 .1 .0))
             (λ len l. goes-on L P (w .nodes (r .0)) len (ok (r .0) (r .1 .0)) (idle-of f1 (r .0) (r .1 .0) (r .1 .1 .0)) (frame-le (r .0) (r .1 .0) len l) (λ e. clash (sym (r .1 .1 .1) ∙ e)))

@@ -12,7 +12,7 @@ use Rattle.base.specs.Limits.{Limits, fieldLimit}
 use Rattle.base.proofs.Laws.{clash, cases}
 use Rattle.tree.specs.Tree.{dimension}
 use Rattle.node.specs.Change.{freshIn}
-use Rattle.node.specs.Answers.{Given, Outcome, done, dropped, refused, Barrier, waits, left}
+use Rattle.node.specs.Answers.{Given, Outcome, done, refused, Barrier, waits, left}
 use Rattle.node.specs.Calls.{send, take, idle, frameIn}
 use Rattle.node.specs.Barrier.{barrier}
 use Rattle.node.specs.declared.Node.{Node}
@@ -26,14 +26,14 @@ use Rattle.runs.proofs.Setting.{Setting, tree, dim-low, dim-pos}
 use Rattle.runs.proofs.Ways.{SendWay, send-way, TakeWay, take-way, IdleWay, idle-way, FrameWay, frame-way, CallWay, call-way}
 use Rattle.runs.proofs.View.{like-fresh}
 use Rattle.runs.proofs.Sim.{Sim}
-use Rattle.runs.proofs.Marks.{Marks, none-left}
-use Rattle.runs.proofs.Steps.{Next, next, leave-next, c, job-of, not-behind, same-phase}
+use Rattle.runs.proofs.Marks.{none-left}
+use Rattle.runs.proofs.Played.{Played, Next}
+use Rattle.runs.proofs.Calling.{leave-next}
+use Rattle.runs.proofs.Delivering.{c, ha, job-of, not-behind, same-phase}
+use Rattle.runs.proofs.Steps.{next}
 
 done-not-refused : {A : Type 0} (x : ℕ) → refused x ≡ done → A
 done-not-refused x q = let z : _≡_ {A = ℕ} 0 1 = cc in absurd (omega arith)
-
-dropped-not-done : {A : Type 0} → dropped ≡ done → A
-dropped-not-done q = let z : _≡_ {A = ℕ} 0 1 = cc in absurd (omega arith)
 
 module _ {L : Limits} {P : ℕ} (setting : Setting L P) where
   abbrev pub p : ℕ
@@ -42,15 +42,9 @@ module _ {L : Limits} {P : ℕ} (setting : Setting L P) where
   abbrev pub Rch : ABoard → Type 0
   Rch = Reached (tree setting) (fieldLimit L)
 
-  pub record Played (w : Board) : Type 0 where
-    pub board : ABoard
-    pub reached : Rch board
-    pub sim : Sim setting w board
-    pub marks : Marks P (w .untaken) (w .sends) (w .items) board
-
-  pub begun : Played (start P)
+  pub begun : Played setting (start P)
   begun =
-      record { board = begin; reached = Reached.first;
+      record { ledger = begin; reached = Reached.first;
         sim = record { counts = λ y. refl;
           node = λ y q. record { nodes = refl; number = refl; phase = refl; pass = inl refl; low = dim-pos setting; sents = refl; takens = refl; firsts = refl; seconds = refl; like = like-fresh (dimension P) P y 0 refl (dim-low setting) };
           busy = λ y q. refl; items = tt;
@@ -58,27 +52,27 @@ module _ {L : Limits} {P : ℕ} (setting : Setting L P) where
           capped = λ n y q. zero-le };
         marks = record { tidy = λ i q. refl; sums = λ n. omega (arith, sum-zero 0 P); named = tt; apart = tt } }
 
-  pub begun-calm : (n : ℕ) → begun .board .phases n .lossy ≡ false
+  pub begun-calm : (n : ℕ) → begun .ledger .phases n .lossy ≡ false
   unfolding begun
   begun-calm n = refl
 
-  pub one-more : (w : Board) → Played w → (e : Event) → Played (step L P w e)
-  one-more w q e = let n = next setting w (q .board) (q .reached) (q .sim) (q .marks) e in record { board = n .board; reached = n .reached; sim = n .sim; marks = n .marks }
+  pub one-more : (w : Board) → Played setting w → (e : Event) → Played setting (step L P w e)
+  one-more w q e = next setting w q e .played
 
-  pub played-on : (w : Board) → Played w → (es : List Event) → Played (after L P w es)
+  pub played-on : (w : Board) → Played setting w → (es : List Event) → Played setting (after L P w es)
   played-on w q [] = q
   played-on w q (e ∷ es) = played-on (step L P w e) (one-more w q e) es
 
-  pub played : (es : List Event) → Played (run L P es)
+  pub played : (es : List Event) → Played setting (run L P es)
   played es = played-on (start P) begun es
 
   -- ---- each clause, of a board that is played
 
-  module _ (w : Board) (q : Played w) where
+  module _ (w : Board) (q : Played setting w) where
     abbrev B : ABoard
-    B = q .board
+    B = q .ledger
 
-    i : Sim setting w (q .board)
+    i : Sim setting w (q .ledger)
     i = q .sim
 
     send-busy : (a b : ℕ) (y : Given Outcome) → SendWay L (w .nodes a) b y → y .answer ≡ done → w .nodes a .busy ≡ true
@@ -91,9 +85,9 @@ module _ {L : Limits} {P : ℕ} (setting : Setting L P) where
     -- in a phase that somebody has left, a node is idle
     left-idle : (a n b : ℕ) → a < P → n < w .count a → b < P → w .count b ≡ n → w .nodes b .busy ≡ false
     left-idle a n b ha l hb′ e =
-        let o = safe (tree setting) (fieldLimit L) (q .board) (q .reached) a n ha (omega (arith, i .counts a)) in
-        let z : n ≡ q .board .ph b = sym e ∙ i .counts b in
-        i .node b hb′ .like .busy ∙ subst (λ n. q .board .phases n .nodes b .busy ≡ false) z (o .idle b hb′)
+        let o = safe (tree setting) (fieldLimit L) (q .ledger) (q .reached) a n ha (omega (arith, i .counts a)) in
+        let z : n ≡ q .ledger .ph b = sym e ∙ i .counts b in
+        i .node b hb′ .like .busy ∙ subst (λ n. q .ledger .phases n .nodes b .busy ≡ false) z (o .idle b hb′)
 
     -- what an event does to busy and count of a node
     data Change (e : Event) (a : ℕ) (w′ : Board) : Type 0 where
@@ -141,9 +135,9 @@ module _ {L : Limits} {P : ℕ} (setting : Setting L P) where
         → (m .phase ≡ w .count b) × ((z : ℕ) → z < P → w .count z ≤ m .phase)
     take-phase x b m byte y old lw (TakeWay.refused n) e = done-not-refused n e
     take-phase x b m byte y old lw (TakeWay.accepted v a1 a2 df cap) e =
-        let j = job-of setting w (q .board) (q .reached) (q .sim) (q .marks) x b m old byte lw in
-        (same-phase setting w (q .board) (q .reached) (q .sim) (q .marks) x b m old byte lw (j .0) (j .1) df ∙ sym (i .counts b),
-          λ z h. omega (arith, not-behind setting w (q .board) (q .reached) (q .sim) (q .marks) x b m old byte lw (j .0) (j .1) z h, i .counts z))
+        let j = job-of setting w q x b m old byte lw in
+        (same-phase setting w q x b m old byte lw (j .0) (j .1) df ∙ sym (i .counts b),
+          λ z h. omega (arith, not-behind setting w q x b m old byte lw (j .0) (j .1) z h, i .counts z))
 
     awoken : (x b a : ℕ) (m : Item) (n : Node) → TakeDone L P w b (w .count b) (delivers x b) → Change (delivers x b) a (afterTake (gave w b n) x b m done)
     awoken x b a m n t = by (ℕ-discrete a b)
@@ -203,26 +197,26 @@ module _ {L : Limits} {P : ℕ} (setting : Setting L P) where
     gone a len h y (CallWay.second b m g d k) e = let z : _≡_ {A = ℕ} 0 1 = cc in absurd (omega arith)
     gone a len h y (CallWay.single b d) e = absurd (omega (arith, ap dimension (i .node a h .nodes), dim-pos setting))
     gone a len h y (CallWay.leaves b m g d k) e =
-        record { taken = none-left P (w .untaken) (w .sends) (w .items) (nx .board) (nx .marks) (w .count a) (o .taken); idle = λ x hx z. idles′ x hx z (ℕ-discrete x a); reached = λ x hx. reach x hx (ℕ-discrete x a) }
+        record { taken = none-left P (w .untaken) (w .sends) (w .items) (nx .played .ledger) (nx .played .marks) (w .count a) (o .taken); idle = λ x hx z. idles′ x hx z (ℕ-discrete x a); reached = λ x hx. reach x hx (ℕ-discrete x a) }
       where
         two : (w .nodes a .pass ≡ 1) ⊎ (w .nodes a .pass ≡ 2) → w .nodes a .pass ≡ 2
         two (inl z) = absurd (k z)
         two (inr z) = z
         n′ : Node
         n′ = freshIn (w .nodes a .nodes) (w .nodes a .number) ((w .nodes a .phase + 1) % 256)
-        nx : Next setting w (q .board) (calls a len) (record { nodes = put (w .nodes) a (freshIn (w .nodes a .nodes) (w .nodes a .number) ((w .nodes a .phase + 1) % 256)); items = w .items; count = put (w .count) a (suc (w .count a)); busy = put (w .busy) a true; untaken = w .untaken; sends = w .sends })
-        nx = leave-next setting w (q .board) (q .reached) (q .sim) (q .marks) a h len b m g (omega (arith, ap dimension (i .node a h .nodes), i .node a h .low, d)) (two (i .node a h .pass))
-        up : nx .board .ph a ≡ suc (w .count a)
-        up = sym (nx .sim .counts a) ∙ put-same (w .count) a (suc (w .count a))
-        o : Over (tree setting) (fieldLimit L) (nx .board) (w .count a)
-        o = safe (tree setting) (fieldLimit L) (nx .board) (nx .reached) a (w .count a) h (omega (arith, up))
-        stays : (x : ℕ) → x ≢ a → nx .board .ph x ≡ w .count x
-        stays x z = sym (nx .sim .counts x) ∙ put-other (w .count) a (suc (w .count a)) x z
+        nx : Next setting w q (calls a len) (record { nodes = put (w .nodes) a (freshIn (w .nodes a .nodes) (w .nodes a .number) ((w .nodes a .phase + 1) % 256)); items = w .items; count = put (w .count) a (suc (w .count a)); busy = put (w .busy) a true; untaken = w .untaken; sends = w .sends })
+        nx = leave-next setting w q a h len b m g (omega (arith, ap dimension (i .node a h .nodes), i .node a h .low, d)) (two (i .node a h .pass))
+        up : nx .played .ledger .ph a ≡ suc (w .count a)
+        up = sym (nx .played .sim .counts a) ∙ put-same (w .count) a (suc (w .count a))
+        o : Over (tree setting) (fieldLimit L) (nx .played .ledger) (w .count a)
+        o = safe (tree setting) (fieldLimit L) (nx .played .ledger) (nx .played .reached) a (w .count a) h (omega (arith, up))
+        stays : (x : ℕ) → x ≢ a → nx .played .ledger .ph x ≡ w .count x
+        stays x z = sym (nx .played .sim .counts x) ∙ put-other (w .count) a (suc (w .count a)) x z
         idles′ : (x : ℕ) → x < P → w .count x ≡ w .count a → Dec (x ≡ a) → w .busy x ≡ false
         idles′ x hx z (yes s) = sym (i .busy x hx) ∙ ap (λ x. w .nodes x .busy) s ∙ b
         idles′ x hx z (no s) =
-            sym (i .busy x hx) ∙ sym (ap (λ (n : Node). n .busy) (put-other (w .nodes) a n′ x s)) ∙ nx .sim .node x hx .like .busy
-            ∙ subst (λ n. nx .board .phases n .nodes x .busy ≡ false) (sym z ∙ sym (stays x s)) (o .idle x hx)
+            sym (i .busy x hx) ∙ sym (ap (λ (n : Node). n .busy) (put-other (w .nodes) a n′ x s)) ∙ nx .played .sim .node x hx .like .busy
+            ∙ subst (λ n. nx .played .ledger .phases n .nodes x .busy ≡ false) (sym z ∙ sym (stays x s)) (o .idle x hx)
         reach : (x : ℕ) → x < P → Dec (x ≡ a) → w .count a ≤ w .count x
         reach x hx (yes s) = let z : w .count x ≡ w .count a = ap (w .count) s in omega arith
         reach x hx (no s) = omega (arith, o .reached x hx, stays x s)
