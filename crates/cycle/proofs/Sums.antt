@@ -11,101 +11,101 @@ use lib.Seq.{take-append-le, getD-take, getD-append-seam, length-take-le}
 
 -- ---- a function changed at one place
 
-abbrev pub choose {ℓ} : {A : Type ℓ} {B : Type 0} → Dec B → A → A → A
-choose (yes h) a b = a
-choose (no h) a b = b
+abbrev pub pick {ℓ} : {A : Type ℓ} {B : Type 0} → Dec B → A → A → A
+pick (yes h) a b = a
+pick (no h) a b = b
 
-abbrev pub upd : {A : Type 0} → (ℕ → A) → ℕ → A → ℕ → A
-upd f i v j = choose (ℕ-discrete j i) v (f j)
+abbrev pub update : {A : Type 0} → (ℕ → A) → ℕ → A → ℕ → A
+update f i v j = pick (ℕ-discrete j i) v (f j)
 
-pub upd-same : {A : Type 0} (f : ℕ → A) (i : ℕ) (v : A) → upd f i v i ≡ v
-upd-same {A} f i v = go (ℕ-discrete i i)
+pub update-same : {A : Type 0} (f : ℕ → A) (i : ℕ) (v : A) → update f i v i ≡ v
+update-same {A} f i v = go (ℕ-discrete i i)
   where
-    go : (d : Dec (i ≡ i)) → choose d v (f i) ≡ v
+    go : (d : Dec (i ≡ i)) → pick d v (f i) ≡ v
     go (yes h) = refl
     go (no h) = absurd (h refl)
 
-pub upd-other : {A : Type 0} (f : ℕ → A) (i : ℕ) (v : A) (j : ℕ) → j ≢ i → upd f i v j ≡ f j
-upd-other {A} f i v j n = go (ℕ-discrete j i)
+pub update-other : {A : Type 0} (f : ℕ → A) (i : ℕ) (v : A) (j : ℕ) → j ≢ i → update f i v j ≡ f j
+update-other {A} f i v j n = go (ℕ-discrete j i)
   where
-    go : (d : Dec (j ≡ i)) → choose d v (f j) ≡ f j
+    go : (d : Dec (j ≡ i)) → pick d v (f j) ≡ f j
     go (yes h) = absurd (n h)
     go (no h) = refl
 
 -- ---- sums: sum f lo n is f lo + .. + f (lo + n - 1)
 
 abbrev pub sum : (ℕ → ℕ) → ℕ → ℕ → ℕ
-sum f lo zero = 0
-sum f lo (suc n) = sum f lo n + f (lo + n)
+sum f low zero = 0
+sum f low (suc n) = sum f low n + f (low + n)
 
-pub sum-split : (f : ℕ → ℕ) (lo m n : ℕ) → sum f lo (m + n) ≡ sum f lo m + sum f (lo + m) n
-sum-split f lo m zero = simp add-zero
-sum-split f lo m (suc n) = rw (add-suc, sum-split f lo m n, add-assoc lo m n) (omega arith)
+pub sum-split : (f : ℕ → ℕ) (low m n : ℕ) → sum f low (m + n) ≡ sum f low m + sum f (low + m) n
+sum-split f low m zero = simp add-zero
+sum-split f low m (suc n) = rw (add-suc, sum-split f low m n, add-assoc low m n) (omega arith)
 
-pub sum-ext : (f g : ℕ → ℕ) (lo n : ℕ) → ((i : ℕ) → lo ≤ i → i < lo + n → f i ≡ g i) → sum f lo n ≡ sum g lo n
-sum-ext f g lo zero h = refl
-sum-ext f g lo (suc n) h =
-    let e = h (lo + n) (omega arith) (omega arith) in
-    let r = sum-ext f g lo n (λ i a b. h i a (omega arith)) in
+pub sum-ext : (f g : ℕ → ℕ) (low n : ℕ) → ((i : ℕ) → low ≤ i → i < low + n → f i ≡ g i) → sum f low n ≡ sum g low n
+sum-ext f g low zero h = refl
+sum-ext f g low (suc n) h =
+    let e = h (low + n) (omega arith) (omega arith) in
+    let r = sum-ext f g low n (λ i a b. h i a (omega arith)) in
     omega arith
 
-pub sum-le : (f g : ℕ → ℕ) (lo n : ℕ) → ((i : ℕ) → lo ≤ i → i < lo + n → f i ≤ g i) → sum f lo n ≤ sum g lo n
-sum-le f g lo zero h = zero-le
-sum-le f g lo (suc n) h =
-    let e = h (lo + n) (omega arith) (omega arith) in
-    let r = sum-le f g lo n (λ i a b. h i a (omega arith)) in
+pub sum-le : (f g : ℕ → ℕ) (low n : ℕ) → ((i : ℕ) → low ≤ i → i < low + n → f i ≤ g i) → sum f low n ≤ sum g low n
+sum-le f g low zero h = zero-le
+sum-le f g low (suc n) h =
+    let e = h (low + n) (omega arith) (omega arith) in
+    let r = sum-le f g low n (λ i a b. h i a (omega arith)) in
     omega arith
 
-pub sum-plus : (f g : ℕ → ℕ) (lo n : ℕ) → sum (λ i. f i + g i) lo n ≡ sum f lo n + sum g lo n
-sum-plus f g lo zero = refl
-sum-plus f g lo (suc n) = let r = sum-plus f g lo n in omega arith
+pub sum-plus : (f g : ℕ → ℕ) (low n : ℕ) → sum (λ i. f i + g i) low n ≡ sum f low n + sum g low n
+sum-plus f g low zero = refl
+sum-plus f g low (suc n) = let r = sum-plus f g low n in omega arith
 
-pub sum-zero : (lo n : ℕ) → sum (λ i. 0) lo n ≡ 0
-sum-zero lo zero = refl
-sum-zero lo (suc n) = let r = sum-zero lo n in omega arith
+pub sum-zero : (low n : ℕ) → sum (λ i. 0) low n ≡ 0
+sum-zero low zero = refl
+sum-zero low (suc n) = let r = sum-zero low n in omega arith
 
 -- pointwise below and no less in total: pointwise equal
-pub sum-tight : (f g : ℕ → ℕ) (lo n : ℕ) → ((i : ℕ) → lo ≤ i → i < lo + n → f i ≤ g i) → sum g lo n ≤ sum f lo n
-    → (i : ℕ) → lo ≤ i → i < lo + n → g i ≡ f i
-sum-tight f g lo zero h t i a b = absurd (omega arith)
-sum-tight f g lo (suc n) h t i a b = go (λ t′ b′. sum-tight f g lo n (λ j c d. h j c (omega arith)) t′ i a b′) (ℕ-discrete i (lo + n))
+pub sum-tight : (f g : ℕ → ℕ) (low n : ℕ) → ((i : ℕ) → low ≤ i → i < low + n → f i ≤ g i) → sum g low n ≤ sum f low n
+    → (i : ℕ) → low ≤ i → i < low + n → g i ≡ f i
+sum-tight f g low zero h t i a b = absurd (omega arith)
+sum-tight f g low (suc n) h t i a b = go (λ t′ b′. sum-tight f g low n (λ j c d. h j c (omega arith)) t′ i a b′) (ℕ-discrete i (low + n))
   where
-    le-last : f (lo + n) ≤ g (lo + n)
-    le-last = h (lo + n) (omega arith) (omega arith)
+    le-last : f (low + n) ≤ g (low + n)
+    le-last = h (low + n) (omega arith) (omega arith)
 
-    le-rest : sum f lo n ≤ sum g lo n
-    le-rest = sum-le f g lo n (λ j c d. h j c (omega arith))
+    le-rest : sum f low n ≤ sum g low n
+    le-rest = sum-le f g low n (λ j c d. h j c (omega arith))
 
-    go : (sum g lo n ≤ sum f lo n → i < lo + n → g i ≡ f i) → Dec (i ≡ lo + n) → g i ≡ f i
+    go : (sum g low n ≤ sum f low n → i < low + n → g i ≡ f i) → Dec (i ≡ low + n) → g i ≡ f i
     go ih (yes e) = rw e (omega (arith, le-last, le-rest))
     go ih (no ne) = ih (omega (arith, le-last, le-rest)) (omega arith)
 
-pub sum-upd-out : (f : ℕ → ℕ) (i v lo n : ℕ) → (i < lo) ⊎ (lo + n ≤ i) → sum (upd f i v) lo n ≡ sum f lo n
-sum-upd-out f i v lo n (inl l) = sum-ext (upd f i v) f lo n (λ j a b. upd-other f i v j (omega arith))
-sum-upd-out f i v lo n (inr l) = sum-ext (upd f i v) f lo n (λ j a b. upd-other f i v j (omega arith))
+pub sum-update-out : (f : ℕ → ℕ) (i v low n : ℕ) → (i < low) ⊎ (low + n ≤ i) → sum (update f i v) low n ≡ sum f low n
+sum-update-out f i v low n (inl l) = sum-ext (update f i v) f low n (λ j a b. update-other f i v j (omega arith))
+sum-update-out f i v low n (inr l) = sum-ext (update f i v) f low n (λ j a b. update-other f i v j (omega arith))
 
-pub sum-upd : (f : ℕ → ℕ) (i v lo n : ℕ) → lo ≤ i → i < lo + n → sum (upd f i v) lo n + f i ≡ sum f lo n + v
-sum-upd f i v lo zero a b = absurd (omega arith)
-sum-upd f i v lo (suc n) a b = go (λ b′. sum-upd f i v lo n a b′) (ℕ-discrete i (lo + n))
+pub sum-update : (f : ℕ → ℕ) (i v low n : ℕ) → low ≤ i → i < low + n → sum (update f i v) low n + f i ≡ sum f low n + v
+sum-update f i v low zero a b = absurd (omega arith)
+sum-update f i v low (suc n) a b = go (λ b′. sum-update f i v low n a b′) (ℕ-discrete i (low + n))
   where
-    go : (i < lo + n → sum (upd f i v) lo n + f i ≡ sum f lo n + v) → Dec (i ≡ lo + n) → sum (upd f i v) lo (suc n) + f i ≡ sum f lo (suc n) + v
+    go : (i < low + n → sum (update f i v) low n + f i ≡ sum f low n + v) → Dec (i ≡ low + n) → sum (update f i v) low (suc n) + f i ≡ sum f low (suc n) + v
     go ih (yes e) =
-        let o = sum-upd-out f i v lo n (inr (omega arith)) in
-        let s : upd f i v (lo + n) ≡ v = rw (← e) (upd-same f i v) in
-        let e′ : f i ≡ f (lo + n) = ap f e in
+        let o = sum-update-out f i v low n (inr (omega arith)) in
+        let s : update f i v (low + n) ≡ v = rw (← e) (update-same f i v) in
+        let e′ : f i ≡ f (low + n) = ap f e in
         omega arith
     go ih (no ne) =
         let o = ih (omega arith) in
-        let s = upd-other f i v (lo + n) (λ q. ne (sym q)) in
+        let s = update-other f i v (low + n) (λ q. ne (sym q)) in
         omega arith
 
 -- ---- counts
 
 abbrev pub one : ℕ → ℕ → ℕ
-one x = upd (λ j. 0) x 1
+one x = update (λ j. 0) x 1
 
-pub sum-one : (x lo n : ℕ) → lo ≤ x → x < lo + n → sum (one x) lo n ≡ 1
-sum-one x lo n a b = let h = sum-upd (λ j. 0) x 1 lo n a b in let z = sum-zero lo n in omega arith
+pub sum-one : (x low n : ℕ) → low ≤ x → x < low + n → sum (one x) low n ≡ 1
+sum-one x low n a b = let h = sum-update (λ j. 0) x 1 low n a b in let z = sum-zero low n in omega arith
 
 abbrev pub count : ℕ → List ℕ → ℕ
 count y [] = 0
@@ -122,10 +122,10 @@ pub length-snoc : (xs : List ℕ) (x : ℕ) → length (snoc xs x) ≡ suc (leng
 length-snoc xs x = omega (arith, length-append xs (x ∷ []))
 
 pub count-snoc-same : (xs : List ℕ) (x : ℕ) → count x (snoc xs x) ≡ suc (count x xs)
-count-snoc-same xs x = omega (arith, count-append x xs (x ∷ []), upd-same {A = ℕ} (λ j. 0) x 1)
+count-snoc-same xs x = omega (arith, count-append x xs (x ∷ []), update-same {A = ℕ} (λ j. 0) x 1)
 
 pub count-snoc-other : (xs : List ℕ) (x y : ℕ) → y ≢ x → count y (snoc xs x) ≡ count y xs
-count-snoc-other xs x y n = omega (arith, count-append y xs (x ∷ []), upd-other {A = ℕ} (λ j. 0) x 1 y n)
+count-snoc-other xs x y n = omega (arith, count-append y xs (x ∷ []), update-other {A = ℕ} (λ j. 0) x 1 y n)
 
 -- every entry is below P
 abbrev pub Below : ℕ → List ℕ → Type 0
@@ -156,38 +156,38 @@ pub getD-snoc-last : (l : List ℕ) (x d : ℕ) → getD (snoc l x) (length l) d
 getD-snoc-last l x d = getD-append-seam l x [] d
 
 -- a fact of every place of a changed function: at the place, and at the others
-pub upd-all : {A : Type 0} (F : ℕ → A → Type 0) (f : ℕ → A) (i : ℕ) (v : A) → F i v → ((j : ℕ) → j ≢ i → F j (f j)) → (j : ℕ) → F j (upd f i v j)
-upd-all {A} F f i v at rest j = go (ℕ-discrete j i)
+pub update-all : {A : Type 0} (F : ℕ → A → Type 0) (f : ℕ → A) (i : ℕ) (v : A) → F i v → ((j : ℕ) → j ≢ i → F j (f j)) → (j : ℕ) → F j (update f i v j)
+update-all {A} F f i v at rest j = go (ℕ-discrete j i)
   where
-    go : (d : Dec (j ≡ i)) → F j (choose d v (f j))
+    go : (d : Dec (j ≡ i)) → F j (pick d v (f j))
     go (yes e) = rw e at
     go (no n) = rest j n
 
 -- ---- a part of a function taken from another
 
-unfoldable pub inside : (lo n y : ℕ) → Dec ((lo ≤ y) × (y < lo + n))
-inside lo n y = go (decLe lo y) (decLt y (lo + n))
+unfoldable pub inside : (low n y : ℕ) → Dec ((low ≤ y) × (y < low + n))
+inside low n y = go (decLe low y) (decLt y (low + n))
   where
-    go : Dec (lo ≤ y) → Dec (y < lo + n) → Dec ((lo ≤ y) × (y < lo + n))
+    go : Dec (low ≤ y) → Dec (y < low + n) → Dec ((low ≤ y) × (y < low + n))
     go (yes a) (yes b) = yes (a, b)
     go (yes a) (no b) = no (λ c. b (c .1))
     go (no a) (yes b) = no (λ c. a (c .0))
     go (no a) (no b) = no (λ c. a (c .0))
 
 abbrev pub patch : (ℕ → ℕ) → ℕ → ℕ → (ℕ → ℕ) → ℕ → ℕ
-patch s lo n t y = choose (inside lo n y) (s y) (t y)
+patch s low n t y = pick (inside low n y) (s y) (t y)
 
-pub patch-in : (s : ℕ → ℕ) (lo n : ℕ) (t : ℕ → ℕ) (y : ℕ) → lo ≤ y → y < lo + n → patch s lo n t y ≡ s y
-patch-in s lo n t y a b = go (inside lo n y)
+pub patch-in : (s : ℕ → ℕ) (low n : ℕ) (t : ℕ → ℕ) (y : ℕ) → low ≤ y → y < low + n → patch s low n t y ≡ s y
+patch-in s low n t y a b = go (inside low n y)
   where
-    go : (d : Dec ((lo ≤ y) × (y < lo + n))) → choose d (s y) (t y) ≡ s y
+    go : (d : Dec ((low ≤ y) × (y < low + n))) → pick d (s y) (t y) ≡ s y
     go (yes h) = refl
     go (no h) = absurd (h (a, b))
 
-pub patch-out : (s : ℕ → ℕ) (lo n : ℕ) (t : ℕ → ℕ) (y : ℕ) → ((lo ≤ y) × (y < lo + n) → ⊥) → patch s lo n t y ≡ t y
-patch-out s lo n t y k = go (inside lo n y)
+pub patch-out : (s : ℕ → ℕ) (low n : ℕ) (t : ℕ → ℕ) (y : ℕ) → ((low ≤ y) × (y < low + n) → ⊥) → patch s low n t y ≡ t y
+patch-out s low n t y k = go (inside low n y)
   where
-    go : (d : Dec ((lo ≤ y) × (y < lo + n))) → choose d (s y) (t y) ≡ t y
+    go : (d : Dec ((low ≤ y) × (y < low + n))) → pick d (s y) (t y) ≡ t y
     go (yes h) = absurd (k h)
     go (no h) = refl
 

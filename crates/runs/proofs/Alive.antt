@@ -28,21 +28,21 @@ use Rattle.runs.specs.Claim.{NoLoss}
 use native.Mathlib.Nat.{mul-le-mul-right}
 use Rattle.cycle.proofs.Tree.{Tree, Meet}
 use Rattle.cycle.proofs.Lists.{All, all-append, all-mid}
-use Rattle.cycle.proofs.Heart.{ta, Fr}
-use Rattle.cycle.proofs.One.{job, note, dim}
-use Rattle.cycle.proofs.Multi.{Msg, sub, proj, inv}
-use Rattle.cycle.proofs.Window.{note-step}
-use Rattle.cycle.proofs.Tagged.{sub-mid}
-use Rattle.cycle.proofs.Acts.{seat}
+use Rattle.cycle.proofs.Exact.{takenAll, Entries}
+use Rattle.cycle.proofs.OnePhase.{message, report, dimOf}
+use Rattle.cycle.proofs.Ledger.{Dated, ofPhase, phaseOf, invariant}
+use Rattle.cycle.proofs.Window.{report-step}
+use Rattle.cycle.proofs.Dating.{phase-mid}
+use Rattle.cycle.proofs.Events.{stateOf}
 use Rattle.runs.proofs.Tools.{put-all}
 use Rattle.frame.proofs.RoundTripAccepted.{Read}
 use Rattle.runs.proofs.Setting.{Setting, tree, dim-low, dim-pos, awaited-is, receivers-await, shell-lt}
 use Rattle.runs.proofs.Ways.{SendWay, send-way, TakeWay, take-way, IdleWay, idle-way, FrameWay, frame-way, CallWay, call-way, fieldsIn}
 use Rattle.runs.proofs.Pairs.{Found, found}
-use Rattle.runs.proofs.Sim.{aw, aw-lt, Holds, Says}
+use Rattle.runs.proofs.Sim.{awaitedIn, awaited-below, Holds, Says}
 use Rattle.runs.proofs.Emit.{dim-step, emitted-read}
 use Rattle.runs.proofs.Played.{Played, Next, Mishap}
-use Rattle.runs.proofs.Delivering.{c, ha, hb, whole, not-ahead, job-of, not-behind, note-of, not-behind₂, diff-is}
+use Rattle.runs.proofs.Delivering.{c, ha, hb, whole, not-ahead, message-of, not-behind, report-of, not-behind₂, diff-is}
 use Rattle.runs.proofs.Steps.{next}
 use Rattle.runs.proofs.Safety.{begun, begun-calm}
 use Rattle.runs.proofs.Legal.{Tidy, legal}
@@ -75,21 +75,21 @@ module _ {L : Limits} {P : ℕ} (setting : Setting L P) where
   abbrev T : Tree P (dimension P)
   T = tree setting
 
-  -- beside what every run has
+  -- beside what every run hasStored
   pub record Kept (w : Board) : Type 0 where
     pub tidy : (y : ℕ) → y < P → Tidy L P (w .nodes y)
     pub fine : All (Fine L P) (w .items)
 
   -- isNone awaits itself
-  not-self : (k a : ℕ) → k < p → a < P → T .await k a ≡ some a → ⊥
+  not-self : (k a : ℕ) → k < p → a < P → T .awaited k a ≡ some a → ⊥
   not-self k a l h e = go (T .meet k a a l h e) (T .self k a h)
     where
-      go : Meet (T .lo) (T .size) k a a → (T .lo k a ≤ a) × (a < T .lo k a + T .size k a) → ⊥
+      go : Meet (T .low) (T .size) k a a → (T .low k a ≤ a) × (a < T .low k a + T .size k a) → ⊥
       go (Meet.right i j m) s = omega arith
       go (Meet.left i j m) s = omega arith
 
   module _ (w : Board) (q : Played setting w) (k : Kept w) where
-    hold : (a : ℕ) (h : a < P) → Holds setting a (w .count a) (w .nodes a) (seat (q .ledger) a)
+    hold : (a : ℕ) (h : a < P) → Holds setting a (w .count a) (w .nodes a) (stateOf (q .ledger) a)
     hold a h = q .sim .node a h
 
     dims-is : (a : ℕ) → a < P → dims (w .nodes a) ≡ p
@@ -137,14 +137,14 @@ module _ {L : Limits} {P : ℕ} (setting : Setting L P) where
         low : w .nodes a .dim < dims (w .nodes a)
         low = omega (arith, hold a h .low, dims-is a h)
         bytes : FineBytes L P (frameBytes (dims (w .nodes a)) (frameDue (w .nodes a)))
-        bytes = emitted-read setting a (w .count a) (w .nodes a) (seat (q .ledger) a) (hold a h) v
+        bytes = emitted-read setting a (w .count a) (w .nodes a) (stateOf (q .ledger) a) (hold a h) v
         rcv-is : receivers (w .nodes a .nodes) (w .nodes a .dim) (w .nodes a .number) ≡ receivers P (w .nodes a .dim) a
         rcv-is = rw (hold a h .nodes, hold a h .number) refl
-        awaiting : All (λ c. (c < P) × (T .await (w .nodes a .dim) c ≡ some a)) (receiversDue (w .nodes a))
-        awaiting = subst (All (λ c. (c < P) × (T .await (w .nodes a .dim) c ≡ some a))) (sym rcv-is) (receivers-await setting (w .nodes a .dim) a h)
-        new : (l : List ℕ) → All (λ c. (c < P) × (T .await (w .nodes a .dim) c ≡ some a)) l → All (Fine L P) (posted a (frameBytes (dims (w .nodes a)) (frameDue (w .nodes a))) (w .count a) l)
+        awaiting : All (λ c. (c < P) × (T .awaited (w .nodes a .dim) c ≡ some a)) (receiversDue (w .nodes a))
+        awaiting = subst (All (λ c. (c < P) × (T .awaited (w .nodes a .dim) c ≡ some a))) (sym rcv-is) (receivers-await setting (w .nodes a .dim) a h)
+        new : (l : List ℕ) → All (λ c. (c < P) × (T .awaited (w .nodes a .dim) c ≡ some a)) l → All (Fine L P) (posted a (frameBytes (dims (w .nodes a)) (frameDue (w .nodes a))) (w .count a) l)
         new [] g = tt
-        new (x ∷ l) g = (((λ z. not-self (w .nodes a .dim) a (hold a h .low) h (subst (λ c. T .await (w .nodes a .dim) c ≡ some a) (sym z) (g .0 .1))), bytes), new l (g .1))
+        new (x ∷ l) g = (((λ z. not-self (w .nodes a .dim) a (hold a h .low) h (subst (λ c. T .awaited (w .nodes a .dim) c ≡ some a) (sym z) (g .0 .1))), bytes), new l (g .1))
     call-kept a h y (CallWay.waits b m) =
         record { tidy = put-tidy a _ (tidy-at L P (w .nodes a) (k .tidy a h) (hold a h .nodes) (w .nodes a .pass) (w .nodes a .dim) false (w .nodes a .agreed) b (k .tidy a h .no-total)); fine = k .fine }
     call-kept a h y (CallWay.next b m g d) =
@@ -208,41 +208,41 @@ module _ {L : Limits} {P : ℕ} (setting : Setting L P) where
 
       -- ---- nothing is refused but for being early
 
-      module _ (calm : (n : ℕ) → q .ledger .phases n .lossy ≡ false) where
+      module _ (calm : (n : ℕ) → q .ledger .pages n .lossy ≡ false) where
         no-bad-take : (byte x : ℕ) → m .load ≡ work byte → take L (w .nodes b) a byte .answer ≡ refused x → x ≢ 7 → ⊥
         no-bad-take byte x lw ans ne =
             ne (take-clear L (w .nodes b) a byte x (valid-at b lb) (omega (arith, la, hold b lb .nodes)) (λ z. apart (z ∙ hold b lb .number)) diffs space ans)
           where
-            j : (c setting w q a b m e .one .it .load ≡ job) × (byte ≡ m .phase % 256)
-            j = job-of setting w q a b m e byte lw
-            le1 : m .phase ≤ suc (q .ledger .ph b)
+            j : (c setting w q a b m e .one .item .load ≡ message) × (byte ≡ m .phase % 256)
+            j = message-of setting w q a b m e byte lw
+            le1 : m .phase ≤ suc (q .ledger .phase b)
             le1 = not-ahead setting w q a b m e
-            le2 : q .ledger .ph b ≤ m .phase
+            le2 : q .ledger .phase b ≤ m .phase
             le2 = not-behind setting w q a b m e byte lw (j .0) (j .1) b lb
-            diff-eq : difference byte (w .nodes b .phase) ≡ (m .phase % 256 + 256 - q .ledger .ph b % 256) % 256
+            diff-eq : difference byte (w .nodes b .phase) ≡ (m .phase % 256 + 256 - q .ledger .phase b % 256) % 256
             diff-eq = ap (λ z. (z + 256 - w .nodes b .phase) % 256) (j .1) ∙ ap (λ z. (m .phase % 256 + 256 - z) % 256) (hold b lb .phase ∙ ap (λ n. n % 256) (q .sim .counts b))
             diffs : (difference byte (w .nodes b .phase) ≡ 0) ⊎ (difference byte (w .nodes b .phase) ≡ 1)
-            diffs = go (two-cases (m .phase) (q .ledger .ph b) le1 le2)
+            diffs = go (two-cases (m .phase) (q .ledger .phase b) le1 le2)
               where
-                go : ((m .phase % 256 + 256 - q .ledger .ph b % 256) % 256 ≡ 0) ⊎ ((m .phase % 256 + 256 - q .ledger .ph b % 256) % 256 ≡ 1) → (difference byte (w .nodes b .phase) ≡ 0) ⊎ (difference byte (w .nodes b .phase) ≡ 1)
+                go : ((m .phase % 256 + 256 - q .ledger .phase b % 256) % 256 ≡ 0) ⊎ ((m .phase % 256 + 256 - q .ledger .phase b % 256) % 256 ≡ 1) → (difference byte (w .nodes b .phase) ≡ 0) ⊎ (difference byte (w .nodes b .phase) ≡ 1)
                 go (inl z) = inl (diff-eq ∙ z)
                 go (inr z) = inr (diff-eq ∙ z)
             space : difference byte (w .nodes b .phase) ≡ 0 → tally (w .nodes b) allTaken < takenLimit L
             space z =
-                let ph : m .phase ≡ q .ledger .ph b = omega (arith, sym diff-eq ∙ z, le1, le2) in
+                let ph : m .phase ≡ q .ledger .phase b = omega (arith, sym diff-eq ∙ z, le1, le2) in
                 let cc′ = c setting w q a b m e in
-                let wh = whole setting w q a b m e job (j .0) in
-                let r = taken-room T (fieldLimit L) (L .sends) (proj (q .ledger) (q .ledger .ph b)) (inv T (fieldLimit L) (q .ledger) (q .reached) .fit (q .ledger .ph b)) (calm (q .ledger .ph b)) (λ y h. q .sim .capped (q .ledger .ph b) y h) a b la lb apart
-                  (sub (q .ledger .ph b) (cc′ .pre)) (sub (q .ledger .ph b) (cc′ .post)) (ap (sub (q .ledger .ph b)) wh ∙ sub-mid (q .ledger .ph b) (cc′ .pre) (cc′ .post) _ ph) in
-                let lim : (P - 1) * L .sends ≤ (L .nodes - 1) * L .sends = mul-le-mul-right (L .sends) (omega (arith, setting .few)) in
-                omega (arith, r, lim, hold b lb .like .tal ta tt)
+                let wh = whole setting w q a b m e message (j .0) in
+                let r = taken-room T (fieldLimit L) (L .sends) (phaseOf (q .ledger) (q .ledger .phase b)) (invariant T (fieldLimit L) (q .ledger) (q .reached) .fit (q .ledger .phase b)) (calm (q .ledger .phase b)) (λ y h. q .sim .capped (q .ledger .phase b) y h) a b la lb apart
+                  (ofPhase (q .ledger .phase b) (cc′ .pre)) (ofPhase (q .ledger .phase b) (cc′ .post)) (ap (ofPhase (q .ledger .phase b)) wh ∙ phase-mid (q .ledger .phase b) (cc′ .pre) (cc′ .post) _ ph) in
+                let limit : (P - 1) * L .sends ≤ (L .nodes - 1) * L .sends = mul-le-mul-right (L .sends) (omega (arith, setting .few)) in
+                omega (arith, r, limit, hold b lb .like .tallies takenAll tt)
 
         no-bad-frame : (bs : List ℕ) (x : ℕ) → m .load ≡ frame bs → frameIn L (w .nodes b) bs .answer ≡ refused x → x ≢ 7 → ⊥
         no-bad-frame bs x lf ans ne =
             ne (frame-clear L (w .nodes b) bs (valid-at b lb) (fine-bytes bs lf) (λ z. apart (sym from-a ∙ z ∙ hold b lb .number)) awt x diffs ans)
           where
-            n : (t : ℕ) × ((x : Fr) × ((c setting w q a b m e .one .it .load ≡ note t x) × Says setting (m .from) (m .phase) (fieldsOf p bs) t x))
-            n = note-of setting w q a b m e bs lf
+            n : (t : ℕ) × ((x : Entries) × ((c setting w q a b m e .one .item .load ≡ report t x) × Says setting (m .from) (m .phase) (fieldsOf p bs) t x))
+            n = report-of setting w q a b m e bs lf
 
             y : Says setting (m .from) (m .phase) (fieldsIn L (w .nodes b) bs) (n .0) (n .1 .0)
             y = subst (λ d. Says setting (m .from) (m .phase) (fieldsOf d bs) (n .0) (n .1 .0)) (sym (dims-is b lb)) (n .1 .1 .1)
@@ -250,28 +250,28 @@ module _ {L : Limits} {P : ℕ} (setting : Setting L P) where
             from-a : fieldsIn L (w .nodes b) bs .sender ≡ a
             from-a = y .sender ∙ g .from-is
 
-            parts : aw setting (n .0) b ≡ some a
+            parts : awaitedIn setting (n .0) b ≡ some a
             parts =
-                all-mid (λ (u : Msg). (s : ℕ) → note-step (u .it .load) ≡ some s → aw setting s (u .it .dest) ≡ some (u .it .from)) (c setting w q a b m e .pre) (c setting w q a b m e .post)
-                (record { ph = m .phase; it = record { from = a; dest = b; load = note (n .0) (n .1 .0) } })
-                (subst (All (λ (u : Msg). (s : ℕ) → note-step (u .it .load) ≡ some s → aw setting s (u .it .dest) ≡ some (u .it .from))) (whole setting w q a b m e (note (n .0) (n .1 .0)) (n .1 .1 .0)) (q .sim .win .partner)) .0 (n .0) refl
+                all-mid (λ (u : Dated). (s : ℕ) → report-step (u .item .load) ≡ some s → awaitedIn setting s (u .item .to) ≡ some (u .item .from)) (c setting w q a b m e .pre) (c setting w q a b m e .post)
+                (record { phase = m .phase; item = record { from = a; to = b; load = report (n .0) (n .1 .0) } })
+                (subst (All (λ (u : Dated). (s : ℕ) → report-step (u .item .load) ≡ some s → awaitedIn setting s (u .item .to) ≡ some (u .item .from))) (whole setting w q a b m e (report (n .0) (n .1 .0)) (n .1 .1 .0)) (q .sim .win .partner)) .0 (n .0) refl
 
-            dim-s : dim p (n .0) ≡ fieldsIn L (w .nodes b) bs .dim
-            dim-s = ap (dim p) (sym (y .step)) ∙ dim-step p (fieldsIn L (w .nodes b) bs .pass) (fieldsIn L (w .nodes b) bs .dim) (y .pass) (y .low)
+            dim-s : dimOf p (n .0) ≡ fieldsIn L (w .nodes b) bs .dim
+            dim-s = ap (dimOf p) (sym (y .step)) ∙ dim-step p (fieldsIn L (w .nodes b) bs .pass) (fieldsIn L (w .nodes b) bs .dim) (y .pass) (y .low)
 
-            awaits-at : (k : ℕ) → awaited (w .nodes b .nodes) k (w .nodes b .number) ≡ T .await k b
+            awaits-at : (k : ℕ) → awaited (w .nodes b .nodes) k (w .nodes b .number) ≡ T .awaited k b
             awaits-at k = rw (hold b lb .nodes, hold b lb .number) (awaited-is setting k b)
 
             awt : awaited (w .nodes b .nodes) (fieldsIn L (w .nodes b) bs .dim) (w .nodes b .number) ≡ some (fieldsIn L (w .nodes b) bs .sender)
-            awt = awaits-at (fieldsIn L (w .nodes b) bs .dim) ∙ ap (λ d. T .await d b) (sym dim-s) ∙ aw-lt setting (n .0) b a parts .1 ∙ ap some (sym from-a)
+            awt = awaits-at (fieldsIn L (w .nodes b) bs .dim) ∙ ap (λ d. T .awaited d b) (sym dim-s) ∙ awaited-below setting (n .0) b a parts .1 ∙ ap some (sym from-a)
 
-            diff-eq : difference (fieldsIn L (w .nodes b) bs .phase) (w .nodes b .phase) ≡ (m .phase % 256 + 256 - q .ledger .ph b % 256) % 256
+            diff-eq : difference (fieldsIn L (w .nodes b) bs .phase) (w .nodes b .phase) ≡ (m .phase % 256 + 256 - q .ledger .phase b % 256) % 256
             diff-eq = diff-is setting w q a b m e bs lf (n .0) (n .1 .0) (n .1 .1 .0) (n .1 .1 .1)
 
             diffs : (difference (fieldsIn L (w .nodes b) bs .phase) (w .nodes b .phase) ≡ 0) ⊎ ((difference (fieldsIn L (w .nodes b) bs .phase) (w .nodes b .phase) ≡ 1) ⊎ (difference (fieldsIn L (w .nodes b) bs .phase) (w .nodes b .phase) ≡ 255))
-            diffs = go (three-cases (m .phase) (q .ledger .ph b) (not-ahead setting w q a b m e) (not-behind₂ setting w q a b m e bs lf (n .0) (n .1 .0) (n .1 .1 .0) (n .1 .1 .1)))
+            diffs = go (three-cases (m .phase) (q .ledger .phase b) (not-ahead setting w q a b m e) (not-behind₂ setting w q a b m e bs lf (n .0) (n .1 .0) (n .1 .1 .0) (n .1 .1 .1)))
               where
-                go : ((m .phase % 256 + 256 - q .ledger .ph b % 256) % 256 ≡ 0) ⊎ (((m .phase % 256 + 256 - q .ledger .ph b % 256) % 256 ≡ 1) ⊎ ((m .phase % 256 + 256 - q .ledger .ph b % 256) % 256 ≡ 255)) → (difference (fieldsIn L (w .nodes b) bs .phase) (w .nodes b .phase) ≡ 0) ⊎ ((difference (fieldsIn L (w .nodes b) bs .phase) (w .nodes b .phase) ≡ 1) ⊎ (difference (fieldsIn L (w .nodes b) bs .phase) (w .nodes b .phase) ≡ 255))
+                go : ((m .phase % 256 + 256 - q .ledger .phase b % 256) % 256 ≡ 0) ⊎ (((m .phase % 256 + 256 - q .ledger .phase b % 256) % 256 ≡ 1) ⊎ ((m .phase % 256 + 256 - q .ledger .phase b % 256) % 256 ≡ 255)) → (difference (fieldsIn L (w .nodes b) bs .phase) (w .nodes b .phase) ≡ 0) ⊎ ((difference (fieldsIn L (w .nodes b) bs .phase) (w .nodes b .phase) ≡ 1) ⊎ (difference (fieldsIn L (w .nodes b) bs .phase) (w .nodes b .phase) ≡ 255))
                 go (inl z) = inl (diff-eq ∙ z)
                 go (inr (inl z)) = inr (inl (diff-eq ∙ z))
                 go (inr (inr z)) = inr (inr (diff-eq ∙ z))
@@ -292,7 +292,7 @@ module _ {L : Limits} {P : ℕ} (setting : Setting L P) where
     kept-step (delivers a b) l = deliver-kept a b (oldest a b (w .items)) refl
     kept-step (loses j) l = absurd l
 
-    no-mishap : ((n : ℕ) → q .ledger .phases n .lossy ≡ false) → (e : Event) → NoLoss (e ∷ []) → Mishap setting w e → ⊥
+    no-mishap : ((n : ℕ) → q .ledger .pages n .lossy ≡ false) → (e : Event) → NoLoss (e ∷ []) → Mishap setting w e → ⊥
     no-mishap calm e l (Mishap.loss j) = l
     no-mishap calm e l (Mishap.badTake a b m byte x old lw ans ne) = no-bad-take a b m old calm byte x lw ans ne
     no-mishap calm e l (Mishap.badFrame a b m bs x old lf ans ne) = no-bad-frame a b m old calm bs x lf ans ne
@@ -302,14 +302,14 @@ module _ {L : Limits} {P : ℕ} (setting : Setting L P) where
   pub record Sound (w : Board) : Type 0 where
     pub played : Played setting w
     pub kept : Kept w
-    pub calm : (n : ℕ) → played .ledger .phases n .lossy ≡ false
+    pub calm : (n : ℕ) → played .ledger .pages n .lossy ≡ false
 
   sound-step : (w : Board) → Sound w → (e : Event) → NoLoss (e ∷ []) → Sound (step L P w e)
   sound-step w s e l = go (nx .calm)
     where
       nx : Next setting w (s .played) e (step L P w e)
       nx = next setting w (s .played) e
-      go : ((n : ℕ) → nx .played .ledger .phases n .lossy ≡ s .played .ledger .phases n .lossy) ⊎ Mishap setting w e → Sound (step L P w e)
+      go : ((n : ℕ) → nx .played .ledger .pages n .lossy ≡ s .played .ledger .pages n .lossy) ⊎ Mishap setting w e → Sound (step L P w e)
       go (inl z) = record { played = nx .played; kept = kept-step w (s .played) (s .kept) e l; calm = λ n. z n ∙ s .calm n }
       go (inr z) = absurd (no-mishap w (s .played) (s .kept) (s .calm) e l z)
 

@@ -18,22 +18,22 @@ use Rattle.node.specs.Calls.{stepNumber}
 use Rattle.node.specs.Barrier.{frameDue, receiversDue}
 use Rattle.node.specs.declared.Node.{Node}
 use Rattle.runs.specs.Board.{put, Board, sends, calls, gave, posted, afterCall, after}
-use Rattle.cycle.proofs.Sums.{upd, upd-all, upd-same, upd-other, count}
+use Rattle.cycle.proofs.Sums.{update, update-all, update-same, update-other, count}
 use Rattle.cycle.proofs.Lists.{All}
-use Rattle.cycle.proofs.Heart.{sa, ta, Fr, acc}
-use Rattle.cycle.proofs.One.{note, Nd, posts, ownf, dim, Unheard, Agree, at-step}
-use Rattle.cycle.proofs.Runs.{fresh}
-use Rattle.cycle.proofs.Multi.{Msg, Ph, Board as ABoard, Reached, inv, within-one}
-use Rattle.cycle.proofs.Window.{Win, Move, win-keeps}
+use Rattle.cycle.proofs.Exact.{sentAll, takenAll, Entries, ownSums}
+use Rattle.cycle.proofs.OnePhase.{report, State, posts, frameOf, dimOf, Unheard, Agrees, atStep}
+use Rattle.cycle.proofs.Opening.{fresh}
+use Rattle.cycle.proofs.Ledger.{Dated, Page, Ledger, Reached, invariant, within-one}
+use Rattle.cycle.proofs.Window.{Window, Move, window-keeps}
 use Rattle.cycle.proofs.Partners.{Has}
-use Rattle.cycle.proofs.Tagged.{tag}
-use Rattle.cycle.proofs.Acts.{seat, turned, act-wait, act-move, act-leave, act-put}
+use Rattle.cycle.proofs.Dating.{dated}
+use Rattle.cycle.proofs.Events.{stateOf, pageWith, act-wait, act-move, act-leave, act-put}
 use Rattle.runs.proofs.Tools.{put-same, put-other, put-all}
 use Rattle.runs.proofs.Setting.{Setting, tree, dim-low, dim-pos, awaited-is, hear, receivers-await}
 use Rattle.runs.proofs.Ways.{CallWay, Mute}
-use Rattle.runs.proofs.View.{view, own-acc, acc-like, agree-like, agree-first, agree-second, like-at, like-fresh}
+use Rattle.runs.proofs.View.{view, own-is, own-like, agree-like, agree-first, agree-second, like-at, like-fresh}
 use Rattle.runs.proofs.Pairs.{Pair, pair-append}
-use Rattle.runs.proofs.Sim.{some?, has, win-ext, aw, aw-is, aw-lt, Holds, Says, Carried, Sim, has-same}
+use Rattle.runs.proofs.Sim.{isSome, hasStored, window-same, awaitedIn, awaited-in, awaited-below, Holds, Says, Carried, Sim, stored-same}
 use Rattle.runs.proofs.Marks.{Marks, marks-same, frames-named, frames-apart, takes-same, log-same}
 use Rattle.runs.proofs.Emit.{step-first, step-second, dim-step, emitted}
 use Rattle.runs.proofs.Played.{Played, Next, lossy-same, held, turned-to, turns-still, hold, dims-is}
@@ -45,7 +45,7 @@ module _ {L : Limits} {P : ℕ} (setting : Setting L P) (w : Board) (play : Play
   abbrev p : ℕ
   p = dimension P
 
-  abbrev ledger : ABoard
+  abbrev ledger : Ledger
   ledger = play .ledger
 
   abbrev reached : Reached (tree setting) (fieldLimit L) (play .ledger)
@@ -63,10 +63,10 @@ module _ {L : Limits} {P : ℕ} (setting : Setting L P) (w : Board) (play : Play
   -- ---- barrier call: what is known of the node that calls
 
   module _ (a : ℕ) (h : a < P) where
-    dim-at : dim p (seat ledger a .at) ≡ w .nodes a .dim
-    dim-at = ap (dim p) (sym (hold setting w play a h .like .at)) ∙ dim-step p (w .nodes a .pass) (w .nodes a .dim) (hold setting w play a h .pass) (hold setting w play a h .low)
+    dim-at : dimOf p (stateOf ledger a .step) ≡ w .nodes a .dim
+    dim-at = ap (dimOf p) (sym (hold setting w play a h .like .step)) ∙ dim-step p (w .nodes a .pass) (w .nodes a .dim) (hold setting w play a h .pass) (hold setting w play a h .low)
 
-    rest-of : w .nodes a .busy ≡ false → seat ledger a .busy ≡ false
+    rest-of : w .nodes a .busy ≡ false → stateOf ledger a .busy ≡ false
     rest-of b = sym (hold setting w play a h .like .busy) ∙ b
 
     no-one : (c : ℕ) (rs : List ℕ) → rs ≡ [] → Has rs c → ⊥
@@ -79,71 +79,71 @@ module _ {L : Limits} {P : ℕ} (setting : Setting L P) (w : Board) (play : Play
     rcv-is : receivers (w .nodes a .nodes) (w .nodes a .dim) (w .nodes a .number) ≡ receivers P (w .nodes a .dim) a
     rcv-is = rw (hold setting w play a h .nodes, hold setting w play a h .number) refl
 
-    heard-by : (c : ℕ) → c < P → (tree setting) .await (dim p (seat ledger a .at)) c ≡ some a → Has (receivers (w .nodes a .nodes) (w .nodes a .dim) (w .nodes a .number)) c
+    heard-by : (c : ℕ) → c < P → (tree setting) .awaited (dimOf p (stateOf ledger a .step)) c ≡ some a → Has (receivers (w .nodes a .nodes) (w .nodes a .dim) (w .nodes a .number)) c
     heard-by c hc q =
-        subst (λ rs. Has rs c) (sym rcv-is) (hear setting (w .nodes a .dim) a c hc (subst (λ d. (tree setting) .await d c ≡ some a) dim-at q))
+        subst (λ rs. Has rs c) (sym rcv-is) (hear setting (w .nodes a .dim) a c hc (subst (λ d. (tree setting) .awaited d c ≡ some a) dim-at q))
 
-    pub mute-of : Mute L (w .nodes a) → (seat ledger a .flag ≡ false) ⊎ Unheard (tree setting) a (seat ledger a .at)
+    pub mute-of : Mute L (w .nodes a) → (stateOf ledger a .flag ≡ false) ⊎ Unheard (tree setting) a (stateOf ledger a .step)
     mute-of (inl f) = inl (sym (hold setting w play a h .like .flag) ∙ f)
     mute-of (inr e) = inr (λ c hc q. no-one c _ e (heard-by c hc q))
 
-    agree-of : agrees L (w .nodes a) (w .nodes a .pass) (w .nodes a .dim) ≡ true → Agree p (fieldLimit L) (seat ledger a) (seat ledger a .at) ((tree setting) .await (dim p (seat ledger a .at)) a)
+    agree-of : agrees L (w .nodes a) (w .nodes a .pass) (w .nodes a .dim) ≡ true → Agrees p (fieldLimit L) (stateOf ledger a) (stateOf ledger a .step) ((tree setting) .awaited (dimOf p (stateOf ledger a .step)) a)
     agree-of g =
-        subst (λ d. Agree p (fieldLimit L) (seat ledger a) (seat ledger a .at) ((tree setting) .await d a)) (sym dim-at)
-        (agree-like p (view p n) (seat ledger a) (o .like) (fieldLimit L) (seat ledger a .at) ((tree setting) .await (n .dim) a) (inv (tree setting) (fieldLimit L) ledger reached .now a (ledger .ph a) refl)
-          (subst (Agree p (fieldLimit L) (view p n) (seat ledger a .at)) awaits (subst (λ s. Agree p (fieldLimit L) (view p n) s (awaited (n .nodes) (n .dim) (n .number))) (o .like .at) (by (o .pass)))))
+        subst (λ d. Agrees p (fieldLimit L) (stateOf ledger a) (stateOf ledger a .step) ((tree setting) .awaited d a)) (sym dim-at)
+        (agree-like p (view p n) (stateOf ledger a) (o .like) (fieldLimit L) (stateOf ledger a .step) ((tree setting) .awaited (n .dim) a) (invariant (tree setting) (fieldLimit L) ledger reached .now a (ledger .phase a) refl)
+          (subst (Agrees p (fieldLimit L) (view p n) (stateOf ledger a .step)) awaits (subst (λ s. Agrees p (fieldLimit L) (view p n) s (awaited (n .nodes) (n .dim) (n .number))) (o .like .step) (by (o .pass)))))
       where
         n : Node
         n = w .nodes a
-        o : Holds setting a (w .count a) (w .nodes a) (seat ledger a)
+        o : Holds setting a (w .count a) (w .nodes a) (stateOf ledger a)
         o = hold setting w play a h
-        awaits : awaited (w .nodes a .nodes) (w .nodes a .dim) (w .nodes a .number) ≡ (tree setting) .await (w .nodes a .dim) a
+        awaits : awaited (w .nodes a .nodes) (w .nodes a .dim) (w .nodes a .number) ≡ (tree setting) .awaited (w .nodes a .dim) a
         awaits = rw (hold setting w play a h .nodes, hold setting w play a h .number) (awaited-is setting (w .nodes a .dim) a)
-        by : (w .nodes a .pass ≡ 1) ⊎ (w .nodes a .pass ≡ 2) → Agree p (fieldLimit L) (view p (w .nodes a)) (stepNumber p (w .nodes a .pass) (w .nodes a .dim)) (awaited (w .nodes a .nodes) (w .nodes a .dim) (w .nodes a .number))
+        by : (w .nodes a .pass ≡ 1) ⊎ (w .nodes a .pass ≡ 2) → Agrees p (fieldLimit L) (view p (w .nodes a)) (stepNumber p (w .nodes a .pass) (w .nodes a .dim)) (awaited (w .nodes a .nodes) (w .nodes a .dim) (w .nodes a .number))
         by (inl e) =
-            subst (λ s. Agree p (fieldLimit L) (view p n) s (awaited (n .nodes) (n .dim) (n .number))) (sym (step-first p (n .pass) (n .dim) e))
+            subst (λ s. Agrees p (fieldLimit L) (view p n) s (awaited (n .nodes) (n .dim) (n .number))) (sym (step-first p (n .pass) (n .dim) e))
             (agree-first L p n (n .dim) (dims-is setting w play a h) (o .low) (subst (λ q. agrees L n q (n .dim) ≡ true) e g))
         by (inr e) =
-            subst (λ s. Agree p (fieldLimit L) (view p n) s (awaited (n .nodes) (n .dim) (n .number))) (sym (step-second p (n .pass) (n .dim) e))
+            subst (λ s. Agrees p (fieldLimit L) (view p n) s (awaited (n .nodes) (n .dim) (n .number))) (sym (step-second p (n .pass) (n .dim) e))
             (agree-second L p n (n .dim) (dims-is setting w play a h) (o .low) (subst (λ q. agrees L n q (n .dim) ≡ true) e g))
 
-    hold-at : (pass d s : ℕ) (f : Bool) (t : ℕ) → (pass ≡ 1) ⊎ (pass ≡ 2) → d < p → stepNumber p pass d ≡ s → Holds setting a (w .count a) (at (w .nodes a) pass d f t) (at-step (seat ledger a) s f t)
+    hold-at : (pass d s : ℕ) (f : Bool) (t : ℕ) → (pass ≡ 1) ⊎ (pass ≡ 2) → d < p → stepNumber p pass d ≡ s → Holds setting a (w .count a) (at (w .nodes a) pass d f t) (atStep (stateOf ledger a) s f t)
     hold-at pass d s f t q l e =
         let o = hold setting w play a h in
         record { nodes = o .nodes; number = o .number; phase = o .phase; pass = q; low = l; sents = o .sents; takens = o .takens; firsts = o .firsts; seconds = o .seconds;
-          like = like-at p (w .nodes a) (seat ledger a) (dims-is setting w play a h) (o .like) pass d f t s e }
+          like = like-at p (w .nodes a) (stateOf ledger a) (dims-is setting w play a h) (o .like) pass d f t s e }
 
-    hold-still : Holds setting a (w .count a) (at (w .nodes a) (w .nodes a .pass) (w .nodes a .dim) false (w .nodes a .agreed)) (at-step (seat ledger a) (seat ledger a .at) false (seat ledger a .tot))
+    hold-still : Holds setting a (w .count a) (at (w .nodes a) (w .nodes a .pass) (w .nodes a .dim) false (w .nodes a .agreed)) (atStep (stateOf ledger a) (stateOf ledger a .step) false (stateOf ledger a .agreed))
     hold-still =
         let o = hold setting w play a h in
-        subst (λ t. Holds setting a (w .count a) (at (w .nodes a) (w .nodes a .pass) (w .nodes a .dim) false (w .nodes a .agreed)) (at-step (seat ledger a) (seat ledger a .at) false t)) (o .like .tot)
-        (hold-at (w .nodes a .pass) (w .nodes a .dim) (seat ledger a .at) false (w .nodes a .agreed) (o .pass) (o .low) (o .like .at))
+        subst (λ t. Holds setting a (w .count a) (at (w .nodes a) (w .nodes a .pass) (w .nodes a .dim) false (w .nodes a .agreed)) (atStep (stateOf ledger a) (stateOf ledger a .step) false t)) (o .like .agreed)
+        (hold-at (w .nodes a .pass) (w .nodes a .dim) (stateOf ledger a .step) false (w .nodes a .agreed) (o .pass) (o .low) (o .like .step))
 
-    agree-has : (u : Nd) (s c : ℕ) (o : Option ℕ) → o ≡ some c → Agree p (fieldLimit L) u s o → some? (u .st s) ≡ true
-    agree-has u s c o e Agree.alone = let z : _≡_ {A = ℕ} 0 1 = cc in absurd (omega arith)
-    agree-has u s c o e (Agree.first w x l g c1 c2 c3 c4) = ap some? g
-    agree-has u s c o e (Agree.second w x l g c3 c5 c6) = ap some? g
+    agree-has : (u : State) (s c : ℕ) (o : Option ℕ) → o ≡ some c → Agrees p (fieldLimit L) u s o → isSome (u .stored s) ≡ true
+    agree-has u s c o e Agrees.alone = let z : _≡_ {A = ℕ} 0 1 = cc in absurd (omega arith)
+    agree-has u s c o e (Agrees.first w x l g c1 c2 c3 c4) = ap isSome g
+    agree-has u s c o e (Agrees.second w x l g c3 c5 c6) = ap isSome g
 
     -- frames go out on their links, in order
-    win-posts : (x : Fr) (s : ℕ) (rs : List ℕ) (ms : List Msg) → s < p + p → All (λ c. (c < P) × ((tree setting) .await (dim p s) c ≡ some a)) rs → Win (aw setting) (ledger .ph) (has ledger) ms
-        → Win (aw setting) (ledger .ph) (has ledger) (ms ++ tag (ledger .ph a) (posts a (note s x) rs))
-    win-posts x s [] ms l q i = subst (Win (aw setting) (ledger .ph) (has ledger)) (sym (nil ms)) i
+    win-posts : (x : Entries) (s : ℕ) (rs : List ℕ) (ms : List Dated) → s < p + p → All (λ c. (c < P) × ((tree setting) .awaited (dimOf p s) c ≡ some a)) rs → Window (awaitedIn setting) (ledger .phase) (hasStored ledger) ms
+        → Window (awaitedIn setting) (ledger .phase) (hasStored ledger) (ms ++ dated (ledger .phase a) (posts a (report s x) rs))
+    win-posts x s [] ms l q i = subst (Window (awaitedIn setting) (ledger .phase) (hasStored ledger)) (sym (nil ms)) i
       where
-        nil : (ms : List Msg) → ms ++ [] ≡ ms
+        nil : (ms : List Dated) → ms ++ [] ≡ ms
         nil [] = refl
         nil (m ∷ ms) = ap (λ l. m ∷ l) (nil ms)
     win-posts x s (c ∷ rs) ms l q i =
-        subst (Win (aw setting) (ledger .ph) (has ledger)) (append-assoc ms (m ∷ []) (tag (ledger .ph a) (posts a (note s x) rs)))
+        subst (Window (awaitedIn setting) (ledger .phase) (hasStored ledger)) (append-assoc ms (m ∷ []) (dated (ledger .phase a) (posts a (report s x) rs)))
         (win-posts x s rs (ms ++ (m ∷ [])) l (q .1)
-          (win-keeps (aw setting) (ledger .ph) (has ledger) ms (ledger .ph) (has ledger) (ms ++ (m ∷ []))
+          (window-keeps (awaitedIn setting) (ledger .phase) (hasStored ledger) ms (ledger .phase) (hasStored ledger) (ms ++ (m ∷ []))
             (Move.out m refl (within-one (tree setting) (fieldLimit L) ledger reached c a (q .0 .0) h)
-              (λ t e. let z : s ≡ t = cc in subst (λ t. aw setting t c ≡ some a) z (aw-is setting s c l ∙ q .0 .1))) i))
+              (λ t e. let z : s ≡ t = cc in subst (λ t. awaitedIn setting t c ≡ some a) z (awaited-in setting s c l ∙ q .0 .1))) i))
       where
-        m : Msg
-        m = record { ph = ledger .ph a; it = record { from = a; dest = c; load = note s x } }
+        m : Dated
+        m = record { phase = ledger .phase a; item = record { from = a; to = c; load = report s x } }
 
-    pair-posts : (bs : List ℕ) (s : ℕ) (x : Fr) (rs : List ℕ) → Says setting a (w .count a) (fieldsOf p bs) s x → All (λ c. (c < P) × ((tree setting) .await (dim p s) c ≡ some a)) rs
-        → Pair (Carried setting) (posted a bs (w .count a) rs) (tag (ledger .ph a) (posts a (note s x) rs))
+    pair-posts : (bs : List ℕ) (s : ℕ) (x : Entries) (rs : List ℕ) → Says setting a (w .count a) (fieldsOf p bs) s x → All (λ c. (c < P) × ((tree setting) .awaited (dimOf p s) c ≡ some a)) rs
+        → Pair (Carried setting) (posted a bs (w .count a) rs) (dated (ledger .phase a) (posts a (report s x) rs))
     pair-posts bs s x [] b q = tt
     pair-posts bs s x (c ∷ rs) b q = (record { from = refl; to = refl; phase = sim .counts a; from-lt = h; to-lt = q .0 .0; load = b }, pair-posts bs s x rs b (q .1))
 
@@ -151,119 +151,119 @@ module _ {L : Limits} {P : ℕ} (setting : Setting L P) (w : Board) (play : Play
     pub leave-next : (len : ℕ) → w .nodes a .busy ≡ false → Mute L (w .nodes a) → agrees L (w .nodes a) (w .nodes a .pass) (w .nodes a .dim) ≡ true → suc (w .nodes a .dim) ≡ p → w .nodes a .pass ≡ 2
         → Next setting w play (calls a len) (record { nodes = put (w .nodes) a (freshIn (w .nodes a .nodes) (w .nodes a .number) ((w .nodes a .phase + 1) % 256)); items = w .items; count = put (w .count) a (suc (w .count a)); busy = put (w .busy) a true; untaken = w .untaken; sends = w .sends })
     leave-next len b m g d pa =
-        record { played = record { ledger = after; reached = Reached.next ledger after reached (act-leave (tree setting) (fieldLimit L) ledger reached a (seat ledger a .tot) h (rest-of b) (mute-of m) (agree-of g) (λ q. refl) (λ q. absurd (omega (arith, at-is))) (omega (arith, at-is)));
+        record { played = record { ledger = after; reached = Reached.next ledger after reached (act-leave (tree setting) (fieldLimit L) ledger reached a (stateOf ledger a .agreed) h (rest-of b) (mute-of m) (agree-of g) (λ q. refl) (λ q. absurd (omega (arith, at-is))) (omega (arith, at-is)));
           sim = record {
-            counts = put-all (λ y c. c ≡ upd (ledger .ph) a (suc (ledger .ph a)) y) (w .count) a (suc (w .count a)) (ap suc (sim .counts a) ∙ sym (upd-same (ledger .ph) a (suc (ledger .ph a)))) (λ y z. sim .counts y ∙ sym (upd-other (ledger .ph) a (suc (ledger .ph a)) y z));
+            counts = put-all (λ y c. c ≡ update (ledger .phase) a (suc (ledger .phase a)) y) (w .count) a (suc (w .count a)) (ap suc (sim .counts a) ∙ sym (update-same (ledger .phase) a (suc (ledger .phase a)))) (λ y z. sim .counts y ∙ sym (update-other (ledger .phase) a (suc (ledger .phase a)) y z));
             node = λ y q. nodes y q (ℕ-discrete y a);
             busy = put-all (λ y n. y < P → n .busy ≡ put (w .busy) a true y) (w .nodes) a n′ (λ q. sym (put-same (w .busy) a true)) (λ y z q. sim .busy y q ∙ sym (put-other (w .busy) a true y z));
             items = sim .items;
-            win = win-ext (aw setting) (upd (ledger .ph) a (suc (ledger .ph a))) (upd (has ledger) a (λ s. false)) (has after) (ledger .msgs) (λ c. hass c (ℕ-discrete c a))
-              (win-keeps (aw setting) (ledger .ph) (has ledger) (ledger .msgs) (upd (ledger .ph) a (suc (ledger .ph a))) (upd (has ledger) a (λ s. false)) (ledger .msgs) (Move.leave a stored-all) (sim .win));
-            capped = upd-all (λ m w. (y : ℕ) → y < P → w .nodes y .tal sa ≤ L .sends) (ledger .phases) (ledger .ph a) u
-              (upd-all (λ y nd. y < P → nd .tal sa ≤ L .sends) (ledger .phases (ledger .ph a) .nodes) a v (λ q. sim .capped (ledger .ph a) a h) (λ y z q. sim .capped (ledger .ph a) y q)) (λ m z y q. sim .capped m y q) };
-          marks = marks-same P (w .untaken) (w .sends) (w .items) (w .items) ledger after marks (marks .named) (marks .apart) (takes-same P ledger a u v (ledger .msgs) refl refl) (log-same P ledger (ledger .ph a) u (ledger .msgs) refl) };
-          calm = inl (lossy-same ledger (ledger .ph a) u (ledger .msgs) refl) }
+            win = window-same (awaitedIn setting) (update (ledger .phase) a (suc (ledger .phase a))) (update (hasStored ledger) a (λ s. false)) (hasStored after) (ledger .items) (λ c. hass c (ℕ-discrete c a))
+              (window-keeps (awaitedIn setting) (ledger .phase) (hasStored ledger) (ledger .items) (update (ledger .phase) a (suc (ledger .phase a))) (update (hasStored ledger) a (λ s. false)) (ledger .items) (Move.leave a stored-all) (sim .win));
+            capped = update-all (λ m w. (y : ℕ) → y < P → w .nodes y .tallies sentAll ≤ L .sends) (ledger .pages) (ledger .phase a) u
+              (update-all (λ y nd. y < P → nd .tallies sentAll ≤ L .sends) (ledger .pages (ledger .phase a) .nodes) a v (λ q. sim .capped (ledger .phase a) a h) (λ y z q. sim .capped (ledger .phase a) y q)) (λ m z y q. sim .capped m y q) };
+          marks = marks-same P (w .untaken) (w .sends) (w .items) (w .items) ledger after marks (marks .named) (marks .apart) (takes-same P ledger a u v (ledger .items) refl refl) (log-same P ledger (ledger .phase a) u (ledger .items) refl) };
+          calm = inl (lossy-same ledger (ledger .phase a) u (ledger .items) refl) }
       where
-        v : Nd
-        v = at-step (seat ledger a) (suc (seat ledger a .at)) true (seat ledger a .tot)
-        u : Ph
-        u = turned (ledger .phases (ledger .ph a)) a (at-step (seat ledger a) (suc (seat ledger a .at)) true (seat ledger a .tot))
-        after : ABoard
-        after = record { ph = upd (ledger .ph) a (suc (ledger .ph a)); phases = upd (ledger .phases) (ledger .ph a) (turned (ledger .phases (ledger .ph a)) a (at-step (seat ledger a) (suc (seat ledger a .at)) true (seat ledger a .tot))); msgs = ledger .msgs }
+        v : State
+        v = atStep (stateOf ledger a) (suc (stateOf ledger a .step)) true (stateOf ledger a .agreed)
+        u : Page
+        u = pageWith (ledger .pages (ledger .phase a)) a (atStep (stateOf ledger a) (suc (stateOf ledger a .step)) true (stateOf ledger a .agreed))
+        after : Ledger
+        after = record { phase = update (ledger .phase) a (suc (ledger .phase a)); pages = update (ledger .pages) (ledger .phase a) (pageWith (ledger .pages (ledger .phase a)) a (atStep (stateOf ledger a) (suc (stateOf ledger a .step)) true (stateOf ledger a .agreed))); items = ledger .items }
         n′ : Node
         n′ = freshIn (w .nodes a .nodes) (w .nodes a .number) ((w .nodes a .phase + 1) % 256)
-        at-is : seat ledger a .at ≡ p + w .nodes a .dim
-        at-is = sym (hold setting w play a h .like .at) ∙ step-second p (w .nodes a .pass) (w .nodes a .dim) pa
-        seat-a : seat after a ≡ fresh
+        at-is : stateOf ledger a .step ≡ p + w .nodes a .dim
+        at-is = sym (hold setting w play a h .like .step) ∙ step-second p (w .nodes a .pass) (w .nodes a .dim) pa
+        seat-a : stateOf after a ≡ fresh
         seat-a =
-            ap (λ m. upd (ledger .phases) (ledger .ph a) u m .nodes a) (upd-same (ledger .ph) a (suc (ledger .ph a))) ∙ ap (λ (w : Ph). w .nodes a) (upd-other (ledger .phases) (ledger .ph a) u (suc (ledger .ph a)) (λ q. omega arith))
-            ∙ inv (tree setting) (fieldLimit L) ledger reached .ahead a (suc (ledger .ph a)) (omega arith)
-        seat-y : (y : ℕ) → y ≢ a → seat after y ≡ seat ledger y
+            ap (λ m. update (ledger .pages) (ledger .phase a) u m .nodes a) (update-same (ledger .phase) a (suc (ledger .phase a))) ∙ ap (λ (w : Page). w .nodes a) (update-other (ledger .pages) (ledger .phase a) u (suc (ledger .phase a)) (λ q. omega arith))
+            ∙ invariant (tree setting) (fieldLimit L) ledger reached .ahead a (suc (ledger .phase a)) (omega arith)
+        seat-y : (y : ℕ) → y ≢ a → stateOf after y ≡ stateOf ledger y
         seat-y y z =
-            ap (λ m. upd (ledger .phases) (ledger .ph a) u m .nodes y) (upd-other (ledger .ph) a (suc (ledger .ph a)) y z)
-            ∙ upd-all (λ m w. w .nodes y ≡ ledger .phases m .nodes y) (ledger .phases) (ledger .ph a) u (upd-other (ledger .phases (ledger .ph a) .nodes) a v y z) (λ m q. refl) (ledger .ph y)
+            ap (λ m. update (ledger .pages) (ledger .phase a) u m .nodes y) (update-other (ledger .phase) a (suc (ledger .phase a)) y z)
+            ∙ update-all (λ m w. w .nodes y ≡ ledger .pages m .nodes y) (ledger .pages) (ledger .phase a) u (update-other (ledger .pages (ledger .phase a) .nodes) a v y z) (λ m q. refl) (ledger .phase y)
         new : Holds setting a (suc (w .count a)) n′ fresh
         new =
             record { nodes = hold setting w play a h .nodes; number = hold setting w play a h .number; phase = ap (λ x. (x + 1) % 256) (hold setting w play a h .phase) ∙ next-byte (w .count a); pass = inl refl; low = Z; sents = refl; takens = refl; firsts = refl; seconds = refl;
               like = like-fresh p (w .nodes a .nodes) (w .nodes a .number) ((w .nodes a .phase + 1) % 256) (dims-is setting w play a h) (dim-low setting) }
-        nodes : (y : ℕ) → y < P → Dec (y ≡ a) → Holds setting y (put (w .count) a (suc (w .count a)) y) (put (w .nodes) a n′ y) (seat after y)
+        nodes : (y : ℕ) → y < P → Dec (y ≡ a) → Holds setting y (put (w .count) a (suc (w .count a)) y) (put (w .nodes) a n′ y) (stateOf after y)
         nodes y q (yes z) =
-            subst (λ y. Holds setting y (put (w .count) a (suc (w .count a)) y) (put (w .nodes) a n′ y) (seat after y)) (sym z)
+            subst (λ y. Holds setting y (put (w .count) a (suc (w .count a)) y) (put (w .nodes) a n′ y) (stateOf after y)) (sym z)
             (subst (Holds setting a (put (w .count) a (suc (w .count a)) a) (put (w .nodes) a n′ a)) (sym seat-a)
               (subst (λ c. Holds setting a c (put (w .nodes) a n′ a) fresh) (sym (put-same (w .count) a (suc (w .count a)))) (subst (λ n. Holds setting a (suc (w .count a)) n fresh) (sym (put-same (w .nodes) a n′)) new)))
         nodes y q (no z) =
             subst (Holds setting y (put (w .count) a (suc (w .count a)) y) (put (w .nodes) a n′ y)) (sym (seat-y y z))
-            (subst (λ c. Holds setting y c (put (w .nodes) a n′ y) (seat ledger y)) (sym (put-other (w .count) a (suc (w .count a)) y z)) (subst (λ n. Holds setting y (w .count y) n (seat ledger y)) (sym (put-other (w .nodes) a n′ y z)) (sim .node y q)))
-        hass : (c : ℕ) → Dec (c ≡ a) → (s : ℕ) → has after c s ≡ upd (has ledger) a (λ s. false) c s
+            (subst (λ c. Holds setting y c (put (w .nodes) a n′ y) (stateOf ledger y)) (sym (put-other (w .count) a (suc (w .count a)) y z)) (subst (λ n. Holds setting y (w .count y) n (stateOf ledger y)) (sym (put-other (w .nodes) a n′ y z)) (sim .node y q)))
+        hass : (c : ℕ) → Dec (c ≡ a) → (s : ℕ) → hasStored after c s ≡ update (hasStored ledger) a (λ s. false) c s
         hass c (yes z) s =
-            subst (λ c. has after c s ≡ upd (has ledger) a (λ s. false) c s) (sym z)
-            (ap (λ (nd : Nd). some? (nd .st s)) seat-a ∙ sym (ap (λ (g : ℕ → Bool). g s) (upd-same (has ledger) a (λ s. false))))
-        hass c (no z) s = ap (λ (nd : Nd). some? (nd .st s)) (seat-y c z) ∙ sym (ap (λ (g : ℕ → Bool). g s) (upd-other (has ledger) a (λ s. false) c z))
-        stored-all : (c s : ℕ) → aw setting s a ≡ some c → has ledger a s ≡ true
-        stored-all c s e = let q = aw-lt setting s a c e in by q (decLt s (seat ledger a .at))
+            subst (λ c. hasStored after c s ≡ update (hasStored ledger) a (λ s. false) c s) (sym z)
+            (ap (λ (nd : State). isSome (nd .stored s)) seat-a ∙ sym (ap (λ (g : ℕ → Bool). g s) (update-same (hasStored ledger) a (λ s. false))))
+        hass c (no z) s = ap (λ (nd : State). isSome (nd .stored s)) (seat-y c z) ∙ sym (ap (λ (g : ℕ → Bool). g s) (update-other (hasStored ledger) a (λ s. false) c z))
+        stored-all : (c s : ℕ) → awaitedIn setting s a ≡ some c → hasStored ledger a s ≡ true
+        stored-all c s e = let q = awaited-below setting s a c e in by q (decLt s (stateOf ledger a .step))
           where
-            by : (s < p + p) × ((tree setting) .await (dim p s) a ≡ some c) → Dec (s < seat ledger a .at) → has ledger a s ≡ true
-            by q (yes l) = agree-has (seat ledger a) s c ((tree setting) .await (dim p s) a) (q .1) (inv (tree setting) (fieldLimit L) ledger reached .fit (ledger .ph a) .nodes-fit a h .agrees s l)
+            by : (s < p + p) × ((tree setting) .awaited (dimOf p s) a ≡ some c) → Dec (s < stateOf ledger a .step) → hasStored ledger a s ≡ true
+            by q (yes l) = agree-has (stateOf ledger a) s c ((tree setting) .awaited (dimOf p s) a) (q .1) (invariant (tree setting) (fieldLimit L) ledger reached .fit (ledger .phase a) .nodes-ok a h .agrees s l)
             by q (no l) =
-                let z : s ≡ seat ledger a .at = omega (arith, at-is, q .0) in
-                subst (λ s. has ledger a s ≡ true) (sym z) (agree-has (seat ledger a) (seat ledger a .at) c ((tree setting) .await (dim p (seat ledger a .at)) a) (subst (λ s. (tree setting) .await (dim p s) a ≡ some c) z (q .1)) (agree-of g))
+                let z : s ≡ stateOf ledger a .step = omega (arith, at-is, q .0) in
+                subst (λ s. hasStored ledger a s ≡ true) (sym z) (agree-has (stateOf ledger a) (stateOf ledger a .step) c ((tree setting) .awaited (dimOf p (stateOf ledger a .step)) a) (subst (λ s. (tree setting) .awaited (dimOf p s) a ≡ some c) z (q .1)) (agree-of g))
 
     pub call-next : (len : ℕ) (q : Given Barrier) → CallWay L (w .nodes a) q → Next setting w play (calls a len) (afterCall (gave w a (q .node)) a (w .nodes a) (q .answer))
     call-next len q (CallWay.refused x) = held setting w play (calls a len) a
     call-next len q (CallWay.sends v b) =
-        turned-to setting w play (calls a len) a h (at-step (seat ledger a) (seat ledger a .at) false (seat ledger a .tot)) (at (w .nodes a) (w .nodes a .pass) (w .nodes a .dim) false (w .nodes a .agreed)) ms refl
+        turned-to setting w play (calls a len) a h (atStep (stateOf ledger a) (stateOf ledger a .step) false (stateOf ledger a .agreed)) (at (w .nodes a) (w .nodes a .pass) (w .nodes a .dim) false (w .nodes a .agreed)) ms refl
         (act-put (tree setting) (fieldLimit L) ledger reached a (receiversDue (w .nodes a)) h (rest-of b) (λ c hc k. heard-by c hc k))
         hold-still (w .items ++ posted a (frameBytes (dims (w .nodes a)) (frameDue (w .nodes a))) (w .count a) (receiversDue (w .nodes a)))
-        (pair-append (Carried setting) (w .items) (posted a (frameBytes (dims (w .nodes a)) (frameDue (w .nodes a))) (w .count a) (receiversDue (w .nodes a))) (ledger .msgs) (tag (ledger .ph a) (posts a (note (seat ledger a .at) x) (receiversDue (w .nodes a)))) (sim .items)
-          (pair-posts (frameBytes (dims (w .nodes a)) (frameDue (w .nodes a))) (seat ledger a .at) x (receiversDue (w .nodes a)) (emitted setting a (w .count a) (w .nodes a) (seat ledger a) (hold setting w play a h) v) awaiting))
-        (win-ext (aw setting) (ledger .ph) (has ledger) _ ms (has-same setting w ledger sim a h (turned (ledger .phases (ledger .ph a)) a (at-step (seat ledger a) (seat ledger a .at) false (seat ledger a .tot))) (at-step (seat ledger a) (seat ledger a .at) false (seat ledger a .tot)) refl
-            (at (w .nodes a) (w .nodes a .pass) (w .nodes a .dim) false (w .nodes a .agreed)) hold-still (sim .capped (ledger .ph a) a h) ms (λ s. refl))
-          (win-posts x (seat ledger a .at) (receiversDue (w .nodes a)) (ledger .msgs) (inv (tree setting) (fieldLimit L) ledger reached .now a (ledger .ph a) refl) awaiting (sim .win)))
+        (pair-append (Carried setting) (w .items) (posted a (frameBytes (dims (w .nodes a)) (frameDue (w .nodes a))) (w .count a) (receiversDue (w .nodes a))) (ledger .items) (dated (ledger .phase a) (posts a (report (stateOf ledger a .step) x) (receiversDue (w .nodes a)))) (sim .items)
+          (pair-posts (frameBytes (dims (w .nodes a)) (frameDue (w .nodes a))) (stateOf ledger a .step) x (receiversDue (w .nodes a)) (emitted setting a (w .count a) (w .nodes a) (stateOf ledger a) (hold setting w play a h) v) awaiting))
+        (window-same (awaitedIn setting) (ledger .phase) (hasStored ledger) _ ms (stored-same setting w ledger sim a h (pageWith (ledger .pages (ledger .phase a)) a (atStep (stateOf ledger a) (stateOf ledger a .step) false (stateOf ledger a .agreed))) (atStep (stateOf ledger a) (stateOf ledger a .step) false (stateOf ledger a .agreed)) refl
+            (at (w .nodes a) (w .nodes a .pass) (w .nodes a .dim) false (w .nodes a .agreed)) hold-still (sim .capped (ledger .phase a) a h) ms (λ s. refl))
+          (win-posts x (stateOf ledger a .step) (receiversDue (w .nodes a)) (ledger .items) (invariant (tree setting) (fieldLimit L) ledger reached .now a (ledger .phase a) refl) awaiting (sim .win)))
         (w .busy) (sim .busy a h) (λ y z. refl) (frames-named P (w .untaken) (w .sends) (w .items) a (frameBytes (dims (w .nodes a)) (frameDue (w .nodes a))) (w .count a) (receiversDue (w .nodes a)) (marks .named)) (frames-apart P (w .items) a (frameBytes (dims (w .nodes a)) (frameDue (w .nodes a))) (w .count a) (receiversDue (w .nodes a)) (marks .apart))
       where
-        x : Fr
-        x = ownf p (seat ledger a) (seat ledger a .at)
-        ms : List Msg
-        ms = ledger .msgs ++ tag (ledger .ph a) (posts a (note (seat ledger a .at) (ownf p (seat ledger a) (seat ledger a .at))) (receiversDue (w .nodes a)))
-        awaiting : All (λ c. (c < P) × ((tree setting) .await (dim p (seat ledger a .at)) c ≡ some a)) (receiversDue (w .nodes a))
+        x : Entries
+        x = frameOf p (stateOf ledger a) (stateOf ledger a .step)
+        ms : List Dated
+        ms = ledger .items ++ dated (ledger .phase a) (posts a (report (stateOf ledger a .step) (frameOf p (stateOf ledger a) (stateOf ledger a .step))) (receiversDue (w .nodes a)))
+        awaiting : All (λ c. (c < P) × ((tree setting) .awaited (dimOf p (stateOf ledger a .step)) c ≡ some a)) (receiversDue (w .nodes a))
         awaiting =
-            subst (λ d. All (λ c. (c < P) × ((tree setting) .await d c ≡ some a)) (receiversDue (w .nodes a))) (sym dim-at)
-            (subst (All (λ c. (c < P) × ((tree setting) .await (w .nodes a .dim) c ≡ some a))) (sym rcv-is) (receivers-await setting (w .nodes a .dim) a h))
+            subst (λ d. All (λ c. (c < P) × ((tree setting) .awaited d c ≡ some a)) (receiversDue (w .nodes a))) (sym dim-at)
+            (subst (All (λ c. (c < P) × ((tree setting) .awaited (w .nodes a .dim) c ≡ some a))) (sym rcv-is) (receivers-await setting (w .nodes a .dim) a h))
     call-next len q (CallWay.waits b m) =
-        turns-still setting w play (calls a len) a h (at-step (seat ledger a) (seat ledger a .at) false (seat ledger a .tot)) (at (w .nodes a) (w .nodes a .pass) (w .nodes a .dim) false (w .nodes a .agreed)) refl refl
+        turns-still setting w play (calls a len) a h (atStep (stateOf ledger a) (stateOf ledger a .step) false (stateOf ledger a .agreed)) (at (w .nodes a) (w .nodes a .pass) (w .nodes a .dim) false (w .nodes a .agreed)) refl refl
         (act-wait (tree setting) (fieldLimit L) ledger reached a h (rest-of b) (mute-of m)) hold-still (w .busy) (sim .busy a h) (λ y z. refl)
     call-next len q (CallWay.next b m g d) =
-        turns-still setting w play (calls a len) a h (at-step (seat ledger a) (suc (seat ledger a .at)) true (w .nodes a .agreed)) (at (w .nodes a) (w .nodes a .pass) (suc (w .nodes a .dim)) true (w .nodes a .agreed)) refl refl
-        (act-move (tree setting) (fieldLimit L) ledger reached a (w .nodes a .agreed) h (rest-of b) (mute-of m) (agree-of g) (λ z. hold setting w play a h .like .tot) (λ z. absurd (not-last (hold setting w play a h .pass) z)) (lower (hold setting w play a h .pass)))
-        (hold-at (w .nodes a .pass) (suc (w .nodes a .dim)) (suc (seat ledger a .at)) true (w .nodes a .agreed) (hold setting w play a h .pass) d′ (up (hold setting w play a h .pass))) (w .busy) (sim .busy a h) (λ y z. refl)
+        turns-still setting w play (calls a len) a h (atStep (stateOf ledger a) (suc (stateOf ledger a .step)) true (w .nodes a .agreed)) (at (w .nodes a) (w .nodes a .pass) (suc (w .nodes a .dim)) true (w .nodes a .agreed)) refl refl
+        (act-move (tree setting) (fieldLimit L) ledger reached a (w .nodes a .agreed) h (rest-of b) (mute-of m) (agree-of g) (λ z. hold setting w play a h .like .agreed) (λ z. absurd (not-last (hold setting w play a h .pass) z)) (lower (hold setting w play a h .pass)))
+        (hold-at (w .nodes a .pass) (suc (w .nodes a .dim)) (suc (stateOf ledger a .step)) true (w .nodes a .agreed) (hold setting w play a h .pass) d′ (up (hold setting w play a h .pass))) (w .busy) (sim .busy a h) (λ y z. refl)
       where
         d′ : suc (w .nodes a .dim) < p
         d′ = omega (arith, dims-is setting w play a h)
-        at-is : stepNumber p (w .nodes a .pass) (w .nodes a .dim) ≡ seat ledger a .at
-        at-is = hold setting w play a h .like .at
-        up : (w .nodes a .pass ≡ 1) ⊎ (w .nodes a .pass ≡ 2) → stepNumber p (w .nodes a .pass) (suc (w .nodes a .dim)) ≡ suc (seat ledger a .at)
+        at-is : stepNumber p (w .nodes a .pass) (w .nodes a .dim) ≡ stateOf ledger a .step
+        at-is = hold setting w play a h .like .step
+        up : (w .nodes a .pass ≡ 1) ⊎ (w .nodes a .pass ≡ 2) → stepNumber p (w .nodes a .pass) (suc (w .nodes a .dim)) ≡ suc (stateOf ledger a .step)
         up (inl e) = omega (arith, at-is, step-first p (w .nodes a .pass) (suc (w .nodes a .dim)) e, step-first p (w .nodes a .pass) (w .nodes a .dim) e)
         up (inr e) = omega (arith, at-is, step-second p (w .nodes a .pass) (suc (w .nodes a .dim)) e, step-second p (w .nodes a .pass) (w .nodes a .dim) e)
-        not-last : (w .nodes a .pass ≡ 1) ⊎ (w .nodes a .pass ≡ 2) → suc (seat ledger a .at) ≡ p → ⊥
+        not-last : (w .nodes a .pass ≡ 1) ⊎ (w .nodes a .pass ≡ 2) → suc (stateOf ledger a .step) ≡ p → ⊥
         not-last (inl e) z = omega (arith, at-is, step-first p (w .nodes a .pass) (w .nodes a .dim) e, d′)
         not-last (inr e) z = omega (arith, at-is, step-second p (w .nodes a .pass) (w .nodes a .dim) e)
-        lower : (w .nodes a .pass ≡ 1) ⊎ (w .nodes a .pass ≡ 2) → suc (seat ledger a .at) < p + p
+        lower : (w .nodes a .pass ≡ 1) ⊎ (w .nodes a .pass ≡ 2) → suc (stateOf ledger a .step) < p + p
         lower (inl e) = omega (arith, at-is, step-first p (w .nodes a .pass) (w .nodes a .dim) e, d′)
         lower (inr e) = omega (arith, at-is, step-second p (w .nodes a .pass) (w .nodes a .dim) e, d′)
     call-next len q (CallWay.second b m g d e) =
-        turns-still setting w play (calls a len) a h (at-step (seat ledger a) (suc (seat ledger a .at)) true t) (at (w .nodes a) 2 0 true t) refl refl
+        turns-still setting w play (calls a len) a h (atStep (stateOf ledger a) (suc (stateOf ledger a .step)) true t) (at (w .nodes a) 2 0 true t) refl refl
         (act-move (tree setting) (fieldLimit L) ledger reached a t h (rest-of b) (mute-of m) (agree-of g) (λ z. absurd (omega (arith, at-is, hold setting w play a h .low))) (λ z. total-is) (omega (arith, at-is, d′, Z)))
-        (hold-at 2 0 (suc (seat ledger a .at)) true t (inr refl) Z (omega (arith, at-is, d′))) (w .busy) (sim .busy a h) (λ y z. refl)
+        (hold-at 2 0 (suc (stateOf ledger a .step)) true t (inr refl) Z (omega (arith, at-is, d′))) (w .busy) (sim .busy a h) (λ y z. refl)
       where
         t : ℕ
         t = own (w .nodes a) (dims (w .nodes a)) allTaken
         d′ : suc (w .nodes a .dim) ≡ p
         d′ = omega (arith, dims-is setting w play a h, hold setting w play a h .low, d)
-        at-is : seat ledger a .at ≡ w .nodes a .dim
-        at-is = sym (hold setting w play a h .like .at) ∙ step-first p (w .nodes a .pass) (w .nodes a .dim) e
-        total-is : own (w .nodes a) (dims (w .nodes a)) allTaken ≡ acc (seat ledger a .tal) (seat ledger a .st) p ta
+        at-is : stateOf ledger a .step ≡ w .nodes a .dim
+        at-is = sym (hold setting w play a h .like .step) ∙ step-first p (w .nodes a .pass) (w .nodes a .dim) e
+        total-is : own (w .nodes a) (dims (w .nodes a)) allTaken ≡ ownSums (stateOf ledger a .tallies) (stateOf ledger a .stored) p takenAll
         total-is =
-            ap (λ q. own (w .nodes a) q allTaken) (dims-is setting w play a h) ∙ own-acc p (w .nodes a) p (omega arith) ta ∙ acc-like p (view p (w .nodes a)) (seat ledger a) (hold setting w play a h .like) p (omega arith) ta tt
+            ap (λ q. own (w .nodes a) q allTaken) (dims-is setting w play a h) ∙ own-is p (w .nodes a) p (omega arith) takenAll ∙ own-like p (view p (w .nodes a)) (stateOf ledger a) (hold setting w play a h .like) p (omega arith) takenAll tt
     call-next len q (CallWay.leaves b m g d e) = leave-next len b m g (omega (arith, dims-is setting w play a h, hold setting w play a h .low, d)) (two (hold setting w play a h .pass))
       where
         two : (w .nodes a .pass ≡ 1) ⊎ (w .nodes a .pass ≡ 2) → w .nodes a .pass ≡ 2

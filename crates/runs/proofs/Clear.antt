@@ -73,7 +73,7 @@ read-passes L P bs r =
 
 module _ (L : Limits) (n : Node) (bs : List ℕ) (v : valid L n ≡ true) (r : Read L (n .nodes) bs (fieldsIn L n bs))
     (ne : fieldsIn L n bs .sender ≢ n .number)
-    (aw : awaited (n .nodes) (fieldsIn L n bs .dim) (n .number) ≡ some (fieldsIn L n bs .sender)) where
+    (awaitedIn : awaited (n .nodes) (fieldsIn L n bs .dim) (n .number) ≡ some (fieldsIn L n bs .sender)) where
   abbrev F : Frame
   F = fieldsIn L n bs
 
@@ -83,7 +83,7 @@ module _ (L : Limits) (n : Node) (bs : List ℕ) (v : valid L n ≡ true) (r : R
       (
         rw v,
         passes-append (readChecks L (n .nodes) bs) (lastChecks L n F) (read-passes L (n .nodes) bs r)
-        (ne-eqb (F .sender) (n .number) ne, (rw (aw, eq-eqb (F .sender) (F .sender) refl), tt)),
+        (ne-eqb (F .sender) (n .number) ne, (rw (awaitedIn, eq-eqb (F .sender) (F .sender) refl), tt)),
       )
 
   timely : frameIn L n bs ≡ byTiming n F (timing (F .phase) (n .phase))

@@ -17,14 +17,14 @@ use Rattle.node.specs.State.{valid}
 use Rattle.node.specs.Calls.{stepNumber, firstOf, secondOf}
 use Rattle.node.specs.Barrier.{firstFrame, secondFrame, frameDue}
 use Rattle.node.specs.declared.Node.{Node}
-use Rattle.cycle.proofs.Heart.{Fld, sh, th, sa, ta, acc}
-use Rattle.cycle.proofs.One.{Nd, two, ownf, dim}
-use Rattle.cycle.proofs.Still.{ownf-first, ownf-second, dim-first, dim-second}
+use Rattle.cycle.proofs.Exact.{Entry, sentTo, takenFrom, sentAll, takenAll, ownSums}
+use Rattle.cycle.proofs.OnePhase.{State, confirming, frameOf, dimOf}
+use Rattle.cycle.proofs.AtRest.{frame-first, frame-second, dim-first, dim-second}
 use Rattle.frame.proofs.RoundTripAccepted.{Read}
 use Rattle.runs.proofs.Tools.{getD-list}
 use Rattle.runs.proofs.Setting.{Setting, dim-low}
 use Rattle.runs.proofs.Bound.{Shown}
-use Rattle.runs.proofs.View.{mp, fr1, fr2, view, own-acc, issued-acc, acc-like, acc2-like}
+use Rattle.runs.proofs.View.{fieldOf, firstEntries, secondEntries, view, own-is, issued-is, own-like, own2-like}
 use Rattle.runs.proofs.Sim.{Holds, Says}
 use Rattle.runs.proofs.Due.{due-first, due-second, due-read}
 
@@ -35,9 +35,9 @@ step-first p pass k e = choose-yes k (p + k) (eq-eqb pass 1 e)
 pub step-second : (p pass k : ℕ) → pass ≡ 2 → stepNumber p pass k ≡ p + k
 step-second p pass k e = choose-no k (p + k) (ne-eqb pass 1 (λ q. omega arith))
 
-pub dim-step : (p pass k : ℕ) → (pass ≡ 1) ⊎ (pass ≡ 2) → k < p → dim p (stepNumber p pass k) ≡ k
-dim-step p pass k (inl e) l = ap (dim p) (step-first p pass k e) ∙ dim-first p k l
-dim-step p pass k (inr e) l = ap (dim p) (step-second p pass k e) ∙ dim-second p k
+pub dim-step : (p pass k : ℕ) → (pass ≡ 1) ⊎ (pass ≡ 2) → k < p → dimOf p (stepNumber p pass k) ≡ k
+dim-step p pass k (inl e) l = ap (dimOf p) (step-first p pass k e) ∙ dim-first p k l
+dim-step p pass k (inr e) l = ap (dimOf p) (step-second p pass k e) ∙ dim-second p k
 
 pub step-lt : (p pass k : ℕ) → (pass ≡ 1) ⊎ (pass ≡ 2) → k < p → stepNumber p pass k < p + p
 step-lt p pass k (inl e) l = omega (arith, step-first p pass k e)
@@ -47,7 +47,7 @@ module _ {L : Limits} {P : ℕ} (setting : Setting L P) where
   abbrev p : ℕ
   p = dimension P
 
-  module _ (a c : ℕ) (n : Node) (u : Nd) (h : Holds setting a c n u) (v : valid L n ≡ true) where
+  module _ (a c : ℕ) (n : Node) (u : State) (h : Holds setting a c n u) (v : valid L n ≡ true) where
     dims-is : dims n ≡ p
     dims-is = ap dimension (h .nodes)
 
@@ -75,53 +75,53 @@ module _ {L : Limits} {P : ℕ} (setting : Setting L P) where
     first-shows allSent s = refl
     first-shows allTaken s = refl
 
-    first-case : n .pass ≡ 1 → Says setting a c (firstFrame n) (u .at) (ownf p u (u .at))
+    first-case : n .pass ≡ 1 → Says setting a c (firstFrame n) (u .step) (frameOf p u (u .step))
     first-case e =
         record {
           pass = inl refl; low = h .low; step = at-is; phase = h .phase; sender = h .number;
           first = λ q. says; second = λ q. absurd (omega (arith, q));
         }
       where
-        at-is : n .dim ≡ u .at
-        at-is = sym (step-first p (n .pass) (n .dim) e) ∙ h .like .at
+        at-is : n .dim ≡ u .step
+        at-is = sym (step-first p (n .pass) (n .dim) e) ∙ h .like .step
 
-        says : (f : Fld) → Shown (u .at) p (mp f) → fr1 (firstOf (firstFrame n)) f ≡ ownf p u (u .at) f
+        says : (f : Entry) → Shown (u .step) p (fieldOf f) → firstEntries (firstOf (firstFrame n)) f ≡ frameOf p u (u .step) f
         says f s =
-            let s1 : Shown (n .dim) p (mp f) = subst (λ t. Shown t p (mp f)) (sym at-is) s in
-            let s2 : Shown (n .dim) (dims n) (mp f) = subst (λ q. Shown (n .dim) q (mp f)) (sym dims-is) s1 in
-            first-shows (mp f) s2 ∙ own-acc p n (n .dim) (omega (arith, h .low)) f
-            ∙ acc-like p (view p n) u (h .like) (n .dim) (omega (arith, h .low)) f s1
-            ∙ ap (λ t. acc (u .tal) (u .st) t f) at-is
-            ∙ ap (λ g. g f) (sym (ownf-first p u (u .at) (omega (arith, h .low, at-is))))
+            let s1 : Shown (n .dim) p (fieldOf f) = subst (λ t. Shown t p (fieldOf f)) (sym at-is) s in
+            let s2 : Shown (n .dim) (dims n) (fieldOf f) = subst (λ q. Shown (n .dim) q (fieldOf f)) (sym dims-is) s1 in
+            first-shows (fieldOf f) s2 ∙ own-is p n (n .dim) (omega (arith, h .low)) f
+            ∙ own-like p (view p n) u (h .like) (n .dim) (omega (arith, h .low)) f s1
+            ∙ ap (λ t. ownSums (u .tallies) (u .stored) t f) at-is
+            ∙ ap (λ g. g f) (sym (frame-first p u (u .step) (omega (arith, h .low, at-is))))
 
-    second-case : n .pass ≡ 2 → Says setting a c (secondFrame n) (u .at) (ownf p u (u .at))
+    second-case : n .pass ≡ 2 → Says setting a c (secondFrame n) (u .step) (frameOf p u (u .step))
     second-case e =
         record {
           pass = inr refl; low = h .low; step = at-is; phase = h .phase; sender = h .number;
           first = λ q. absurd (omega (arith, q)); second = λ q. says;
         }
       where
-        at-is : p + n .dim ≡ u .at
-        at-is = sym (step-second p (n .pass) (n .dim) e) ∙ h .like .at
+        at-is : p + n .dim ≡ u .step
+        at-is = sym (step-second p (n .pass) (n .dim) e) ∙ h .like .step
 
-        own2 : ownIssued n (n .dim) ≡ acc (u .tal) (λ i. u .st (p + i)) (n .dim) sa
-        own2 = issued-acc p n (n .dim) ∙ acc2-like p (view p n) u (h .like) (n .dim) (omega (arith, h .low))
+        own2 : ownIssued n (n .dim) ≡ ownSums (u .tallies) (λ i. u .stored (p + i)) (n .dim) sentAll
+        own2 = issued-is p n (n .dim) ∙ own2-like p (view p n) u (h .like) (n .dim) (omega (arith, h .low))
 
-        ownf-is : (f : Fld) → two (u .tot) (acc (u .tal) (λ i. u .st (p + i)) (n .dim) sa) f ≡ ownf p u (u .at) f
-        ownf-is f = ap (λ g. g f) (sym (ownf-second p u (n .dim))) ∙ ap (λ t. ownf p u t f) at-is
+        frame-is : (f : Entry) → confirming (u .agreed) (ownSums (u .tallies) (λ i. u .stored (p + i)) (n .dim) sentAll) f ≡ frameOf p u (u .step) f
+        frame-is f = ap (λ g. g f) (sym (frame-second p u (n .dim))) ∙ ap (λ t. frameOf p u t f) at-is
 
-        says : (f : Fld) → Shown (u .at) p (mp f) → fr2 (secondOf (secondFrame n)) f ≡ ownf p u (u .at) f
-        says (sh j) s = absurd (omega (arith, at-is))
-        says (th j) s = absurd (omega (arith, at-is))
-        says sa s = own2 ∙ ownf-is sa
-        says ta s = h .like .tot ∙ ownf-is ta
+        says : (f : Entry) → Shown (u .step) p (fieldOf f) → secondEntries (secondOf (secondFrame n)) f ≡ frameOf p u (u .step) f
+        says (sentTo j) s = absurd (omega (arith, at-is))
+        says (takenFrom j) s = absurd (omega (arith, at-is))
+        says sentAll s = own2 ∙ frame-is sentAll
+        says takenAll s = h .like .agreed ∙ frame-is takenAll
 
-    says-due : (n .pass ≡ 1) ⊎ (n .pass ≡ 2) → Says setting a c (frameDue n) (u .at) (ownf p u (u .at))
+    says-due : (n .pass ≡ 1) ⊎ (n .pass ≡ 2) → Says setting a c (frameDue n) (u .step) (frameOf p u (u .step))
     says-due (inl e) =
-        subst (λ f. Says setting a c f (u .at) (ownf p u (u .at)))
+        subst (λ f. Says setting a c f (u .step) (frameOf p u (u .step)))
         (sym (due-first L (setting .fit) n v some-node wide low e)) (first-case e)
     says-due (inr e) =
-        subst (λ f. Says setting a c f (u .at) (ownf p u (u .at)))
+        subst (λ f. Says setting a c f (u .step) (frameOf p u (u .step)))
         (sym (due-second L (setting .fit) n v some-node wide low e)) (second-case e)
 
     -- the frame is read back from its bytes
@@ -131,8 +131,8 @@ module _ {L : Limits} {P : ℕ} (setting : Setting L P) where
         subst (λ N. Read L N (frameBytes (dims n) (frameDue n)) (fieldsOf (dimension N) (frameBytes (dims n) (frameDue n)))) (h .nodes)
         (subst (Read L (n .nodes) (frameBytes (dims n) (frameDue n))) (r .fields) r)
 
-    pub emitted : Says setting a c (fieldsOf p (frameBytes (dims n) (frameDue n))) (u .at) (ownf p u (u .at))
+    pub emitted : Says setting a c (fieldsOf p (frameBytes (dims n) (frameDue n))) (u .step) (frameOf p u (u .step))
     emitted =
         let r = due-read L (setting .fit) n v some-node wide low (h .pass) in
-        subst (λ f. Says setting a c f (u .at) (ownf p u (u .at)))
+        subst (λ f. Says setting a c f (u .step) (frameOf p u (u .step)))
         (r .fields ∙ ap (λ d. fieldsOf d (frameBytes (dims n) (frameDue n))) dims-is) (says-due (h .pass))

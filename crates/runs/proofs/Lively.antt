@@ -22,13 +22,13 @@ use Rattle.node.specs.Barrier.{lengthDue, isDue, sending, leaving, moving, look
 use Rattle.node.specs.declared.Node.{Node}
 use Rattle.runs.specs.Board.{Item, Board, Event, run}
 use Rattle.runs.specs.Claim.{Goes, Lives, NoLoss}
-use Rattle.cycle.proofs.Sums.{choose as pick}
+use Rattle.cycle.proofs.Sums.{pick}
 use Rattle.cycle.proofs.Tree.{Tree}
 use Rattle.cycle.proofs.Lists.{All}
-use Rattle.cycle.proofs.One.{It, dim, Unheard, Agree}
-use Rattle.cycle.proofs.Still.{least}
-use Rattle.cycle.proofs.Multi.{Msg, Board as ABoard, sub, no-board-sticks}
-use Rattle.cycle.proofs.Acts.{seat}
+use Rattle.cycle.proofs.OnePhase.{Parcel, dimOf, Unheard, Agrees}
+use Rattle.cycle.proofs.AtRest.{least}
+use Rattle.cycle.proofs.Ledger.{Dated, Ledger, ofPhase, no-board-sticks}
+use Rattle.cycle.proofs.Events.{stateOf}
 use Rattle.frame.proofs.RoundTripChecks.{Passes}
 use Rattle.runs.proofs.Setting.{Setting, tree, dim-pos}
 use Rattle.runs.proofs.Ways.{Mute, mute-is, callChecks, order-passes}
@@ -77,11 +77,11 @@ false-is : (b : Bool) → (b ≡ true → ⊥) → b ≡ false
 false-is true h = absurd (h refl)
 false-is false h = refl
 
-sub-all : (n : ℕ) (G : It → Type 0) (ms : List Msg) → All (λ m. m .ph ≡ n → G (m .it)) ms → All G (sub n ms)
-sub-all n G [] h = tt
-sub-all n G (m ∷ ms) h = go (ℕ-discrete (m .ph) n) (sub-all n G ms (h .1))
+phase-all : (n : ℕ) (G : Parcel → Type 0) (ms : List Dated) → All (λ m. m .phase ≡ n → G (m .item)) ms → All G (ofPhase n ms)
+phase-all n G [] h = tt
+phase-all n G (m ∷ ms) h = go (ℕ-discrete (m .phase) n) (phase-all n G ms (h .1))
   where
-    go : (d : Dec (m .ph ≡ n)) → All G (sub n ms) → All G (pick {A = List It} d (m .it ∷ sub n ms) (sub n ms))
+    go : (d : Dec (m .phase ≡ n)) → All G (ofPhase n ms) → All G (pick {A = List Parcel} d (m .item ∷ ofPhase n ms) (ofPhase n ms))
     go (yes e) r = (h .0 e, r)
     go (no e) r = r
 
@@ -129,7 +129,7 @@ module _ {L : Limits} {P : ℕ} (setting : Setting L P) where
   T = tree setting
 
   module _ (w : Board) (s : Sound setting w) where
-    abbrev B : ABoard
+    abbrev B : Ledger
     B = s .played .ledger
 
     i : Sim setting w (s .played .ledger)
@@ -138,10 +138,10 @@ module _ {L : Limits} {P : ℕ} (setting : Setting L P) where
     ok : (a : ℕ) → a < P → valid L (w .nodes a) ≡ true
     ok a h = valid-at setting w (s .played) (s .kept) a h
 
-    to-lt : (l : List Item) (ms : List Msg) → Pair (Carried setting) l ms → (m : Item) → List·Memᴰ m l → m .to < P
+    to-lt : (l : List Item) (ms : List Dated) → Pair (Carried setting) l ms → (m : Item) → List·Memᴰ m l → m .to < P
     to-lt l ms h m k = at l k ms h
       where
-        at : (l : List Item) → List·Memᴰ m l → (ms : List Msg) → Pair (Carried setting) l ms → m .to < P
+        at : (l : List Item) → List·Memᴰ m l → (ms : List Dated) → Pair (Carried setting) l ms → m .to < P
         at l (List·Memᴰ·head {x = x} {xs = xs} e) [] h = absurd h
         at l (List·Memᴰ·head {x = x} {xs = xs} e) (t ∷ ms) h = subst (λ (y : Item). y .to < P) (sym e) (h .0 .to-lt)
         at l (List·Memᴰ·tail {x = x} {xs = xs} k) [] h = absurd h
@@ -172,47 +172,47 @@ module _ {L : Limits} {P : ℕ} (setting : Setting L P) where
         → ((a : ℕ) → a < P → (w .count a ≡ w .count u) × (isDue (w .nodes a) ≡ true) → ⊥)
         → (a : ℕ) × ((a < P) × ((w .count a ≡ w .count u) × (agrees L (w .nodes a) (w .nodes a .pass) (w .nodes a .dim) ≡ true)))
     stuck f1 f2 f3 =
-        let r = no-board-sticks T (fieldLimit L) (s .played .ledger) (s .played .reached) u hu (s .calm (s .played .ledger .ph u)) (λ y h. omega (arith, old y h, i .counts u, i .counts y)) rest under isNone in
+        let r = no-board-sticks T (fieldLimit L) (s .played .ledger) (s .played .reached) u hu (s .calm (s .played .ledger .phase u)) (λ y h. omega (arith, old y h, i .counts u, i .counts y)) rest under isNone in
         (r .0, (r .1 .0, (back (r .0) (r .1 .1 .0), agrees-of (r .0) (r .1 .0) (r .1 .1 .0) (r .1 .1 .1))))
       where
-        back : (a : ℕ) → s .played .ledger .ph a ≡ s .played .ledger .ph u → w .count a ≡ w .count u
+        back : (a : ℕ) → s .played .ledger .phase a ≡ s .played .ledger .phase u → w .count a ≡ w .count u
         back a e = i .counts a ∙ e ∙ sym (i .counts u)
-        rest : (a : ℕ) → a < P → s .played .ledger .ph a ≡ s .played .ledger .ph u → s .played .ledger .phases (s .played .ledger .ph u) .nodes a .busy ≡ false
-        rest a h e = subst (λ n. s .played .ledger .phases n .nodes a .busy ≡ false) e (sym (i .node a h .like .busy) ∙ idle-of f1 a h (back a e))
-        isNone : (a : ℕ) → a < P → s .played .ledger .ph a ≡ s .played .ledger .ph u
-            → (s .played .ledger .phases (s .played .ledger .ph u) .nodes a .flag ≡ false) ⊎ Unheard T a (s .played .ledger .phases (s .played .ledger .ph u) .nodes a .at)
+        rest : (a : ℕ) → a < P → s .played .ledger .phase a ≡ s .played .ledger .phase u → s .played .ledger .pages (s .played .ledger .phase u) .nodes a .busy ≡ false
+        rest a h e = subst (λ n. s .played .ledger .pages n .nodes a .busy ≡ false) e (sym (i .node a h .like .busy) ∙ idle-of f1 a h (back a e))
+        isNone : (a : ℕ) → a < P → s .played .ledger .phase a ≡ s .played .ledger .phase u
+            → (s .played .ledger .pages (s .played .ledger .phase u) .nodes a .flag ≡ false) ⊎ Unheard T a (s .played .ledger .pages (s .played .ledger .phase u) .nodes a .step)
         isNone a h e =
-            subst (λ n. (s .played .ledger .phases n .nodes a .flag ≡ false) ⊎ Unheard T a (s .played .ledger .phases n .nodes a .at)) e
+            subst (λ n. (s .played .ledger .pages n .nodes a .flag ≡ false) ⊎ Unheard T a (s .played .ledger .pages n .nodes a .step)) e
             (mute-of setting w (s .played) a h (mute-now f3 a h (back a e)))
-        under : All (λ t. (t .dest < P) × (s .played .ledger .ph u < s .played .ledger .ph (t .dest))) (sub (s .played .ledger .ph u) (s .played .ledger .msgs))
+        under : All (λ t. (t .to < P) × (s .played .ledger .phase u < s .played .ledger .phase (t .to))) (ofPhase (s .played .ledger .phase u) (s .played .ledger .items))
         under =
-            sub-all (s .played .ledger .ph u) (λ t. (t .dest < P) × (s .played .ledger .ph u < s .played .ledger .ph (t .dest))) (s .played .ledger .msgs)
-            (pair-all (Carried setting) (λ m. (m .phase ≡ w .count u) × (w .count (m .to) ≡ w .count u) → ⊥) (λ m. m .ph ≡ s .played .ledger .ph u → (m .it .dest < P) × (s .played .ledger .ph u < s .played .ledger .ph (m .it .dest)))
-              (λ m t c f e. one m t c f e) (w .items) (s .played .ledger .msgs) (i .items) f2)
+            phase-all (s .played .ledger .phase u) (λ t. (t .to < P) × (s .played .ledger .phase u < s .played .ledger .phase (t .to))) (s .played .ledger .items)
+            (pair-all (Carried setting) (λ m. (m .phase ≡ w .count u) × (w .count (m .to) ≡ w .count u) → ⊥) (λ m. m .phase ≡ s .played .ledger .phase u → (m .item .to < P) × (s .played .ledger .phase u < s .played .ledger .phase (m .item .to)))
+              (λ m t c f e. one m t c f e) (w .items) (s .played .ledger .items) (i .items) f2)
           where
-            one : (m : Item) (t : Msg) → Carried setting m t → ((m .phase ≡ w .count u) × (w .count (m .to) ≡ w .count u) → ⊥) → t .ph ≡ s .played .ledger .ph u → (t .it .dest < P) × (s .played .ledger .ph u < s .played .ledger .ph (t .it .dest))
+            one : (m : Item) (t : Dated) → Carried setting m t → ((m .phase ≡ w .count u) × (w .count (m .to) ≡ w .count u) → ⊥) → t .phase ≡ s .played .ledger .phase u → (t .item .to < P) × (s .played .ledger .phase u < s .played .ledger .phase (t .item .to))
             one m t c f e =
                 let d : m .to < P = c .to-lt in
-                let z : w .count (m .to) ≡ s .played .ledger .ph (t .it .dest) = i .counts (m .to) ∙ ap (s .played .ledger .ph) (c .to) in
+                let z : w .count (m .to) ≡ s .played .ledger .phase (t .item .to) = i .counts (m .to) ∙ ap (s .played .ledger .phase) (c .to) in
                 let ne : w .count (m .to) ≢ w .count u = λ y. f (c .phase ∙ e ∙ sym (i .counts u), y) in
                 (omega (arith, c .to), omega (arith, old (m .to) d, i .counts u, z, ne))
-        agrees-of : (a : ℕ) → a < P → s .played .ledger .ph a ≡ s .played .ledger .ph u
-            → Agree p (fieldLimit L) (s .played .ledger .phases (s .played .ledger .ph u) .nodes a) (s .played .ledger .phases (s .played .ledger .ph u) .nodes a .at) (T .await (dim p (s .played .ledger .phases (s .played .ledger .ph u) .nodes a .at)) a)
+        agrees-of : (a : ℕ) → a < P → s .played .ledger .phase a ≡ s .played .ledger .phase u
+            → Agrees p (fieldLimit L) (s .played .ledger .pages (s .played .ledger .phase u) .nodes a) (s .played .ledger .pages (s .played .ledger .phase u) .nodes a .step) (T .awaited (dimOf p (s .played .ledger .pages (s .played .ledger .phase u) .nodes a .step)) a)
             → agrees L (w .nodes a) (w .nodes a .pass) (w .nodes a .dim) ≡ true
         agrees-of a h e g =
-            by (i .node a h .pass) (subst (λ n. Agree p (fieldLimit L) (s .played .ledger .phases n .nodes a) (s .played .ledger .phases n .nodes a .at) (T .await (dim p (s .played .ledger .phases n .nodes a .at)) a)) (sym e) g)
+            by (i .node a h .pass) (subst (λ n. Agrees p (fieldLimit L) (s .played .ledger .pages n .nodes a) (s .played .ledger .pages n .nodes a .step) (T .awaited (dimOf p (s .played .ledger .pages n .nodes a .step)) a)) (sym e) g)
           where
-            by : (w .nodes a .pass ≡ 1) ⊎ (w .nodes a .pass ≡ 2) → Agree p (fieldLimit L) (seat (s .played .ledger) a) (seat (s .played .ledger) a .at) (T .await (dim p (seat (s .played .ledger) a .at)) a) → agrees L (w .nodes a) (w .nodes a .pass) (w .nodes a .dim) ≡ true
+            by : (w .nodes a .pass ≡ 1) ⊎ (w .nodes a .pass ≡ 2) → Agrees p (fieldLimit L) (stateOf (s .played .ledger) a) (stateOf (s .played .ledger) a .step) (T .awaited (dimOf p (stateOf (s .played .ledger) a .step)) a) → agrees L (w .nodes a) (w .nodes a .pass) (w .nodes a .dim) ≡ true
             by (inl q) g =
-                let at-is : seat (s .played .ledger) a .at ≡ w .nodes a .dim = sym (i .node a h .like .at) ∙ step-first p (w .nodes a .pass) (w .nodes a .dim) q in
+                let at-is : stateOf (s .played .ledger) a .step ≡ w .nodes a .dim = sym (i .node a h .like .step) ∙ step-first p (w .nodes a .pass) (w .nodes a .dim) q in
                 subst (λ x. agrees L (w .nodes a) x (w .nodes a .dim) ≡ true) (sym q)
                 (agrees-first setting (s .played .ledger) (s .played .reached) a (w .count a) h (w .nodes a) (i .node a h) (w .nodes a .dim) (i .node a h .low)
-                  (subst (λ t. Agree p (fieldLimit L) (seat (s .played .ledger) a) t (T .await (dim p t) a)) at-is g))
+                  (subst (λ t. Agrees p (fieldLimit L) (stateOf (s .played .ledger) a) t (T .awaited (dimOf p t) a)) at-is g))
             by (inr q) g =
-                let at-is : seat (s .played .ledger) a .at ≡ p + w .nodes a .dim = sym (i .node a h .like .at) ∙ step-second p (w .nodes a .pass) (w .nodes a .dim) q in
+                let at-is : stateOf (s .played .ledger) a .step ≡ p + w .nodes a .dim = sym (i .node a h .like .step) ∙ step-second p (w .nodes a .pass) (w .nodes a .dim) q in
                 subst (λ x. agrees L (w .nodes a) x (w .nodes a .dim) ≡ true) (sym q)
                 (agrees-second setting (s .played .ledger) (s .played .reached) a (w .count a) h (w .nodes a) (i .node a h) (w .nodes a .dim) (i .node a h .low)
-                  (subst (λ t. Agree p (fieldLimit L) (seat (s .played .ledger) a) t (T .await (dim p t) a)) at-is g))
+                  (subst (λ t. Agrees p (fieldLimit L) (stateOf (s .played .ledger) a) t (T .awaited (dimOf p t) a)) at-is g))
 
     pub lives-now : Lives L P w
     lives-now =
@@ -231,7 +231,7 @@ module _ {L : Limits} {P : ℕ} (setting : Setting L P) where
             → Lives L P w
         go (inl r) f2 f3 = Lives.busy (r .0) (r .1 .0, from-old (r .0) (r .1 .1 .0)) (r .1 .1 .1)
         go (inr f1) (inl r) f3 =
-            Lives.underWay (r .0 .to) (to-lt (w .items) (s .played .ledger .msgs) (i .items) (r .0) (r .1 .0), from-old (r .0 .to) (r .1 .1 .1)) (r .0) (r .1 .0) refl (r .1 .1 .0 ∙ sym (r .1 .1 .1))
+            Lives.underWay (r .0 .to) (to-lt (w .items) (s .played .ledger .items) (i .items) (r .0) (r .1 .0), from-old (r .0 .to) (r .1 .1 .1)) (r .0) (r .1 .0) refl (r .1 .1 .0 ∙ sym (r .1 .1 .1))
         go (inr f1) (inr f2) (inl r) =
             Lives.goes (r .0) (r .1 .0, from-old (r .0) (r .1 .1 .0))
             (λ len l. goes-on L P (w .nodes (r .0)) len (ok (r .0) (r .1 .0)) (idle-of f1 (r .0) (r .1 .0) (r .1 .1 .0)) (frame-le (r .0) (r .1 .0) len l) (λ e. clash (sym (r .1 .1 .1) ∙ e)))

@@ -10,13 +10,13 @@ use lib.ListN.{length}
 use Rattle.base.specs.Choice.{both}
 use Rattle.node.specs.Change.{at}
 use Rattle.runs.specs.Board.{put, work, frame, Item, posted}
-use Rattle.cycle.proofs.Sums.{choose as pick, upd, upd-all, sum, sum-ext, sum-upd, length-snoc}
+use Rattle.cycle.proofs.Sums.{pick, update, update-all, sum, sum-ext, sum-update, length-snoc}
 use Rattle.cycle.proofs.Lists.{All, all-append, all-map, all-mid}
-use Rattle.cycle.proofs.Heart.{ta}
-use Rattle.cycle.proofs.One.{Nd}
-use Rattle.cycle.proofs.Multi.{Msg, Ph, Board as ABoard}
-use Rattle.cycle.proofs.Acts.{seat, phased, sentPh, tookPh}
-use Rattle.runs.proofs.Tools.{put-same, put-other, put-upd}
+use Rattle.cycle.proofs.Exact.{takenAll}
+use Rattle.cycle.proofs.OnePhase.{State}
+use Rattle.cycle.proofs.Ledger.{Dated, Page, Ledger}
+use Rattle.cycle.proofs.Events.{stateOf, ledgerWith, pageSent, pageTaken}
+use Rattle.runs.proofs.Tools.{put-same, put-other, put-update}
 
 abbrev pub hit : ℕ → Option ℕ → ℕ
 hit n none = 0
@@ -65,18 +65,18 @@ abbrev pub Named : (ℕ → Option ℕ) → ℕ → Item → Type 0
 Named ut sd m = IsWork m → (m .name < sd) × (ut (m .name) ≡ some (m .phase))
 
 module _ (P : ℕ) where
-  abbrev pub takesIn : ABoard → ℕ → ℕ
-  takesIn B n = sum (λ y. B .phases n .nodes y .tal ta) 0 P
+  abbrev pub takesIn : Ledger → ℕ → ℕ
+  takesIn B n = sum (λ y. B .pages n .nodes y .tallies takenAll) 0 P
 
-  pub record Marks (ut : ℕ → Option ℕ) (sd : ℕ) (is : List Item) (B : ABoard) : Type 0 where
+  pub record Marks (ut : ℕ → Option ℕ) (sd : ℕ) (is : List Item) (B : Ledger) : Type 0 where
     pub tidy : (i : ℕ) → sd ≤ i → ut i ≡ none
-    pub sums : (n : ℕ) → sum (λ i. hit n (ut i)) 0 sd + takesIn B n ≡ length (B .phases n .log)
+    pub sums : (n : ℕ) → sum (λ i. hit n (ut i)) 0 sd + takesIn B n ≡ length (B .pages n .senders)
     pub named : All (Named ut sd) is
     pub apart : Apart is
 
   -- nothing sent, nothing taken
-  pub marks-same : (ut : ℕ → Option ℕ) (sd : ℕ) (is js : List Item) (B C : ABoard) → Marks ut sd is B → All (Named ut sd) js → Apart js
-      → ((n : ℕ) → takesIn C n ≡ takesIn B n) → ((n : ℕ) → C .phases n .log ≡ B .phases n .log) → Marks ut sd js C
+  pub marks-same : (ut : ℕ → Option ℕ) (sd : ℕ) (is js : List Item) (B C : Ledger) → Marks ut sd is B → All (Named ut sd) js → Apart js
+      → ((n : ℕ) → takesIn C n ≡ takesIn B n) → ((n : ℕ) → C .pages n .senders ≡ B .pages n .senders) → Marks ut sd js C
   marks-same ut sd is js B C m na ap′ t l = record { tidy = m .tidy; sums = λ n. omega (arith, m .sums n, t n, ap length (l n)); named = na; apart = ap′ }
 
   pub less-named : (ut : ℕ → Option ℕ) (sd : ℕ) (xs ys : List Item) (m : Item) → All (Named ut sd) (xs ++ m ∷ ys) → All (Named ut sd) (xs ++ ys)
@@ -108,22 +108,22 @@ module _ (P : ℕ) where
       new [] = tt
       new (r ∷ rs) = ((λ u w. frame-not-work (record { from = a; to = r; load = frame bs; phase = c; name = 0 }) bs refl w), new rs)
 
-  -- the takes of every phase, after node a has changed
-  pub takes-same : (B : ABoard) (a : ℕ) (u : Ph) (v : Nd) (ms : List Msg) → u .nodes ≡ upd (B .phases (B .ph a) .nodes) a v → v .tal ta ≡ seat B a .tal ta
-      → (n : ℕ) → takesIn (phased B (B .ph a) u ms) n ≡ takesIn B n
+  -- the takes of every phase, after node a hasStored changed
+  pub takes-same : (B : Ledger) (a : ℕ) (u : Page) (v : State) (ms : List Dated) → u .nodes ≡ update (B .pages (B .phase a) .nodes) a v → v .tallies takenAll ≡ stateOf B a .tallies takenAll
+      → (n : ℕ) → takesIn (ledgerWith B (B .phase a) u ms) n ≡ takesIn B n
   takes-same B a u v ms e q =
-      upd-all (λ m w. sum (λ y. w .nodes y .tal ta) 0 P ≡ takesIn B m) (B .phases) (B .ph a) u
-      (subst (λ (f : ℕ → Nd). sum (λ y. f y .tal ta) 0 P ≡ takesIn B (B .ph a)) (sym e)
-        (sum-ext (λ y. upd (B .phases (B .ph a) .nodes) a v y .tal ta) (λ y. B .phases (B .ph a) .nodes y .tal ta) 0 P
-          (λ y k l. upd-all (λ y nd. nd .tal ta ≡ B .phases (B .ph a) .nodes y .tal ta) (B .phases (B .ph a) .nodes) a v q (λ y z. refl) y)))
+      update-all (λ m w. sum (λ y. w .nodes y .tallies takenAll) 0 P ≡ takesIn B m) (B .pages) (B .phase a) u
+      (subst (λ (f : ℕ → State). sum (λ y. f y .tallies takenAll) 0 P ≡ takesIn B (B .phase a)) (sym e)
+        (sum-ext (λ y. update (B .pages (B .phase a) .nodes) a v y .tallies takenAll) (λ y. B .pages (B .phase a) .nodes y .tallies takenAll) 0 P
+          (λ y k l. update-all (λ y nd. nd .tallies takenAll ≡ B .pages (B .phase a) .nodes y .tallies takenAll) (B .pages (B .phase a) .nodes) a v q (λ y z. refl) y)))
       (λ m z. refl)
 
-  pub log-same : (B : ABoard) (n : ℕ) (u : Ph) (ms : List Msg) → u .log ≡ B .phases n .log → (m : ℕ) → phased B n u ms .phases m .log ≡ B .phases m .log
-  log-same B n u ms e = upd-all (λ m w. w .log ≡ B .phases m .log) (B .phases) n u e (λ m z. refl)
+  pub log-same : (B : Ledger) (n : ℕ) (u : Page) (ms : List Dated) → u .senders ≡ B .pages n .senders → (m : ℕ) → ledgerWith B n u ms .pages m .senders ≡ B .pages m .senders
+  log-same B n u ms e = update-all (λ m w. w .senders ≡ B .pages m .senders) (B .pages) n u e (λ m z. refl)
 
   -- a message goes out
-  pub marks-send : (ut : ℕ → Option ℕ) (sd : ℕ) (is : List Item) (B : ABoard) → Marks ut sd is B → (a c : ℕ) (v : Nd) (ms : List Msg) (m : Item) → v .tal ta ≡ seat B a .tal ta → m .name ≡ sd → m .phase ≡ B .ph a
-      → Marks (put ut sd (some (m .phase))) (suc sd) (is ++ (m ∷ [])) (phased B (B .ph a) (sentPh (B .phases (B .ph a)) a c v) ms)
+  pub marks-send : (ut : ℕ → Option ℕ) (sd : ℕ) (is : List Item) (B : Ledger) → Marks ut sd is B → (a c : ℕ) (v : State) (ms : List Dated) (m : Item) → v .tallies takenAll ≡ stateOf B a .tallies takenAll → m .name ≡ sd → m .phase ≡ B .phase a
+      → Marks (put ut sd (some (m .phase))) (suc sd) (is ++ (m ∷ [])) (ledgerWith B (B .phase a) (pageSent (B .pages (B .phase a)) a c v) ms)
   marks-send ut sd is B k a c v ms m tv nm ph =
       record {
         tidy = λ i l. put-other ut sd (some (m .phase)) i (omega arith) ∙ k .tidy i (omega arith);
@@ -135,22 +135,22 @@ module _ (P : ℕ) where
     where
       ut′ : ℕ → Option ℕ
       ut′ = put ut sd (some (m .phase))
-      C : ABoard
-      C = phased B (B .ph a) (sentPh (B .phases (B .ph a)) a c v) ms
+      C : Ledger
+      C = ledgerWith B (B .phase a) (pageSent (B .pages (B .phase a)) a c v) ms
       old : (n : ℕ) → sum (λ i. hit n (put ut sd (some (m .phase)) i)) 0 sd ≡ sum (λ i. hit n (ut i)) 0 sd
       old n = sum-ext (λ i. hit n (put ut sd (some (m .phase)) i)) (λ i. hit n (ut i)) 0 sd (λ i x y. ap (hit n) (put-other ut sd (some (m .phase)) i (omega arith)))
-      new : (n : ℕ) → hit n (put ut sd (some (m .phase)) (0 + sd)) ≡ hit n (some (B .ph a))
+      new : (n : ℕ) → hit n (put ut sd (some (m .phase)) (0 + sd)) ≡ hit n (some (B .phase a))
       new n = let z : 0 + sd ≡ sd = omega arith in rw z (ap (hit n) (put-same ut sd (some (m .phase)) ∙ ap some ph))
-      logs : (n : ℕ) → length (phased B (B .ph a) (sentPh (B .phases (B .ph a)) a c v) ms .phases n .log) ≡ length (B .phases n .log) + hit n (some (B .ph a))
-      logs = upd-all (λ n w. length (w .log) ≡ length (B .phases n .log) + hit n (some (B .ph a))) (B .phases) (B .ph a) (sentPh (B .phases (B .ph a)) a c v)
-          (omega (arith, length-snoc (B .phases (B .ph a) .log) a, hit-same (B .ph a))) (λ n z. omega (arith, hit-other (B .ph a) n (λ q. z (sym q))))
-      sums : (n : ℕ) → sum (λ i. hit n (put ut sd (some (m .phase)) i)) 0 (suc sd) + takesIn (phased B (B .ph a) (sentPh (B .phases (B .ph a)) a c v) ms) n
-          ≡ length (phased B (B .ph a) (sentPh (B .phases (B .ph a)) a c v) ms .phases n .log)
-      sums n = omega (arith, k .sums n, old n, new n, logs n, takes-same B a (sentPh (B .phases (B .ph a)) a c v) v ms refl tv n)
+      logs : (n : ℕ) → length (ledgerWith B (B .phase a) (pageSent (B .pages (B .phase a)) a c v) ms .pages n .senders) ≡ length (B .pages n .senders) + hit n (some (B .phase a))
+      logs = update-all (λ n w. length (w .senders) ≡ length (B .pages n .senders) + hit n (some (B .phase a))) (B .pages) (B .phase a) (pageSent (B .pages (B .phase a)) a c v)
+          (omega (arith, length-snoc (B .pages (B .phase a) .senders) a, hit-same (B .phase a))) (λ n z. omega (arith, hit-other (B .phase a) n (λ q. z (sym q))))
+      sums : (n : ℕ) → sum (λ i. hit n (put ut sd (some (m .phase)) i)) 0 (suc sd) + takesIn (ledgerWith B (B .phase a) (pageSent (B .pages (B .phase a)) a c v) ms) n
+          ≡ length (ledgerWith B (B .phase a) (pageSent (B .pages (B .phase a)) a c v) ms .pages n .senders)
+      sums n = omega (arith, k .sums n, old n, new n, logs n, takes-same B a (pageSent (B .pages (B .phase a)) a c v) v ms refl tv n)
 
   -- a message is taken
-  pub marks-take : (ut : ℕ → Option ℕ) (sd : ℕ) (xs ys : List Item) (m : Item) (B : ABoard) → Marks ut sd (xs ++ m ∷ ys) B → IsWork m → (a c : ℕ) (v : Nd) (ms : List Msg) → c < P → m .phase ≡ B .ph c
-      → v .tal ta ≡ suc (seat B c .tal ta) → Marks (put ut (m .name) none) sd (xs ++ ys) (phased B (B .ph c) (tookPh (B .phases (B .ph c)) a c v) ms)
+  pub marks-take : (ut : ℕ → Option ℕ) (sd : ℕ) (xs ys : List Item) (m : Item) (B : Ledger) → Marks ut sd (xs ++ m ∷ ys) B → IsWork m → (a c : ℕ) (v : State) (ms : List Dated) → c < P → m .phase ≡ B .phase c
+      → v .tallies takenAll ≡ suc (stateOf B c .tallies takenAll) → Marks (put ut (m .name) none) sd (xs ++ ys) (ledgerWith B (B .phase c) (pageTaken (B .pages (B .phase c)) a c v) ms)
   marks-take ut sd xs ys m B k w a c v ms hc ph tv =
       record {
         tidy = λ i l. put-other ut (m .name) none i (omega (arith, mine .0)) ∙ k .tidy i l;
@@ -163,39 +163,39 @@ module _ (P : ℕ) where
       both : (zs : List Item) → All (Named ut sd) zs → All (λ k. IsWork m → IsWork k → k .name ≢ m .name) zs → All (Named (put ut (m .name) none) sd) zs
       both [] a b = tt
       both (z ∷ zs) a b = ((λ q. (a .0 q .0, put-other ut (m .name) none (z .name) (b .0 w q) ∙ a .0 q .1)), both zs (a .1) (b .1))
-      gone : (n : ℕ) → sum (λ i. hit n (put ut (m .name) none i)) 0 sd + hit n (some (B .ph c)) ≡ sum (λ i. hit n (ut i)) 0 sd
+      gone : (n : ℕ) → sum (λ i. hit n (put ut (m .name) none i)) 0 sd + hit n (some (B .phase c)) ≡ sum (λ i. hit n (ut i)) 0 sd
       gone n =
-          let e = sum-ext (λ i. hit n (put ut (m .name) none i)) (upd (λ i. hit n (ut i)) (m .name) 0) 0 sd (λ i x y. ap (hit n) (put-upd ut (m .name) none i) ∙ pull i) in
-          let s = sum-upd (λ i. hit n (ut i)) (m .name) 0 0 sd zero-le (omega (arith, mine .0)) in
-          let h : hit n (ut (m .name)) ≡ hit n (some (B .ph c)) = ap (hit n) (mine .1 ∙ ap some ph) in
+          let e = sum-ext (λ i. hit n (put ut (m .name) none i)) (update (λ i. hit n (ut i)) (m .name) 0) 0 sd (λ i x y. ap (hit n) (put-update ut (m .name) none i) ∙ pull i) in
+          let s = sum-update (λ i. hit n (ut i)) (m .name) 0 0 sd zero-le (omega (arith, mine .0)) in
+          let h : hit n (ut (m .name)) ≡ hit n (some (B .phase c)) = ap (hit n) (mine .1 ∙ ap some ph) in
           omega arith
         where
-          pull : (i : ℕ) → hit n (upd ut (m .name) none i) ≡ upd (λ i. hit n (ut i)) (m .name) 0 i
+          pull : (i : ℕ) → hit n (update ut (m .name) none i) ≡ update (λ i. hit n (ut i)) (m .name) 0 i
           pull i = go (ℕ-discrete i (m .name))
             where
               go : (d : Dec (i ≡ m .name)) → hit n (pick {A = Option ℕ} d none (ut i)) ≡ pick {A = ℕ} d 0 (hit n (ut i))
               go (yes d) = refl
               go (no d) = refl
-      took : (n : ℕ) → takesIn (phased B (B .ph c) (tookPh (B .phases (B .ph c)) a c v) ms) n ≡ takesIn B n + hit n (some (B .ph c))
+      took : (n : ℕ) → takesIn (ledgerWith B (B .phase c) (pageTaken (B .pages (B .phase c)) a c v) ms) n ≡ takesIn B n + hit n (some (B .phase c))
       took =
-          upd-all (λ n w. sum (λ y. w .nodes y .tal ta) 0 P ≡ takesIn B n + hit n (some (B .ph c))) (B .phases) (B .ph c) (tookPh (B .phases (B .ph c)) a c v)
-          (let s = sum-upd (λ y. B .phases (B .ph c) .nodes y .tal ta) c (v .tal ta) 0 P zero-le (omega arith) in
-            let e = sum-ext (λ y. upd (B .phases (B .ph c) .nodes) c v y .tal ta) (upd (λ y. B .phases (B .ph c) .nodes y .tal ta) c (v .tal ta)) 0 P (λ y x z. pull y) in
-            omega (arith, hit-same (B .ph c)))
-          (λ n z. omega (arith, hit-other (B .ph c) n (λ q. z (sym q))))
+          update-all (λ n w. sum (λ y. w .nodes y .tallies takenAll) 0 P ≡ takesIn B n + hit n (some (B .phase c))) (B .pages) (B .phase c) (pageTaken (B .pages (B .phase c)) a c v)
+          (let s = sum-update (λ y. B .pages (B .phase c) .nodes y .tallies takenAll) c (v .tallies takenAll) 0 P zero-le (omega arith) in
+            let e = sum-ext (λ y. update (B .pages (B .phase c) .nodes) c v y .tallies takenAll) (update (λ y. B .pages (B .phase c) .nodes y .tallies takenAll) c (v .tallies takenAll)) 0 P (λ y x z. pull y) in
+            omega (arith, hit-same (B .phase c)))
+          (λ n z. omega (arith, hit-other (B .phase c) n (λ q. z (sym q))))
         where
-          pull : (y : ℕ) → upd (B .phases (B .ph c) .nodes) c v y .tal ta ≡ upd (λ y. B .phases (B .ph c) .nodes y .tal ta) c (v .tal ta) y
+          pull : (y : ℕ) → update (B .pages (B .phase c) .nodes) c v y .tallies takenAll ≡ update (λ y. B .pages (B .phase c) .nodes y .tallies takenAll) c (v .tallies takenAll) y
           pull y = go (ℕ-discrete y c)
             where
-              go : (d : Dec (y ≡ c)) → pick {A = Nd} d v (B .phases (B .ph c) .nodes y) .tal ta ≡ pick {A = ℕ} d (v .tal ta) (B .phases (B .ph c) .nodes y .tal ta)
+              go : (d : Dec (y ≡ c)) → pick {A = State} d v (B .pages (B .phase c) .nodes y) .tallies takenAll ≡ pick {A = ℕ} d (v .tallies takenAll) (B .pages (B .phase c) .nodes y .tallies takenAll)
               go (yes d) = refl
               go (no d) = refl
-      sums : (n : ℕ) → sum (λ i. hit n (put ut (m .name) none i)) 0 sd + takesIn (phased B (B .ph c) (tookPh (B .phases (B .ph c)) a c v) ms) n
-          ≡ length (phased B (B .ph c) (tookPh (B .phases (B .ph c)) a c v) ms .phases n .log)
-      sums n = omega (arith, k .sums n, gone n, took n, ap length (log-same B (B .ph c) (tookPh (B .phases (B .ph c)) a c v) ms refl n))
+      sums : (n : ℕ) → sum (λ i. hit n (put ut (m .name) none i)) 0 sd + takesIn (ledgerWith B (B .phase c) (pageTaken (B .pages (B .phase c)) a c v) ms) n
+          ≡ length (ledgerWith B (B .phase c) (pageTaken (B .pages (B .phase c)) a c v) ms .pages n .senders)
+      sums n = omega (arith, k .sums n, gone n, took n, ap length (log-same B (B .phase c) (pageTaken (B .pages (B .phase c)) a c v) ms refl n))
 
   -- all of a phase taken: no mark of it is left
-  pub none-left : (ut : ℕ → Option ℕ) (sd : ℕ) (is : List Item) (B : ABoard) → Marks ut sd is B → (n : ℕ) → takesIn B n ≡ length (B .phases n .log) → (i : ℕ) → ut i ≢ some n
+  pub none-left : (ut : ℕ → Option ℕ) (sd : ℕ) (is : List Item) (B : Ledger) → Marks ut sd is B → (n : ℕ) → takesIn B n ≡ length (B .pages n .senders) → (i : ℕ) → ut i ≢ some n
   none-left ut sd is B k n e i q = go (decLt i sd)
     where
       ge : (f : ℕ → ℕ) (m : ℕ) → i < m → f i ≤ sum f 0 m

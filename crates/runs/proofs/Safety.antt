@@ -20,7 +20,7 @@ use Rattle.runs.specs.Board.{put, Load, work, frame, Item, Board, Event,
 use Rattle.runs.specs.Board.{without, gave, carries, afterSend, afterIdle, afterCall, offUnlessEarly, afterTake, afterFrame, delivered, deliveredOldest, step, after, run}
 use Rattle.runs.specs.Claim.{SendDone, TakeDone, takes, Leaves, Safe}
 use Rattle.cycle.proofs.Sums.{sum-zero}
-use Rattle.cycle.proofs.Multi.{Board as ABoard, begin, Reached, safe, Over}
+use Rattle.cycle.proofs.Ledger.{Ledger, opening, Reached, safe, Over}
 use Rattle.runs.proofs.Tools.{put-same, put-other}
 use Rattle.runs.proofs.Setting.{Setting, tree, dim-low, dim-pos}
 use Rattle.runs.proofs.Ways.{SendWay, send-way, TakeWay, take-way, IdleWay, idle-way, FrameWay, frame-way, CallWay, call-way}
@@ -29,7 +29,7 @@ use Rattle.runs.proofs.Sim.{Sim}
 use Rattle.runs.proofs.Marks.{none-left}
 use Rattle.runs.proofs.Played.{Played, Next}
 use Rattle.runs.proofs.Calling.{leave-next}
-use Rattle.runs.proofs.Delivering.{c, ha, job-of, not-behind, same-phase}
+use Rattle.runs.proofs.Delivering.{c, ha, message-of, not-behind, same-phase}
 use Rattle.runs.proofs.Steps.{next}
 
 done-not-refused : {A : Type 0} (x : ℕ) → refused x ≡ done → A
@@ -39,12 +39,12 @@ module _ {L : Limits} {P : ℕ} (setting : Setting L P) where
   abbrev pub p : ℕ
   p = dimension P
 
-  abbrev pub Rch : ABoard → Type 0
+  abbrev pub Rch : Ledger → Type 0
   Rch = Reached (tree setting) (fieldLimit L)
 
   pub begun : Played setting (start P)
   begun =
-      record { ledger = begin; reached = Reached.first;
+      record { ledger = opening; reached = Reached.first;
         sim = record { counts = λ y. refl;
           node = λ y q. record { nodes = refl; number = refl; phase = refl; pass = inl refl; low = dim-pos setting; sents = refl; takens = refl; firsts = refl; seconds = refl; like = like-fresh (dimension P) P y 0 refl (dim-low setting) };
           busy = λ y q. refl; items = tt;
@@ -52,7 +52,7 @@ module _ {L : Limits} {P : ℕ} (setting : Setting L P) where
           capped = λ n y q. zero-le };
         marks = record { tidy = λ i q. refl; sums = λ n. omega (arith, sum-zero 0 P); named = tt; apart = tt } }
 
-  pub begun-calm : (n : ℕ) → begun .ledger .phases n .lossy ≡ false
+  pub begun-calm : (n : ℕ) → begun .ledger .pages n .lossy ≡ false
   unfolding begun
   begun-calm n = refl
 
@@ -69,7 +69,7 @@ module _ {L : Limits} {P : ℕ} (setting : Setting L P) where
   -- ---- each clause, of a board that is played
 
   module _ (w : Board) (q : Played setting w) where
-    abbrev B : ABoard
+    abbrev B : Ledger
     B = q .ledger
 
     i : Sim setting w (q .ledger)
@@ -82,12 +82,12 @@ module _ {L : Limits} {P : ℕ} (setting : Setting L P) where
     node-busy : (a b : ℕ) → SendDone L P w a b → w .nodes a .busy ≡ true
     node-busy a b e = send-busy a b (send L (w .nodes a) b) (send-way L (w .nodes a) b) e
 
-    -- in a phase that somebody has left, a node is idle
+    -- in a phase that somebody hasStored left, a node is idle
     left-idle : (a n b : ℕ) → a < P → n < w .count a → b < P → w .count b ≡ n → w .nodes b .busy ≡ false
     left-idle a n b ha l hb′ e =
         let o = safe (tree setting) (fieldLimit L) (q .ledger) (q .reached) a n ha (omega (arith, i .counts a)) in
-        let z : n ≡ q .ledger .ph b = sym e ∙ i .counts b in
-        i .node b hb′ .like .busy ∙ subst (λ n. q .ledger .phases n .nodes b .busy ≡ false) z (o .idle b hb′)
+        let z : n ≡ q .ledger .phase b = sym e ∙ i .counts b in
+        i .node b hb′ .like .busy ∙ subst (λ n. q .ledger .pages n .nodes b .busy ≡ false) z (o .idle b hb′)
 
     -- what an event does to busy and count of a node
     data Change (e : Event) (a : ℕ) (w′ : Board) : Type 0 where
@@ -130,12 +130,12 @@ module _ {L : Limits} {P : ℕ} (setting : Setting L P) where
     off-change : (x b a n : ℕ) (m : Node) → Change (delivers x b) a (offUnlessEarly (gave w b m) x b n)
     off-change x b a n m = cases (Change (delivers x b) a) (eqb n 7) (gave w b m) (carries (gave w b m) (without x b (w .items))) (λ z. same refl) (λ z. same refl)
 
-    -- a message whose take is done is of the receiver's phase, and isNone has left that
+    -- a message whose take is done is of the receiver's phase, and isNone hasStored left that
     take-phase : (x b : ℕ) (m : Item) (byte : ℕ) (y : Given Outcome) → oldest x b (w .items) ≡ some m → m .load ≡ work byte → TakeWay L (w .nodes b) x byte y → y .answer ≡ done
         → (m .phase ≡ w .count b) × ((z : ℕ) → z < P → w .count z ≤ m .phase)
     take-phase x b m byte y old lw (TakeWay.refused n) e = done-not-refused n e
     take-phase x b m byte y old lw (TakeWay.accepted v a1 a2 df cap) e =
-        let j = job-of setting w q x b m old byte lw in
+        let j = message-of setting w q x b m old byte lw in
         (same-phase setting w q x b m old byte lw (j .0) (j .1) df ∙ sym (i .counts b),
           λ z h. omega (arith, not-behind setting w q x b m old byte lw (j .0) (j .1) z h, i .counts z))
 
@@ -155,7 +155,7 @@ module _ {L : Limits} {P : ℕ} (setting : Setting L P) where
     frame-change : (x b a : ℕ) (bs : List ℕ) (y : Given Outcome) → FrameWay L (w .nodes b) bs y → Change (delivers x b) a (afterFrame (gave w b (y .node)) x b (y .answer))
     frame-change x b a bs y (FrameWay.refused n) = off-change x b a n (w .nodes b)
     frame-change x b a bs y (FrameWay.late d) = same refl
-    frame-change x b a bs y (FrameWay.accepted v re aw d) = same refl
+    frame-change x b a bs y (FrameWay.accepted v re awaitedIn d) = same refl
 
     deliver-change : (x b a : ℕ) (o : Option Item) → oldest x b (w .items) ≡ o → Change (delivers x b) a (deliveredOldest L P w x b o)
     deliver-change x b a none e = same refl
@@ -206,17 +206,17 @@ module _ {L : Limits} {P : ℕ} (setting : Setting L P) where
         n′ = freshIn (w .nodes a .nodes) (w .nodes a .number) ((w .nodes a .phase + 1) % 256)
         nx : Next setting w q (calls a len) (record { nodes = put (w .nodes) a (freshIn (w .nodes a .nodes) (w .nodes a .number) ((w .nodes a .phase + 1) % 256)); items = w .items; count = put (w .count) a (suc (w .count a)); busy = put (w .busy) a true; untaken = w .untaken; sends = w .sends })
         nx = leave-next setting w q a h len b m g (omega (arith, ap dimension (i .node a h .nodes), i .node a h .low, d)) (two (i .node a h .pass))
-        up : nx .played .ledger .ph a ≡ suc (w .count a)
+        up : nx .played .ledger .phase a ≡ suc (w .count a)
         up = sym (nx .played .sim .counts a) ∙ put-same (w .count) a (suc (w .count a))
         o : Over (tree setting) (fieldLimit L) (nx .played .ledger) (w .count a)
         o = safe (tree setting) (fieldLimit L) (nx .played .ledger) (nx .played .reached) a (w .count a) h (omega (arith, up))
-        stays : (x : ℕ) → x ≢ a → nx .played .ledger .ph x ≡ w .count x
+        stays : (x : ℕ) → x ≢ a → nx .played .ledger .phase x ≡ w .count x
         stays x z = sym (nx .played .sim .counts x) ∙ put-other (w .count) a (suc (w .count a)) x z
         idles′ : (x : ℕ) → x < P → w .count x ≡ w .count a → Dec (x ≡ a) → w .busy x ≡ false
         idles′ x hx z (yes s) = sym (i .busy x hx) ∙ ap (λ x. w .nodes x .busy) s ∙ b
         idles′ x hx z (no s) =
             sym (i .busy x hx) ∙ sym (ap (λ (n : Node). n .busy) (put-other (w .nodes) a n′ x s)) ∙ nx .played .sim .node x hx .like .busy
-            ∙ subst (λ n. nx .played .ledger .phases n .nodes x .busy ≡ false) (sym z ∙ sym (stays x s)) (o .idle x hx)
+            ∙ subst (λ n. nx .played .ledger .pages n .nodes x .busy ≡ false) (sym z ∙ sym (stays x s)) (o .idle x hx)
         reach : (x : ℕ) → x < P → Dec (x ≡ a) → w .count a ≤ w .count x
         reach x hx (yes s) = let z : w .count x ≡ w .count a = ap (w .count) s in omega arith
         reach x hx (no s) = omega (arith, o .reached x hx, stays x s)
@@ -239,6 +239,6 @@ module _ {L : Limits} {P : ℕ} (setting : Setting L P) where
           leftSend = λ a h n l b x hx e d. clash (sym (node-busy b x d) ∙ left-idle a n b h l hx e);
           leftTake = left-take }
 
-  -- FOR EVERY RUN, of two nodes and more
+  -- FOR EVERY RUN, of two nodes and oneMore
   pub every-run-safe : (es : List Event) → Safe L P (run L P es)
   every-run-safe es = is-safe (run L P es) (played es)

@@ -11,7 +11,7 @@ use Rattle.cycle.proofs.Tree.{Tree}
 use Rattle.cycle.proofs.Partners.{partners, await-is, hear as hear-of, receivers-await as receivers-await-of}
 use Rattle.cycle.proofs.Partners.{Has, shell-ok as shell-of}
 use Rattle.cycle.proofs.Lists.{All}
-use Rattle.cycle.proofs.One.{Shell}
+use Rattle.cycle.proofs.OnePhase.{Shell}
 use Rattle.tree.proofs.Dimension.{smallest, positive}
 use Rattle.tree.proofs.Distances.{distance-below}
 
@@ -31,13 +31,13 @@ module _ {L : Limits} {P : ℕ} (setting : Setting L P) where
   pub dim-pos : 0 < dimension P
   dim-pos = positive P (setting .two)
 
-  pub awaited-is : (k a : ℕ) → awaited P k a ≡ tree .await k a
+  pub awaited-is : (k a : ℕ) → awaited P k a ≡ tree .awaited k a
   awaited-is k a = sym (await-is P (setting .two) k a)
 
-  pub hear : (k a c : ℕ) → c < P → tree .await k c ≡ some a → Has (receivers P k a) c
+  pub hear : (k a c : ℕ) → c < P → tree .awaited k c ≡ some a → Has (receivers P k a) c
   hear k a c h e = hear-of P (setting .two) k a c h e
 
-  pub receivers-await : (k a : ℕ) → a < P → All (λ c. (c < P) × (tree .await k c ≡ some a)) (receivers P k a)
+  pub receivers-await : (k a : ℕ) → a < P → All (λ c. (c < P) × (tree .awaited k c ≡ some a)) (receivers P k a)
   receivers-await k a h = receivers-await-of P (setting .two) k a h
 
   pub shell-ok : (a b : ℕ) → a < P → b < P → a ≢ b → Shell tree a b (distance P a b)

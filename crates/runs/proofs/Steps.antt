@@ -12,16 +12,16 @@ use Rattle.node.specs.Calls.{send, idle}
 use Rattle.node.specs.Barrier.{barrier}
 use Rattle.runs.specs.Board.{Item, Board, Event, sends, idles, calls}
 use Rattle.runs.specs.Board.{delivers, loses, oldest, lessOne, carries, step}
-use Rattle.cycle.proofs.Sums.{upd, upd-all, sum}
+use Rattle.cycle.proofs.Sums.{update, update-all, sum}
 use Rattle.cycle.proofs.Lists.{All}
-use Rattle.cycle.proofs.Heart.{ta}
-use Rattle.cycle.proofs.Multi.{Msg, Ph, Board as ABoard, Reached}
-use Rattle.cycle.proofs.Window.{Move, win-keeps}
-use Rattle.cycle.proofs.Acts.{phased, lostPh, act-lose}
+use Rattle.cycle.proofs.Exact.{takenAll}
+use Rattle.cycle.proofs.Ledger.{Dated, Page, Ledger, Reached}
+use Rattle.cycle.proofs.Window.{Move, window-keeps}
+use Rattle.cycle.proofs.Events.{ledgerWith, pageLost, act-lose}
 use Rattle.runs.proofs.Setting.{Setting, tree}
 use Rattle.runs.proofs.Ways.{send-way, idle-way, call-way}
 use Rattle.runs.proofs.Pairs.{Pair, pair-append, Cut, cut, Lost, lost}
-use Rattle.runs.proofs.Sim.{has, aw, Carried, Sim, carried}
+use Rattle.runs.proofs.Sim.{hasStored, awaitedIn, Carried, Sim, carried}
 use Rattle.runs.proofs.Marks.{Named, Apart, Marks, marks-same, less-named, less-apart, log-same}
 use Rattle.runs.proofs.Played.{Played, Next, Mishap, stay}
 use Rattle.runs.proofs.Sending.{idle-next, send-next}
@@ -32,7 +32,7 @@ module _ {L : Limits} {P : ℕ} (setting : Setting L P) (w : Board) (play : Play
   abbrev p : ℕ
   p = dimension P
 
-  abbrev ledger : ABoard
+  abbrev ledger : Ledger
   ledger = play .ledger
 
   abbrev reached : Reached (tree setting) (fieldLimit L) (play .ledger)
@@ -49,20 +49,20 @@ module _ {L : Limits} {P : ℕ} (setting : Setting L P) (w : Board) (play : Play
   lose-next : (j : ℕ) (l : List Item) → Lost (w .items) l → Next setting w play (loses j) (carries w l)
   lose-next j l Lost.nothing = stay setting w play (loses j)
   lose-next j l (Lost.one pre post m e) =
-      record { played = record { ledger = phased ledger (c .one .ph) u ms; reached = Reached.next ledger _ reached (act-lose (tree setting) (fieldLimit L) ledger reached (c .pre) (c .post) (c .one .ph) (c .one .it .from) (c .one .it .dest) (c .one .it .load) (c .whole));
-        sim = carried setting w ledger sim (pre ++ post) ms (pair-append (Carried setting) pre post (c .pre) (c .post) (c .before) (c .after)) (upd (ledger .phases) (c .one .ph) u)
-          (λ n y. upd-all (λ n w. w .nodes y ≡ ledger .phases n .nodes y) (ledger .phases) (c .one .ph) u refl (λ n z. refl) n)
-          (win-keeps (aw setting) (ledger .ph) (has ledger) (ledger .msgs) (ledger .ph) (has ledger) ms (Move.off (c .pre) (c .post) (c .one) (c .whole)) (sim .win)) (w .untaken) (w .sends);
-        marks = marks-same P (w .untaken) (w .sends) (w .items) (pre ++ post) ledger (phased ledger (c .one .ph) u ms) marks
+      record { played = record { ledger = ledgerWith ledger (c .one .phase) u ms; reached = Reached.next ledger _ reached (act-lose (tree setting) (fieldLimit L) ledger reached (c .pre) (c .post) (c .one .phase) (c .one .item .from) (c .one .item .to) (c .one .item .load) (c .whole));
+        sim = carried setting w ledger sim (pre ++ post) ms (pair-append (Carried setting) pre post (c .pre) (c .post) (c .before) (c .after)) (update (ledger .pages) (c .one .phase) u)
+          (λ n y. update-all (λ n w. w .nodes y ≡ ledger .pages n .nodes y) (ledger .pages) (c .one .phase) u refl (λ n z. refl) n)
+          (window-keeps (awaitedIn setting) (ledger .phase) (hasStored ledger) (ledger .items) (ledger .phase) (hasStored ledger) ms (Move.off (c .pre) (c .post) (c .one) (c .whole)) (sim .win)) (w .untaken) (w .sends);
+        marks = marks-same P (w .untaken) (w .sends) (w .items) (pre ++ post) ledger (ledgerWith ledger (c .one .phase) u ms) marks
           (less-named P (w .untaken) (w .sends) pre post m (subst (All (Named (w .untaken) (w .sends))) e (marks .named))) (less-apart P pre post m (subst Apart e (marks .apart)))
-          (upd-all (λ n w. sum (λ y. w .nodes y .tal ta) 0 P ≡ sum (λ y. ledger .phases n .nodes y .tal ta) 0 P) (ledger .phases) (c .one .ph) u refl (λ n z. refl)) (log-same P ledger (c .one .ph) u ms refl) };
+          (update-all (λ n w. sum (λ y. w .nodes y .tallies takenAll) 0 P ≡ sum (λ y. ledger .pages n .nodes y .tallies takenAll) 0 P) (ledger .pages) (c .one .phase) u refl (λ n z. refl)) (log-same P ledger (c .one .phase) u ms refl) };
         calm = inr (Mishap.loss j) }
     where
-      c : Cut (Carried setting) pre post m (ledger .msgs)
-      c = cut (Carried setting) pre post m (ledger .msgs) (subst (λ l. Pair (Carried setting) l (ledger .msgs)) e (sim .items))
-      u : Ph
-      u = lostPh (ledger .phases (c .one .ph))
-      ms : List Msg
+      c : Cut (Carried setting) pre post m (ledger .items)
+      c = cut (Carried setting) pre post m (ledger .items) (subst (λ l. Pair (Carried setting) l (ledger .items)) e (sim .items))
+      u : Page
+      u = pageLost (ledger .pages (c .one .phase))
+      ms : List Dated
       ms = c .pre ++ c .post
 
   -- ---- every event

@@ -12,7 +12,7 @@ use Rattle.base.specs.Choice.{choose, list}
 use Rattle.base.proofs.Laws.{choose-yes, choose-no, cases}
 use Rattle.node.specs.Sums.{total}
 use Rattle.runs.specs.Board.{put}
-use Rattle.cycle.proofs.Sums.{choose as pick, upd, sum}
+use Rattle.cycle.proofs.Sums.{pick, update, sum}
 
 -- a choice by a test and one by a decision
 pub bridge : {A B : Type 0} (t : Bool) (d : Dec B) (x y u v : A) → (t ≡ true → B) → (t ≡ false → B → ⊥)
@@ -35,8 +35,8 @@ pub put-all : {A : Type 0} (F : ℕ → A → Type 0) (f : ℕ → A) (i : ℕ) 
 put-all F f i v at rest j =
     cases (F j) (eqb j i) v (f j) (λ e. subst (λ k. F k v) (sym (eqb-true j i e)) at) (λ e. rest j (eqb-false j i e))
 
-pub put-upd : {A : Type 0} (f : ℕ → A) (i : ℕ) (v : A) (j : ℕ) → put f i v j ≡ upd f i v j
-put-upd f i v j =
+pub put-update : {A : Type 0} (f : ℕ → A) (i : ℕ) (v : A) (j : ℕ) → put f i v j ≡ update f i v j
+put-update f i v j =
     bridge (eqb j i) (ℕ-discrete j i) v (f j) v (f j) (eqb-true j i) (eqb-false j i) (λ b. refl) (λ n. refl)
 
 -- ---- listed values and sums
