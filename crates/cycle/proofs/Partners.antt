@@ -60,14 +60,14 @@ partners P confirming =
     }
 
 -- c stands somewhere in the list
-abbrev pub Has : List ℕ → ℕ → Type 0
-Has rs c = (xs : List ℕ) × ((ys : List ℕ) × (rs ≡ xs ++ c ∷ ys))
+abbrev pub Among : List ℕ → ℕ → Type 0
+Among rs c = (xs : List ℕ) × ((ys : List ℕ) × (rs ≡ xs ++ c ∷ ys))
 
-has : (c : ℕ) (rs : List ℕ) → List·Memᴰ c rs → Has rs c
-has c [] m = absurd (List·Memᴰ·not-nil m)
-has c (r ∷ rs) m = go (List·Memᴰ·cases-cons m) (has c rs)
+among : (c : ℕ) (rs : List ℕ) → List·Memᴰ c rs → Among rs c
+among c [] m = absurd (List·Memᴰ·not-nil m)
+among c (r ∷ rs) m = go (List·Memᴰ·cases-cons m) (among c rs)
   where
-    go : (c ≡ r) ⊎ List·Memᴰ c rs → (List·Memᴰ c rs → Has rs c) → Has (r ∷ rs) c
+    go : (c ≡ r) ⊎ List·Memᴰ c rs → (List·Memᴰ c rs → Among rs c) → Among (r ∷ rs) c
     go (inl e) h = ([], (rs, ap (λ x. x ∷ rs) (sym e)))
     go (inr n) h = let q = h n in (r ∷ q .0, (q .1 .0, ap (λ l. r ∷ l) (q .1 .1)))
 
@@ -81,8 +81,8 @@ module _ (P : ℕ) (confirming : 2 ≤ P) where
   await-is k a = refl
 
   -- whoever awaits a hears a
-  pub hear : (k a c : ℕ) → c < P → partners P confirming .awaited k c ≡ some a → Has (receivers P k a) c
-  hear k a c h e = has c (receivers P k a) (awaits-receives P k a c h (sym (await-is k c) ∙ e))
+  pub hear : (k a c : ℕ) → c < P → partners P confirming .awaited k c ≡ some a → Among (receivers P k a) c
+  hear k a c h e = among c (receivers P k a) (awaits-receives P k a c h (sym (await-is k c) ∙ e))
 
   pub receivers-await : (k a : ℕ) → a < P
       → All (λ c. (c < P) × (partners P confirming .awaited k c ≡ some a)) (receivers P k a)

@@ -18,7 +18,7 @@ use Rattle.node.specs.Sums.{allTaken, dims, tally, own}
 use Rattle.node.specs.Agree.{isNone}
 use Rattle.node.specs.State.{valid}
 use Rattle.node.specs.Change.{freshIn}
-use Rattle.node.specs.Answers.{Given, Outcome, refused, Barrier, waits, left}
+use Rattle.node.specs.Answers.{Given, Outcome, done, refused, Barrier, waits, left}
 use Rattle.node.specs.Calls.{send, take, idle, frameIn, gotten}
 use Rattle.node.specs.Barrier.{frameDue, receiversDue, barrier}
 use Rattle.node.specs.declared.Node.{Node}
@@ -37,7 +37,7 @@ use Rattle.cycle.proofs.Events.{stateOf}
 use Rattle.runs.proofs.Tools.{put-all}
 use Rattle.frame.proofs.RoundTripAccepted.{Read}
 use Rattle.runs.proofs.Setting.{Setting, tree, dim-low, dim-pos, awaited-is, receivers-await, shell-lt}
-use Rattle.runs.proofs.Ways.{SendWay, send-way, TakeWay, take-way, IdleWay, idle-way, FrameWay, frame-way, CallWay, call-way, fieldsIn}
+use Rattle.node.proofs.Ways.{SendWay, send-way, TakeWay, take-way, IdleWay, idle-way, FrameWay, frame-way, CallWay, call-way, frameOf as fieldsIn}
 use Rattle.runs.proofs.Pairs.{Found, found}
 use Rattle.runs.proofs.Sim.{awaitedIn, awaited-below, Holds, Says}
 use Rattle.runs.proofs.Emit.{dim-step, emitted-read}
@@ -107,8 +107,8 @@ module _ {L : Limits} {P : ℕ} (setting : Setting L P) where
     same-tidy a = put-all (λ y n. y < P → Tidy L P n) (w .nodes) a (w .nodes a) (λ h. k .tidy a h) (λ y z h. k .tidy y h)
 
     send-kept : (a b : ℕ) → a < P → (y : Given Outcome) → SendWay L (w .nodes a) b y → Kept (afterSend (gave w a (y .node)) a b (y .answer))
-    send-kept a b h y (SendWay.refused x) = record { tidy = same-tidy a; fine = k .fine }
-    send-kept a b h y (SendWay.accepted v b1 b2 bu ca) =
+    send-kept a b h y (SendWay.refused x s) = record { tidy = same-tidy a; fine = k .fine }
+    send-kept a b h y (SendWay.done v b1 b2 bu ca) =
         record { tidy = put-tidy a _ (tidy-sent L P (w .nodes a) (k .tidy a h) (hold a h .nodes) (distance (w .nodes a .nodes) (w .nodes a .number) b) jp (hold a h .sents) (dim-low setting) ca);
           fine = all-append (Fine L P) (w .items) _ (k .fine) ((ne, tt), tt) }
       where
@@ -122,15 +122,15 @@ module _ {L : Limits} {P : ℕ} (setting : Setting L P) where
         jp = omega (arith, j-is, shell-lt setting a b h hb′ ne)
 
     idle-kept : (a : ℕ) → a < P → (y : Given Outcome) → IdleWay L (w .nodes a) y → Kept (afterIdle (gave w a (y .node)) a (y .answer))
-    idle-kept a h y (IdleWay.refused x) = record { tidy = same-tidy a; fine = k .fine }
-    idle-kept a h y (IdleWay.accepted v) = record { tidy = put-tidy a _ (tidy-idle L P (w .nodes a) (k .tidy a h) (hold a h .nodes)); fine = k .fine }
+    idle-kept a h y (IdleWay.refused x s) = record { tidy = same-tidy a; fine = k .fine }
+    idle-kept a h y (IdleWay.done v) = record { tidy = put-tidy a _ (tidy-idle L P (w .nodes a) (k .tidy a h) (hold a h .nodes)); fine = k .fine }
 
     fresh-tidy : (a : ℕ) → a < P → (ph : ℕ) → Tidy L P (freshIn (w .nodes a .nodes) (w .nodes a .number) ph)
     fresh-tidy a h ph = subst (λ P′. Tidy L P (freshIn P′ (w .nodes a .number) ph)) (sym (hold a h .nodes)) (tidy-fresh L P (w .nodes a .number) ph (dim-low setting))
 
-    call-kept : (a : ℕ) → a < P → (y : Given Barrier) → CallWay L (w .nodes a) y → Kept (afterCall (gave w a (y .node)) a (w .nodes a) (y .answer))
-    call-kept a h y (CallWay.refused x) = record { tidy = same-tidy a; fine = k .fine }
-    call-kept a h y (CallWay.sends v b) =
+    call-kept : (a len : ℕ) → a < P → (y : Given Barrier) → CallWay L (w .nodes a) len y → Kept (afterCall (gave w a (y .node)) a (w .nodes a) (y .answer))
+    call-kept a len h y (CallWay.refused x s) = record { tidy = same-tidy a; fine = k .fine }
+    call-kept a len h y (CallWay.sends first rest v b fl e ro) =
         record { tidy = put-tidy a _ (tidy-at L P (w .nodes a) (k .tidy a h) (hold a h .nodes) (w .nodes a .pass) (w .nodes a .dim) false (w .nodes a .agreed) b (k .tidy a h .no-total));
           fine = all-append (Fine L P) (w .items) (posted a (frameBytes (dims (w .nodes a)) (frameDue (w .nodes a))) (w .count a) (receiversDue (w .nodes a))) (k .fine) (new (receiversDue (w .nodes a)) awaiting) }
       where
@@ -145,14 +145,14 @@ module _ {L : Limits} {P : ℕ} (setting : Setting L P) where
         new : (l : List ℕ) → All (λ c. (c < P) × (T .awaited (w .nodes a .dim) c ≡ some a)) l → All (Fine L P) (posted a (frameBytes (dims (w .nodes a)) (frameDue (w .nodes a))) (w .count a) l)
         new [] g = tt
         new (x ∷ l) g = (((λ z. not-self (w .nodes a .dim) a (hold a h .low) h (subst (λ c. T .awaited (w .nodes a .dim) c ≡ some a) (sym z) (g .0 .1))), bytes), new l (g .1))
-    call-kept a h y (CallWay.waits b m) =
+    call-kept a len h y (CallWay.waits v b m z g) =
         record { tidy = put-tidy a _ (tidy-at L P (w .nodes a) (k .tidy a h) (hold a h .nodes) (w .nodes a .pass) (w .nodes a .dim) false (w .nodes a .agreed) b (k .tidy a h .no-total)); fine = k .fine }
-    call-kept a h y (CallWay.next b m g d) =
+    call-kept a len h y (CallWay.next v b m g d) =
         record { tidy = put-tidy a _ (tidy-at L P (w .nodes a) (k .tidy a h) (hold a h .nodes) (w .nodes a .pass) (suc (w .nodes a .dim)) true (w .nodes a .agreed) b (k .tidy a h .no-total)); fine = k .fine }
-    call-kept a h y (CallWay.second b m g d e) =
+    call-kept a len h y (CallWay.second v b m z g d e) =
         record { tidy = put-tidy a _ (tidy-at L P (w .nodes a) (k .tidy a h) (hold a h .nodes) 2 0 true (own (w .nodes a) (dims (w .nodes a)) allTaken) b (λ z. absurd (omega arith))); fine = k .fine }
-    call-kept a h y (CallWay.leaves b m g d e) = record { tidy = put-tidy a _ (fresh-tidy a h _); fine = k .fine }
-    call-kept a h y (CallWay.single b d) = record { tidy = put-tidy a _ (fresh-tidy a h _); fine = k .fine }
+    call-kept a len h y (CallWay.leaves v b m z g d e) = record { tidy = put-tidy a _ (fresh-tidy a h _); fine = k .fine }
+    call-kept a len h y (CallWay.single v b d) = record { tidy = put-tidy a _ (fresh-tidy a h _); fine = k .fine }
 
     -- ---- deliveries
 
@@ -179,8 +179,8 @@ module _ {L : Limits} {P : ℕ} (setting : Setting L P) where
       off-kept x = cases Kept (eqb x 7) _ _ (λ z. record { tidy = same-tidy b; fine = k .fine }) (λ z. record { tidy = same-tidy b; fine = off-fine })
 
       take-kept : (byte : ℕ) (y : Given Outcome) → TakeWay L (w .nodes b) a byte y → Kept (afterTake (gave w b (y .node)) a b m (y .answer))
-      take-kept byte y (TakeWay.refused x) = off-kept x
-      take-kept byte y (TakeWay.accepted v a1 a2 df ca) =
+      take-kept byte y (TakeWay.refused x s) = off-kept x
+      take-kept byte y (TakeWay.done v a1 a2 df ca) =
           record { tidy = put-tidy b _ (tidy-taken L P (w .nodes b) (k .tidy b lb) (hold b lb .nodes) (distance (w .nodes b .nodes) (w .nodes b .number) a) jp (hold b lb .takens) (dim-low setting) ca); fine = off-fine }
         where
           j-is : distance P b a ≡ distance (w .nodes b .nodes) (w .nodes b .number) a
@@ -193,9 +193,11 @@ module _ {L : Limits} {P : ℕ} (setting : Setting L P) where
           subst (λ N. Read L N bs (fieldsOf (dimension N) bs)) (sym (hold b lb .nodes)) (subst (FineLoad L P) lf (fine-parts .0 .1))
 
       frame-kept : (bs : List ℕ) → m .load ≡ frame bs → (y : Given Outcome) → FrameWay L (w .nodes b) bs y → Kept (afterFrame (gave w b (y .node)) a b (y .answer))
-      frame-kept bs lf y (FrameWay.refused x) = off-kept x
-      frame-kept bs lf y (FrameWay.late d) = record { tidy = same-tidy b; fine = off-fine }
-      frame-kept bs lf y (FrameWay.accepted v re awt d) = record { tidy = put-tidy b _ got; fine = off-fine }
+      frame-kept bs lf y (FrameWay.refused x s) = off-kept x
+      frame-kept bs lf y (FrameWay.early co d) = off-kept 7
+      frame-kept bs lf y (FrameWay.foreign co d u v) = off-kept 8
+      frame-kept bs lf y (FrameWay.late co d) = record { tidy = same-tidy b; fine = off-fine }
+      frame-kept bs lf y (FrameWay.done co d) = record { tidy = put-tidy b _ got; fine = off-fine }
         where
           n : Node
           n = w .nodes b
@@ -204,7 +206,7 @@ module _ {L : Limits} {P : ℕ} (setting : Setting L P) where
           got =
               subst (λ N. Tidy L N (gotten n (fieldsIn L n bs))) (hold b lb .nodes)
               (tidy-gotten L n (subst (λ N. Tidy L N n) (sym (hold b lb .nodes)) (k .tidy b lb)) (fieldsIn L n bs)
-              (re .accepted) (omega (arith, dims-is b lb, dim-low setting)) (hold b lb .firsts) (hold b lb .seconds) (ap isNone awt))
+              (co .read .accepted) (omega (arith, dims-is b lb, dim-low setting)) (hold b lb .firsts) (hold b lb .seconds) (ap isNone (co .awaits)))
 
       -- ---- nothing is refused but for being early
 
@@ -239,7 +241,7 @@ module _ {L : Limits} {P : ℕ} (setting : Setting L P) where
 
         no-bad-frame : (bs : List ℕ) (x : ℕ) → m .load ≡ frame bs → frameIn L (w .nodes b) bs .answer ≡ refused x → x ≢ 7 → ⊥
         no-bad-frame bs x lf ans ne =
-            ne (frame-clear L (w .nodes b) bs (valid-at b lb) (fine-bytes bs lf) (λ z. apart (sym from-a ∙ z ∙ hold b lb .number)) awt x diffs ans)
+            ne (frame-clear L (w .nodes b) bs (record { ok = valid-at b lb; read = fine-bytes bs lf; other = λ z. apart (sym from-a ∙ z ∙ hold b lb .number); awaits = awt }) x diffs ans)
           where
             n : (t : ℕ) × ((x : Entries) × ((c setting w q a b m e .one .item .load ≡ report t x) × Says setting (m .from) (m .phase) (fieldsOf p bs) t x))
             n = report-of setting w q a b m e bs lf
@@ -288,7 +290,7 @@ module _ {L : Limits} {P : ℕ} (setting : Setting L P) where
     unfolding step
     kept-step (sends a b) l = cases Kept (ltb a P) _ _ (λ z. send-kept a b (ltb-true a P z) (send L (w .nodes a) b) (send-way L (w .nodes a) b)) (λ z. k)
     kept-step (idles a) l = cases Kept (ltb a P) _ _ (λ z. idle-kept a (ltb-true a P z) (idle L (w .nodes a)) (idle-way L (w .nodes a))) (λ z. k)
-    kept-step (calls a len) l = cases Kept (ltb a P) _ _ (λ z. call-kept a (ltb-true a P z) (barrier L (w .nodes a) len) (call-way L (w .nodes a) len)) (λ z. k)
+    kept-step (calls a len) l = cases Kept (ltb a P) _ _ (λ z. call-kept a len (ltb-true a P z) (barrier L (w .nodes a) len) (call-way L (w .nodes a) len)) (λ z. k)
     kept-step (delivers a b) l = deliver-kept a b (oldest a b (w .items)) refl
     kept-step (loses j) l = absurd l
 

@@ -25,17 +25,18 @@ use Rattle.cycle.proofs.OnePhase.{report, State, posts, frameOf, dimOf, Unheard
 use Rattle.cycle.proofs.Opening.{fresh}
 use Rattle.cycle.proofs.Ledger.{Dated, Page, Ledger, Reached, invariant, within-one}
 use Rattle.cycle.proofs.Window.{Window, Move, window-keeps}
-use Rattle.cycle.proofs.Partners.{Has}
+use Rattle.cycle.proofs.Partners.{Among}
 use Rattle.cycle.proofs.Dating.{dated}
 use Rattle.cycle.proofs.Events.{stateOf, pageWith, act-wait, act-move, act-leave, act-put}
 use Rattle.runs.proofs.Tools.{put-same, put-other, put-all}
 use Rattle.runs.proofs.Setting.{Setting, tree, dim-low, dim-pos, awaited-is, hear, receivers-await}
-use Rattle.runs.proofs.Ways.{CallWay, Mute}
+use Rattle.node.proofs.Ways.{CallWay, NoneDue}
 use Rattle.runs.proofs.View.{view, own-is, own-like, agree-like, agree-first, agree-second, like-at, like-fresh}
 use Rattle.runs.proofs.Pairs.{Pair, pair-append}
 use Rattle.runs.proofs.Sim.{isSome, hasStored, window-same, awaitedIn, awaited-in, awaited-below, Holds, Says, Carried, Sim, stored-same}
 use Rattle.runs.proofs.Marks.{Marks, marks-same, frames-named, frames-apart, takes-same, log-same}
-use Rattle.runs.proofs.Emit.{step-first, step-second, dim-step, emitted}
+use Rattle.node.proofs.Valid.{step-first, step-second}
+use Rattle.runs.proofs.Emit.{dim-step, emitted}
 use Rattle.runs.proofs.Played.{Played, Next, lossy-same, held, turned-to, turns-still, hold, dims-is}
 
 next-byte : (c : ℕ) → (c % 256 + 1) % 256 ≡ suc c % 256
@@ -69,7 +70,7 @@ module _ {L : Limits} {P : ℕ} (setting : Setting L P) (w : Board) (play : Play
     rest-of : w .nodes a .busy ≡ false → stateOf ledger a .busy ≡ false
     rest-of b = sym (hold setting w play a h .like .busy) ∙ b
 
-    no-one : (c : ℕ) (rs : List ℕ) → rs ≡ [] → Has rs c → ⊥
+    no-one : (c : ℕ) (rs : List ℕ) → rs ≡ [] → Among rs c → ⊥
     no-one c rs e k = go (k .0) (sym (k .1 .1) ∙ e)
       where
         go : (xs : List ℕ) → xs ++ c ∷ k .1 .0 ≡ [] → ⊥
@@ -79,11 +80,11 @@ module _ {L : Limits} {P : ℕ} (setting : Setting L P) (w : Board) (play : Play
     rcv-is : receivers (w .nodes a .nodes) (w .nodes a .dim) (w .nodes a .number) ≡ receivers P (w .nodes a .dim) a
     rcv-is = rw (hold setting w play a h .nodes, hold setting w play a h .number) refl
 
-    heard-by : (c : ℕ) → c < P → (tree setting) .awaited (dimOf p (stateOf ledger a .step)) c ≡ some a → Has (receivers (w .nodes a .nodes) (w .nodes a .dim) (w .nodes a .number)) c
+    heard-by : (c : ℕ) → c < P → (tree setting) .awaited (dimOf p (stateOf ledger a .step)) c ≡ some a → Among (receivers (w .nodes a .nodes) (w .nodes a .dim) (w .nodes a .number)) c
     heard-by c hc q =
-        subst (λ rs. Has rs c) (sym rcv-is) (hear setting (w .nodes a .dim) a c hc (subst (λ d. (tree setting) .awaited d c ≡ some a) dim-at q))
+        subst (λ rs. Among rs c) (sym rcv-is) (hear setting (w .nodes a .dim) a c hc (subst (λ d. (tree setting) .awaited d c ≡ some a) dim-at q))
 
-    pub mute-of : Mute L (w .nodes a) → (stateOf ledger a .flag ≡ false) ⊎ Unheard (tree setting) a (stateOf ledger a .step)
+    pub mute-of : NoneDue L (w .nodes a) → (stateOf ledger a .flag ≡ false) ⊎ Unheard (tree setting) a (stateOf ledger a .step)
     mute-of (inl f) = inl (sym (hold setting w play a h .like .flag) ∙ f)
     mute-of (inr e) = inr (λ c hc q. no-one c _ e (heard-by c hc q))
 
@@ -148,7 +149,7 @@ module _ {L : Limits} {P : ℕ} (setting : Setting L P) (w : Board) (play : Play
     pair-posts bs s x (c ∷ rs) b q = (record { from = refl; to = refl; phase = sim .counts a; from-lt = h; to-lt = q .0 .0; load = b }, pair-posts bs s x rs b (q .1))
 
     -- the node leaves
-    pub leave-next : (len : ℕ) → w .nodes a .busy ≡ false → Mute L (w .nodes a) → agrees L (w .nodes a) (w .nodes a .pass) (w .nodes a .dim) ≡ true → suc (w .nodes a .dim) ≡ p → w .nodes a .pass ≡ 2
+    pub leave-next : (len : ℕ) → w .nodes a .busy ≡ false → NoneDue L (w .nodes a) → agrees L (w .nodes a) (w .nodes a .pass) (w .nodes a .dim) ≡ true → suc (w .nodes a .dim) ≡ p → w .nodes a .pass ≡ 2
         → Next setting w play (calls a len) (record { nodes = put (w .nodes) a (freshIn (w .nodes a .nodes) (w .nodes a .number) ((w .nodes a .phase + 1) % 256)); items = w .items; count = put (w .count) a (suc (w .count a)); busy = put (w .busy) a true; untaken = w .untaken; sends = w .sends })
     leave-next len b m g d pa =
         record { played = record { ledger = after; reached = Reached.next ledger after reached (act-leave (tree setting) (fieldLimit L) ledger reached a (stateOf ledger a .agreed) h (rest-of b) (mute-of m) (agree-of g) (λ q. refl) (λ q. absurd (omega (arith, at-is))) (omega (arith, at-is)));
@@ -208,9 +209,9 @@ module _ {L : Limits} {P : ℕ} (setting : Setting L P) (w : Board) (play : Play
                 let z : s ≡ stateOf ledger a .step = omega (arith, at-is, q .0) in
                 subst (λ s. hasStored ledger a s ≡ true) (sym z) (agree-has (stateOf ledger a) (stateOf ledger a .step) c ((tree setting) .awaited (dimOf p (stateOf ledger a .step)) a) (subst (λ s. (tree setting) .awaited (dimOf p s) a ≡ some c) z (q .1)) (agree-of g))
 
-    pub call-next : (len : ℕ) (q : Given Barrier) → CallWay L (w .nodes a) q → Next setting w play (calls a len) (afterCall (gave w a (q .node)) a (w .nodes a) (q .answer))
-    call-next len q (CallWay.refused x) = held setting w play (calls a len) a
-    call-next len q (CallWay.sends v b) =
+    pub call-next : (len : ℕ) (q : Given Barrier) → CallWay L (w .nodes a) len q → Next setting w play (calls a len) (afterCall (gave w a (q .node)) a (w .nodes a) (q .answer))
+    call-next len q (CallWay.refused x s) = held setting w play (calls a len) a
+    call-next len q (CallWay.sends first rest v b fl e ro) =
         turned-to setting w play (calls a len) a h (atStep (stateOf ledger a) (stateOf ledger a .step) false (stateOf ledger a .agreed)) (at (w .nodes a) (w .nodes a .pass) (w .nodes a .dim) false (w .nodes a .agreed)) ms refl
         (act-put (tree setting) (fieldLimit L) ledger reached a (receiversDue (w .nodes a)) h (rest-of b) (λ c hc k. heard-by c hc k))
         hold-still (w .items ++ posted a (frameBytes (dims (w .nodes a)) (frameDue (w .nodes a))) (w .count a) (receiversDue (w .nodes a)))
@@ -229,10 +230,10 @@ module _ {L : Limits} {P : ℕ} (setting : Setting L P) (w : Board) (play : Play
         awaiting =
             subst (λ d. All (λ c. (c < P) × ((tree setting) .awaited d c ≡ some a)) (receiversDue (w .nodes a))) (sym dim-at)
             (subst (All (λ c. (c < P) × ((tree setting) .awaited (w .nodes a .dim) c ≡ some a))) (sym rcv-is) (receivers-await setting (w .nodes a .dim) a h))
-    call-next len q (CallWay.waits b m) =
+    call-next len q (CallWay.waits v b m z g) =
         turns-still setting w play (calls a len) a h (atStep (stateOf ledger a) (stateOf ledger a .step) false (stateOf ledger a .agreed)) (at (w .nodes a) (w .nodes a .pass) (w .nodes a .dim) false (w .nodes a .agreed)) refl refl
         (act-wait (tree setting) (fieldLimit L) ledger reached a h (rest-of b) (mute-of m)) hold-still (w .busy) (sim .busy a h) (λ y z. refl)
-    call-next len q (CallWay.next b m g d) =
+    call-next len q (CallWay.next v b m g d) =
         turns-still setting w play (calls a len) a h (atStep (stateOf ledger a) (suc (stateOf ledger a .step)) true (w .nodes a .agreed)) (at (w .nodes a) (w .nodes a .pass) (suc (w .nodes a .dim)) true (w .nodes a .agreed)) refl refl
         (act-move (tree setting) (fieldLimit L) ledger reached a (w .nodes a .agreed) h (rest-of b) (mute-of m) (agree-of g) (λ z. hold setting w play a h .like .agreed) (λ z. absurd (not-last (hold setting w play a h .pass) z)) (lower (hold setting w play a h .pass)))
         (hold-at (w .nodes a .pass) (suc (w .nodes a .dim)) (suc (stateOf ledger a .step)) true (w .nodes a .agreed) (hold setting w play a h .pass) d′ (up (hold setting w play a h .pass))) (w .busy) (sim .busy a h) (λ y z. refl)
@@ -250,7 +251,7 @@ module _ {L : Limits} {P : ℕ} (setting : Setting L P) (w : Board) (play : Play
         lower : (w .nodes a .pass ≡ 1) ⊎ (w .nodes a .pass ≡ 2) → suc (stateOf ledger a .step) < p + p
         lower (inl e) = omega (arith, at-is, step-first p (w .nodes a .pass) (w .nodes a .dim) e, d′)
         lower (inr e) = omega (arith, at-is, step-second p (w .nodes a .pass) (w .nodes a .dim) e, d′)
-    call-next len q (CallWay.second b m g d e) =
+    call-next len q (CallWay.second v b m z g d e) =
         turns-still setting w play (calls a len) a h (atStep (stateOf ledger a) (suc (stateOf ledger a .step)) true t) (at (w .nodes a) 2 0 true t) refl refl
         (act-move (tree setting) (fieldLimit L) ledger reached a t h (rest-of b) (mute-of m) (agree-of g) (λ z. absurd (omega (arith, at-is, hold setting w play a h .low))) (λ z. total-is) (omega (arith, at-is, d′, Z)))
         (hold-at 2 0 (suc (stateOf ledger a .step)) true t (inr refl) Z (omega (arith, at-is, d′))) (w .busy) (sim .busy a h) (λ y z. refl)
@@ -264,9 +265,9 @@ module _ {L : Limits} {P : ℕ} (setting : Setting L P) (w : Board) (play : Play
         total-is : own (w .nodes a) (dims (w .nodes a)) allTaken ≡ ownSums (stateOf ledger a .tallies) (stateOf ledger a .stored) p takenAll
         total-is =
             ap (λ q. own (w .nodes a) q allTaken) (dims-is setting w play a h) ∙ own-is p (w .nodes a) p (omega arith) takenAll ∙ own-like p (view p (w .nodes a)) (stateOf ledger a) (hold setting w play a h .like) p (omega arith) takenAll tt
-    call-next len q (CallWay.leaves b m g d e) = leave-next len b m g (omega (arith, dims-is setting w play a h, hold setting w play a h .low, d)) (two (hold setting w play a h .pass))
+    call-next len q (CallWay.leaves v b m z g d e) = leave-next len b m g (omega (arith, dims-is setting w play a h, hold setting w play a h .low, d)) (two (hold setting w play a h .pass))
       where
         two : (w .nodes a .pass ≡ 1) ⊎ (w .nodes a .pass ≡ 2) → w .nodes a .pass ≡ 2
         two (inl z) = absurd (e z)
         two (inr z) = z
-    call-next len q (CallWay.single b d) = absurd (omega (arith, dims-is setting w play a h, Z))
+    call-next len q (CallWay.single v b d) = absurd (omega (arith, dims-is setting w play a h, Z))

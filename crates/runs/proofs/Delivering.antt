@@ -19,7 +19,7 @@ use Rattle.frame.specs.Timing.{difference}
 use Rattle.frame.specs.declared.Frame.{Frame}
 use Rattle.node.specs.Sums.{dims}
 use Rattle.node.specs.Change.{withBusy, at, withFirst, withSecond}
-use Rattle.node.specs.Answers.{Given, Outcome, refused}
+use Rattle.node.specs.Answers.{Given, Outcome, done, refused}
 use Rattle.node.specs.Calls.{oneTaken, take, frameIn, stepNumber, firstOf, secondOf, stored, gotten}
 use Rattle.node.specs.declared.Node.{Node}
 use Rattle.runs.specs.Board.{put, Load, work, frame, Item, Board, delivers, oldest}
@@ -35,13 +35,14 @@ use Rattle.cycle.proofs.Dating.{FirstDated, phase-mid}
 use Rattle.cycle.proofs.Events.{stateOf, ledgerWith, withState, pageWith, pageTaken, pageLost, act-lose, act-drop, act-take, act-store, act-fall}
 use Rattle.runs.proofs.Tools.{put-same, put-other}
 use Rattle.runs.proofs.Setting.{Setting, tree, dim-low, dim-pos, shell-ok, shell-lt}
-use Rattle.runs.proofs.Bound.{Shown}
-use Rattle.runs.proofs.Ways.{TakeWay, take-way, FrameWay, frame-way, fieldsIn}
+use Rattle.node.proofs.Clauses.{Has}
+use Rattle.node.proofs.Ways.{TakeWay, take-way, FrameWay, frame-way, frameOf as fieldsIn}
 use Rattle.runs.proofs.View.{fieldOf, view, Like, like-taken, like-at, like-first, like-second}
 use Rattle.runs.proofs.Pairs.{Pair, pair-append, Cut, cut, pair-all, Found, found}
 use Rattle.runs.proofs.Sim.{isSome, hasStored, seats, window-same, awaitedIn, Holds, Says, Loads, Carried, Sim, acted, stored-same, unmoved, carried}
 use Rattle.runs.proofs.Marks.{Named, Apart, Marks, marks-same, less-named, less-apart, log-same, marks-take}
-use Rattle.runs.proofs.Emit.{step-first, step-second, dim-step, step-lt}
+use Rattle.node.proofs.Valid.{step-first, step-second}
+use Rattle.runs.proofs.Emit.{dim-step, step-lt}
 use Rattle.runs.proofs.Played.{Played, Next, Mishap, lossy-same, stay, held, turned-to, hold, dims-is, awaits-at}
 
 diff-now : (x y : ℕ) → x ≤ suc y → y ≤ suc x → (x % 256 + 256 - y % 256) % 256 ≡ 0 → x ≡ y
@@ -163,8 +164,8 @@ module _ {L : Limits} {P : ℕ} (setting : Setting L P) (w : Board) (play : Play
           (ap (λ x. (x + 256 - ledger .phase b % 256) % 256) (sym by) ∙ ap (λ x. (byte + 256 - x) % 256) (sym (hold setting w play b hb .phase ∙ ap (λ n. n % 256) (sim .counts b))) ∙ q)
 
       take-next : (q : Given Outcome) → take L (w .nodes b) a byte ≡ q → TakeWay L (w .nodes b) a byte q → Next setting w play (delivers a b) (afterTake (gave w b (q .node)) a b m (q .answer))
-      take-next q eq (TakeWay.refused x) = refused-next x (λ z. Mishap.badTake a b m byte x e lw (ap (λ (q : Given Outcome). q .answer) eq) z)
-      take-next q eq (TakeWay.accepted va a1 a2 df cap) =
+      take-next q eq (TakeWay.refused x s) = refused-next x (λ z. Mishap.badTake a b m byte x e lw (ap (λ (q : Given Outcome). q .answer) eq) z)
+      take-next q eq (TakeWay.done va a1 a2 df cap) =
           subst (λ l. Next setting w play (delivers a b) (record { nodes = put (w .nodes) b n′; items = l; count = w .count; busy = put (w .busy) b true; untaken = put (w .untaken) (m .name) none; sends = w .sends })) (sym (f .rest))
           (record { played = record { ledger = ledgerWith ledger (ledger .phase b) u ms; reached = Reached.next ledger _ reached (act-take (tree setting) (fieldLimit L) ledger reached (c .pre) (c .post) (m .phase) a b j (whole message lj) ph ha hb jp shell);
             sim = acted setting w ledger sim b hb u v refl n′ ok′ (sim .capped (ledger .phase b) b hb) (f .pre ++ f .post) ms pairs
@@ -245,7 +246,7 @@ module _ {L : Limits} {P : ℕ} (setting : Setting L P) (w : Board) (play : Play
               (record { nodes = o .nodes; number = o .number; phase = o .phase; pass = o .pass; low = o .low; sents = o .sents; takens = o .takens; firsts = length-set (n .first) (F .dim) _ ∙ o .firsts; seconds = o .seconds;
                 like = subst (λ d. Like p (view p (withFirst n (set (n .first) (F .dim) (firstOf F)))) (withStored (stateOf ledger b) s x)) (sym (dims-is setting w play b hb))
                   (subst (λ t. Like p (view p (withFirst n (set (n .first) (F .dim) (firstOf F)))) (withStored (stateOf ledger b) t x)) at-is
-                    (like-first p n (stateOf ledger b) (dims-is setting w play b hb) (o .like) (F .dim) (firstOf F) x (y .low) (omega (arith, o .firsts, y .low, dim-low setting)) refl (λ f h. y .first q f (subst (λ t. Shown t p (fieldOf f)) at-is h)))) })
+                    (like-first p n (stateOf ledger b) (dims-is setting w play b hb) (o .like) (F .dim) (firstOf F) x (y .low) (omega (arith, o .firsts, y .low, dim-low setting)) refl (λ f h. y .first q f (subst (λ t. Has p t (fieldOf f)) at-is h)))) })
             where
               at-is : F .dim ≡ s
               at-is = sym (step-first p (F .pass) (F .dim) q) ∙ y .step
@@ -253,7 +254,7 @@ module _ {L : Limits} {P : ℕ} (setting : Setting L P) (w : Board) (play : Play
               subst (λ n. Holds setting b (w .count b) n (withStored (stateOf ledger b) s x)) (sym (choose-no (withFirst n (set (n .first) (F .dim) (firstOf F))) (withSecond n (set (n .second) (F .dim) (secondOf F))) (ne-eqb (F .pass) 1 (λ z. omega arith))))
               (record { nodes = o .nodes; number = o .number; phase = o .phase; pass = o .pass; low = o .low; sents = o .sents; takens = o .takens; firsts = o .firsts; seconds = length-set (n .second) (F .dim) _ ∙ o .seconds;
                 like = subst (λ t. Like p (view p (withSecond n (set (n .second) (F .dim) (secondOf F)))) (withStored (stateOf ledger b) t x)) at-is
-                    (like-second p n (stateOf ledger b) (dims-is setting w play b hb) (o .like) (F .dim) (secondOf F) x (y .low) (omega (arith, o .seconds, y .low, dim-low setting)) refl (λ f h. y .second q f (subst (λ t. Shown t p (fieldOf f)) at-is h))) })
+                    (like-second p n (stateOf ledger b) (dims-is setting w play b hb) (o .like) (F .dim) (secondOf F) x (y .low) (omega (arith, o .seconds, y .low, dim-low setting)) refl (λ f h. y .second q f (subst (λ t. Has p t (fieldOf f)) at-is h))) })
             where
               at-is : p + F .dim ≡ s
               at-is = sym (step-second p (F .pass) (F .dim) q) ∙ y .step
@@ -277,14 +278,16 @@ module _ {L : Limits} {P : ℕ} (setting : Setting L P) (w : Board) (play : Play
 
       frame-next : (q : Given Outcome) → frameIn L (w .nodes b) bs ≡ q → FrameWay L (w .nodes b) bs q → Next setting w play (delivers a b) (afterFrame (gave w b (q .node)) a b (q .answer))
       unfolding gotten
-      frame-next q eq (FrameWay.refused x) = refused-next x (λ z. Mishap.badFrame a b m bs x e lf (ap (λ (q : Given Outcome). q .answer) eq) z)
-      frame-next q eq (FrameWay.late d) =
+      frame-next q eq (FrameWay.refused x s) = refused-next x (λ z. Mishap.badFrame a b m bs x e lf (ap (λ (q : Given Outcome). q .answer) eq) z)
+      frame-next q eq (FrameWay.early co d) = refused-next 7 (λ z. Mishap.badFrame a b m bs 7 e lf (ap (λ (q : Given Outcome). q .answer) eq) z)
+      frame-next q eq (FrameWay.foreign co d u v) = refused-next 8 (λ z. Mishap.badFrame a b m bs 8 e lf (ap (λ (q : Given Outcome). q .answer) eq) z)
+      frame-next q eq (FrameWay.late co d) =
           subst (λ l. Next setting w play (delivers a b) (carries (gave w b (w .nodes b)) l)) (sym (f .rest))
           (off-next (pageWith (ledger .pages (m .phase)) b (ledger .pages (m .phase) .nodes b))
             (act-drop (tree setting) (fieldLimit L) ledger reached (c .pre) (c .post) (m .phase) a b s x (whole (report s x) ln) hb (diff-late (m .phase) (ledger .phase b) not-ahead not-behind₂ (sym diff-is ∙ d)))
             (update-all (λ z nd. nd ≡ ledger .pages (m .phase) .nodes z) (ledger .pages (m .phase) .nodes) b (ledger .pages (m .phase) .nodes b) refl (λ z q. refl)) refl
             (inl (lossy-same ledger (m .phase) (pageWith (ledger .pages (m .phase)) b (ledger .pages (m .phase) .nodes b)) (c .pre ++ c .post) refl)))
-      frame-next q eq (FrameWay.accepted va re awt d) =
+      frame-next q eq (FrameWay.done co d) =
           subst (λ l. Next setting w play (delivers a b) (record { nodes = put (w .nodes) b (gotten n F); items = l; count = w .count; busy = w .busy; untaken = w .untaken; sends = w .sends })) (sym (f .rest))
           (cases (λ n. Next setting w play (delivers a b) (record { nodes = put (w .nodes) b n; items = f .pre ++ f .post; count = w .count; busy = w .busy; untaken = w .untaken; sends = w .sends }))
             (ltb (stepNumber (dims n) (F .pass) (F .dim)) (stepNumber (dims n) (n .pass) (n .dim))) (at (stored n F) (F .pass) (F .dim) false t) (stored n F)
@@ -303,7 +306,7 @@ module _ {L : Limits} {P : ℕ} (setting : Setting L P) (w : Board) (play : Play
           aws : (tree setting) .awaited (dimOf p s) b ≡ some a
           aws =
               let z = awaits-at setting w play b hb (F .dim) in
-              ap (λ d. (tree setting) .awaited d b) dim-s ∙ sym z ∙ awt ∙ ap some (y .sender ∙ f .from-is)
+              ap (λ d. (tree setting) .awaited d b) dim-s ∙ sym z ∙ co .awaits ∙ ap some (y .sender ∙ f .from-is)
           steps : (stepNumber (dims (w .nodes b)) (F .pass) (F .dim) ≡ s) × (stepNumber (dims (w .nodes b)) (w .nodes b .pass) (w .nodes b .dim) ≡ stateOf ledger b .step)
           steps = (ap (λ d. stepNumber d (F .pass) (F .dim)) (dims-is setting w play b hb) ∙ y .step, ap (λ d. stepNumber d (w .nodes b .pass) (w .nodes b .dim)) (dims-is setting w play b hb) ∙ hold setting w play b hb .like .step)
           t-is : p ≤ s → choose (eqb (F .pass) 1) 0 (w .nodes b .agreed) ≡ stateOf ledger b .agreed

@@ -1,13 +1,10 @@
 pub mod Examples
 pub mod Tools
-pub mod Bound
 pub mod View
 pub mod Pairs
 pub mod Marks
-pub mod Ways
 pub mod Setting
 pub mod Sim
-pub mod Due
 pub mod Emit
 pub mod Played
 pub mod Sending

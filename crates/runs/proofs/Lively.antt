@@ -2,13 +2,13 @@
 use mathlib.Core.Path.{_≡_, refl, sym, ap, _∙_, subst}
 use mathlib.Core.Logic.{_≢_, _⊎_, inl, inr}
 use mathlib.Core.Bool.{Bool, true, false}
+use mathlib.Core.Option.{none}
 use mathlib.Core.List.{List, [], _∷_, List·Memᴰ, List·Memᴰ·head, List·Memᴰ·tail}
 use Prim.Native.Nat.{ℕ, zero, suc, _+_, _-_, _*_, _≤_, _<_}
 use native.Mathlib.Decide.{ℕ-discrete}
 use native.Mathlib.Omega.{arith}
 use lib.Dec.{ltb, eqb}
-use borrow.Author.Tests.{eq-eqb, ne-eqb, le-ltb}
-use Rattle.base.specs.Choice.{both}
+use borrow.Author.Tests.{eq-eqb, ne-eqb}
 use Rattle.base.specs.Limits.{Limits, fieldLimit}
 use Rattle.base.proofs.Laws.{clash, choose-yes, choose-no, cases}
 use Rattle.tree.specs.Tree.{dimension}
@@ -17,8 +17,8 @@ use Rattle.node.specs.Sums.{dims}
 use Rattle.node.specs.Agree.{isNone, agrees}
 use Rattle.node.specs.State.{valid}
 use Rattle.node.specs.Change.{at}
-use Rattle.node.specs.Answers.{Given, give, Barrier, barred}
-use Rattle.node.specs.Barrier.{lengthDue, isDue, sending, leaving, moving, looking, barrier}
+use Rattle.node.specs.Answers.{Given, Barrier}
+use Rattle.node.specs.Barrier.{lengthDue, receiversDue, sending, leaving, moving, looking, barrier}
 use Rattle.node.specs.declared.Node.{Node}
 use Rattle.runs.specs.Board.{Item, Board, Event, run}
 use Rattle.runs.specs.Claim.{Goes, Lives, NoLoss}
@@ -29,12 +29,11 @@ use Rattle.cycle.proofs.OnePhase.{Parcel, dimOf, Unheard, Agrees}
 use Rattle.cycle.proofs.AtRest.{least}
 use Rattle.cycle.proofs.Ledger.{Dated, Ledger, ofPhase, no-board-sticks}
 use Rattle.cycle.proofs.Events.{stateOf}
-use Rattle.frame.proofs.RoundTripChecks.{Passes}
 use Rattle.runs.proofs.Setting.{Setting, tree, dim-pos}
-use Rattle.runs.proofs.Ways.{Mute, mute-is, callChecks, order-passes}
+use Rattle.node.proofs.Ways.{NoneDue, call-sends, call-looks}
 use Rattle.runs.proofs.Pairs.{Pair, pair-all}
 use Rattle.runs.proofs.Sim.{Carried, Sim}
-use Rattle.runs.proofs.Emit.{step-first, step-second}
+use Rattle.node.proofs.Valid.{step-first, step-second}
 use Rattle.runs.proofs.Calling.{mute-of}
 use Rattle.runs.proofs.Delivering.{c}
 use Rattle.runs.proofs.Legal.{agrees-first, agrees-second}
@@ -77,6 +76,29 @@ false-is : (b : Bool) → (b ≡ true → ⊥) → b ≡ false
 false-is true h = absurd (h refl)
 false-is false h = refl
 
+-- a frame is due: flag 1 and someone to send to
+pub data Due (n : Node) : Type 0 where
+  due : (first : ℕ) (rest : List ℕ) → n .flag ≡ true → receiversDue n ≡ first ∷ rest → Due n
+
+due? : (n : Node) → Dec (Due n)
+due? n = go (n .flag) refl (receiversDue n) refl
+  where
+    none : Due n → (receiversDue n ≡ [] → ⊥) × (n .flag ≡ false → ⊥)
+    none (due x l f e) = ((λ q. let z : _≡_ {A = ℕ} 0 1 = cc in omega arith), (λ q. clash (sym f ∙ q)))
+
+    go : (t : Bool) → n .flag ≡ t → (to : List ℕ) → receiversDue n ≡ to → Dec (Due n)
+    go true f (x ∷ l) e = yes (due x l f e)
+    go true f [] e = no (λ d. none d .0 e)
+    go false f to e = no (λ d. none d .1 f)
+
+none-due : (L : Limits) (n : Node) → (Due n → ⊥) → NoneDue L n
+none-due L n h = go (n .flag) refl (receiversDue n) refl
+  where
+    go : (t : Bool) → n .flag ≡ t → (to : List ℕ) → receiversDue n ≡ to → NoneDue L n
+    go true f (x ∷ l) e = absurd (h (due x l f e))
+    go true f [] e = inr e
+    go false f to e = inl f
+
 phase-all : (n : ℕ) (G : Parcel → Type 0) (ms : List Dated) → All (λ m. m .phase ≡ n → G (m .item)) ms → All G (ofPhase n ms)
 phase-all n G [] h = tt
 phase-all n G (m ∷ ms) h = go (ℕ-discrete (m .phase) n) (phase-all n G ms (h .1))
@@ -84,10 +106,6 @@ phase-all n G (m ∷ ms) h = go (ℕ-discrete (m .phase) n) (phase-all n G ms (h
     go : (d : Dec (m .phase ≡ n)) → All G (ofPhase n ms) → All G (pick {A = List Parcel} d (m .item ∷ ofPhase n ms) (ofPhase n ms))
     go (yes e) r = (h .0 e, r)
     go (no e) r = r
-
-both-no : (t u : Bool) → u ≡ false → both t u ≡ false
-both-no true u e = e
-both-no false u e = refl
 
 module _ (L : Limits) (P : ℕ) where
   -- ---- a node that would go on
@@ -102,16 +120,17 @@ module _ (L : Limits) (P : ℕ) where
       Going : Given Barrier → Type 0
       Going y = Goes L P (y .answer)
 
-  -- with a frame due, or where its step agrees
-  goes-on : (n : Node) (len : ℕ) → valid L n ≡ true → n .busy ≡ false → lengthDue n ≤ len
-      → (isDue n ≡ false → agrees L n (n .pass) (n .dim) ≡ true) → Goes L P (barrier L n len .answer)
-  unfolding barrier callChecks
-  goes-on n len v b l g =
-      subst (λ (y : Given Barrier). Goes L P (y .answer)) (sym (order-passes (λ x. give n (barred x)) (callChecks L n len) _ passes))
-      (cases (λ (y : Given Barrier). Goes L P (y .answer)) (isDue n) (sending n) (looking L n) (λ e. Goes.sending _ _) (λ e. look-goes n (g e)))
-    where
-      passes : Passes (callChecks L n len)
-      passes = (rw v, (b, (both-no (isDue n) (ltb len (lengthDue n)) (le-ltb len (lengthDue n) l), tt)))
+  -- a frame is due
+  send-goes : (n : Node) (len : ℕ) → valid L n ≡ true → n .busy ≡ false → Due n → lengthDue n ≤ len
+      → Goes L P (barrier L n len .answer)
+  send-goes n len v b (due first rest f e) l =
+      subst (λ (y : Given Barrier). Goes L P (y .answer)) (sym (call-sends L n len first rest v b f e l)) (Goes.sending _ _)
+
+  -- none is due, and the step agrees
+  move-goes : (n : Node) (len : ℕ) → valid L n ≡ true → n .busy ≡ false → NoneDue L n
+      → agrees L n (n .pass) (n .dim) ≡ true → Goes L P (barrier L n len .answer)
+  move-goes n len v b d g =
+      subst (λ (y : Given Barrier). Goes L P (y .answer)) (sym (call-looks L n len v b d)) (look-goes n g)
 
   longest : (p pass k : ℕ) → (pass ≡ 1) ⊎ (pass ≡ 2) → frameLength p pass k ≤ frameLength p 1 0
   unfolding frameLength
@@ -165,11 +184,11 @@ module _ {L : Limits} {P : ℕ} (setting : Setting L P) where
     idle-of : ((a : ℕ) → a < P → (w .count a ≡ w .count u) × (w .busy a ≡ true) → ⊥) → (a : ℕ) → a < P → w .count a ≡ w .count u → w .nodes a .busy ≡ false
     idle-of f a h e = i .busy a h ∙ false-is (w .busy a) (λ q. f a h (e, q))
 
-    mute-now : ((a : ℕ) → a < P → (w .count a ≡ w .count u) × (isDue (w .nodes a) ≡ true) → ⊥) → (a : ℕ) → a < P → w .count a ≡ w .count u → Mute L (w .nodes a)
-    mute-now f a h e = mute-is L (w .nodes a) (false-is (isDue (w .nodes a)) (λ q. f a h (e, q)))
+    mute-now : ((a : ℕ) → a < P → (w .count a ≡ w .count u) × (Due (w .nodes a)) → ⊥) → (a : ℕ) → a < P → w .count a ≡ w .count u → NoneDue L (w .nodes a)
+    mute-now f a h e = none-due L (w .nodes a) (λ q. f a h (e, q))
 
     stuck : ((a : ℕ) → a < P → (w .count a ≡ w .count u) × (w .busy a ≡ true) → ⊥) → All (λ m. (m .phase ≡ w .count u) × (w .count (m .to) ≡ w .count u) → ⊥) (w .items)
-        → ((a : ℕ) → a < P → (w .count a ≡ w .count u) × (isDue (w .nodes a) ≡ true) → ⊥)
+        → ((a : ℕ) → a < P → (w .count a ≡ w .count u) × (Due (w .nodes a)) → ⊥)
         → (a : ℕ) × ((a < P) × ((w .count a ≡ w .count u) × (agrees L (w .nodes a) (w .nodes a .pass) (w .nodes a .dim) ≡ true)))
     stuck f1 f2 f3 =
         let r = no-board-sticks T (fieldLimit L) (s .played .ledger) (s .played .reached) u hu (s .calm (s .played .ledger .phase u)) (λ y h. omega (arith, old y h, i .counts u, i .counts y)) rest under isNone in
@@ -218,7 +237,7 @@ module _ {L : Limits} {P : ℕ} (setting : Setting L P) where
     lives-now =
         go (search-below (λ a. (w .count a ≡ w .count u) × (w .busy a ≡ true)) (λ a. both-dec (ℕ-discrete (w .count a) (w .count u)) (true-dec (w .busy a))) P)
           (search-list (λ m. (m .phase ≡ w .count u) × (w .count (m .to) ≡ w .count u)) (λ m. both-dec (ℕ-discrete (m .phase) (w .count u)) (ℕ-discrete (w .count (m .to)) (w .count u))) (w .items))
-          (search-below (λ a. (w .count a ≡ w .count u) × (isDue (w .nodes a) ≡ true)) (λ a. both-dec (ℕ-discrete (w .count a) (w .count u)) (true-dec (isDue (w .nodes a)))) P)
+          (search-below (λ a. (w .count a ≡ w .count u) × (Due (w .nodes a))) (λ a. both-dec (ℕ-discrete (w .count a) (w .count u)) (due? (w .nodes a))) P)
       where
         frame-le : (a : ℕ) → a < P → (len : ℕ) → frameLength (dimension P) 1 0 ≤ len → frameLength (dims (w .nodes a)) (w .nodes a .pass) (w .nodes a .dim) ≤ len
         frame-le a h len l =
@@ -226,19 +245,19 @@ module _ {L : Limits} {P : ℕ} (setting : Setting L P) where
             omega (arith, z, longest L P p (w .nodes a .pass) (w .nodes a .dim) (i .node a h .pass))
         go : ((a : ℕ) × ((a < P) × ((w .count a ≡ w .count u) × (w .busy a ≡ true)))) ⊎ ((a : ℕ) → a < P → (w .count a ≡ w .count u) × (w .busy a ≡ true) → ⊥)
             → ((m : Item) × (List·Memᴰ m (w .items) × ((m .phase ≡ w .count u) × (w .count (m .to) ≡ w .count u)))) ⊎ All (λ m. (m .phase ≡ w .count u) × (w .count (m .to) ≡ w .count u) → ⊥) (w .items)
-            → ((a : ℕ) × ((a < P) × ((w .count a ≡ w .count u) × (isDue (w .nodes a) ≡ true))))
-              ⊎ ((a : ℕ) → a < P → (w .count a ≡ w .count u) × (isDue (w .nodes a) ≡ true) → ⊥)
+            → ((a : ℕ) × ((a < P) × ((w .count a ≡ w .count u) × (Due (w .nodes a)))))
+              ⊎ ((a : ℕ) → a < P → (w .count a ≡ w .count u) × (Due (w .nodes a)) → ⊥)
             → Lives L P w
         go (inl r) f2 f3 = Lives.busy (r .0) (r .1 .0, from-old (r .0) (r .1 .1 .0)) (r .1 .1 .1)
         go (inr f1) (inl r) f3 =
             Lives.underWay (r .0 .to) (to-lt (w .items) (s .played .ledger .items) (i .items) (r .0) (r .1 .0), from-old (r .0 .to) (r .1 .1 .1)) (r .0) (r .1 .0) refl (r .1 .1 .0 ∙ sym (r .1 .1 .1))
         go (inr f1) (inr f2) (inl r) =
             Lives.goes (r .0) (r .1 .0, from-old (r .0) (r .1 .1 .0))
-            (λ len l. goes-on L P (w .nodes (r .0)) len (ok (r .0) (r .1 .0)) (idle-of f1 (r .0) (r .1 .0) (r .1 .1 .0)) (frame-le (r .0) (r .1 .0) len l) (λ e. clash (sym (r .1 .1 .1) ∙ e)))
+            (λ len l. send-goes L P (w .nodes (r .0)) len (ok (r .0) (r .1 .0)) (idle-of f1 (r .0) (r .1 .0) (r .1 .1 .0)) (r .1 .1 .1) (frame-le (r .0) (r .1 .0) len l))
         go (inr f1) (inr f2) (inr f3) =
             let r = stuck f1 f2 f3 in
             Lives.goes (r .0) (r .1 .0, from-old (r .0) (r .1 .1 .0))
-            (λ len l. goes-on L P (w .nodes (r .0)) len (ok (r .0) (r .1 .0)) (idle-of f1 (r .0) (r .1 .0) (r .1 .1 .0)) (frame-le (r .0) (r .1 .0) len l) (λ e. r .1 .1 .1))
+            (λ len l. move-goes L P (w .nodes (r .0)) len (ok (r .0) (r .1 .0)) (idle-of f1 (r .0) (r .1 .0) (r .1 .1 .0)) (mute-now f3 (r .0) (r .1 .0) (r .1 .1 .0)) (r .1 .1 .1))
 
   pub every-run-lives : (es : List Event) → NoLoss es → Lives L P (run L P es)
   every-run-lives es l = lives-now (run L P es) (sound setting es l)

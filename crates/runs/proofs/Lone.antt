@@ -22,7 +22,7 @@ use Rattle.runs.specs.Board.{Board, Event, sends, idles, calls, delivers
 use Rattle.runs.specs.Board.{lessOne, gave, afterSend, afterIdle, afterCall, deliveredOldest, step, after, run}
 use Rattle.runs.specs.Claim.{SendDone, TakeDone, takes, Leaves, Safe, Goes, Lives}
 use Rattle.runs.proofs.Tools.{put-same}
-use Rattle.runs.proofs.Ways.{SendWay, send-way, IdleWay, idle-way}
+use Rattle.node.proofs.Ways.{SendWay, send-way, IdleWay, idle-way}
 
 module _ (L : Limits) (one-node : 1 ≤ L .nodes) where
   -- the only states: fresh but for phase and busy
@@ -43,8 +43,8 @@ module _ (L : Limits) (one-node : 1 ≤ L .nodes) where
   call-idle ph len = rw (only-valid ph false) refl
 
   no-send : (n : Node) (b : ℕ) (y : Given Outcome) → n .nodes ≡ 1 → n .number ≡ 0 → SendWay L n b y → (y .node ≡ n) × (y .answer ≡ done → ⊥)
-  no-send n b y e f (SendWay.refused x) = (refl, λ q. let z : _≡_ {A = ℕ} 0 1 = cc in omega arith)
-  no-send n b y e f (SendWay.accepted v b1 b2 bu ca) = absurd (b2 (omega arith))
+  no-send n b y e f (SendWay.refused x s) = (refl, λ q. let z : _≡_ {A = ℕ} 0 1 = cc in omega arith)
+  no-send n b y e f (SendWay.done v b1 b2 bu ca) = absurd (b2 (omega arith))
 
   pub record Alone (w : Board) : Type 0 where
     pub phase : ℕ
@@ -67,13 +67,13 @@ module _ (L : Limits) (one-node : 1 ≤ L .nodes) where
     stays n e = record { alone = record { phase = i .phase; node = put-same (w .nodes) 0 n ∙ e ∙ i .node; items = i .items; untaken = i .untaken }; change = same refl refl }
 
     send-went : (b : ℕ) (y : Given Outcome) → SendWay L (w .nodes 0) b y → Went w (afterSend (gave w 0 (y .node)) 0 b (y .answer))
-    send-went b y (SendWay.refused x) = stays (w .nodes 0) refl
-    send-went b y (SendWay.accepted v b1 b2 bu ca) =
-        absurd (no-send (w .nodes 0) b _ (ap (λ (n : Node). n .nodes) (i .node)) (ap (λ (n : Node). n .number) (i .node)) (SendWay.accepted v b1 b2 bu ca) .1 refl)
+    send-went b y (SendWay.refused x s) = stays (w .nodes 0) refl
+    send-went b y (SendWay.done v b1 b2 bu ca) =
+        absurd (no-send (w .nodes 0) b _ (ap (λ (n : Node). n .nodes) (i .node)) (ap (λ (n : Node). n .number) (i .node)) (SendWay.done v b1 b2 bu ca) .1 refl)
 
     idle-went : (y : Given Outcome) → IdleWay L (w .nodes 0) y → Went w (afterIdle (gave w 0 (y .node)) 0 (y .answer))
-    idle-went y (IdleWay.refused x) = stays (w .nodes 0) refl
-    idle-went y (IdleWay.accepted v) =
+    idle-went y (IdleWay.refused x s) = stays (w .nodes 0) refl
+    idle-went y (IdleWay.done v) =
         record { alone = record { phase = i .phase; node = put-same (w .nodes) 0 (withBusy (w .nodes 0) false) ∙ ap (λ n. withBusy n false) (i .node) ∙ ap (only (i .phase)) (sym (put-same (w .busy) 0 false)); items = i .items; untaken = i .untaken };
           change = rests (put-same (w .busy) 0 false) }
 

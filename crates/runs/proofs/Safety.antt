@@ -23,7 +23,7 @@ use Rattle.cycle.proofs.Sums.{sum-zero}
 use Rattle.cycle.proofs.Ledger.{Ledger, opening, Reached, safe, Over}
 use Rattle.runs.proofs.Tools.{put-same, put-other}
 use Rattle.runs.proofs.Setting.{Setting, tree, dim-low, dim-pos}
-use Rattle.runs.proofs.Ways.{SendWay, send-way, TakeWay, take-way, IdleWay, idle-way, FrameWay, frame-way, CallWay, call-way}
+use Rattle.node.proofs.Ways.{SendWay, send-way, TakeWay, take-way, IdleWay, idle-way, FrameWay, frame-way, CallWay, call-way}
 use Rattle.runs.proofs.View.{like-fresh}
 use Rattle.runs.proofs.Sim.{Sim}
 use Rattle.runs.proofs.Marks.{none-left}
@@ -76,8 +76,8 @@ module _ {L : Limits} {P : ℕ} (setting : Setting L P) where
     i = q .sim
 
     send-busy : (a b : ℕ) (y : Given Outcome) → SendWay L (w .nodes a) b y → y .answer ≡ done → w .nodes a .busy ≡ true
-    send-busy a b y (SendWay.refused x) e = done-not-refused x e
-    send-busy a b y (SendWay.accepted v b1 b2 bu cap) e = bu
+    send-busy a b y (SendWay.refused x s) e = done-not-refused x e
+    send-busy a b y (SendWay.done v b1 b2 bu cap) e = bu
 
     node-busy : (a b : ℕ) → SendDone L P w a b → w .nodes a .busy ≡ true
     node-busy a b e = send-busy a b (send L (w .nodes a) b) (send-way L (w .nodes a) b) e
@@ -97,8 +97,8 @@ module _ {L : Limits} {P : ℕ} (setting : Setting L P) where
       took : TakeDone L P w a (w .count a) e → Change e a w′
 
     sent-change : (x b a : ℕ) (y : Given Outcome) → SendWay L (w .nodes x) b y → Change (sends x b) a (afterSend (gave w x (y .node)) x b (y .answer))
-    sent-change x b a y (SendWay.refused n) = same refl
-    sent-change x b a y (SendWay.accepted v b1 b2 bu cap) = same refl
+    sent-change x b a y (SendWay.refused n s) = same refl
+    sent-change x b a y (SendWay.done v b1 b2 bu cap) = same refl
 
     rest-change : (x a : ℕ) (n : Node) → Change (idles x) a (afterIdle (gave w x n) x done)
     rest-change x a n = by (ℕ-discrete a x)
@@ -108,8 +108,8 @@ module _ {L : Limits} {P : ℕ} (setting : Setting L P) where
         by (no z) = same (put-other (w .busy) x false a z)
 
     idle-change : (x a : ℕ) (y : Given Outcome) → IdleWay L (w .nodes x) y → Change (idles x) a (afterIdle (gave w x (y .node)) x (y .answer))
-    idle-change x a y (IdleWay.refused n) = same refl
-    idle-change x a y (IdleWay.accepted v) = rest-change x a _
+    idle-change x a y (IdleWay.refused n s) = same refl
+    idle-change x a y (IdleWay.done v) = rest-change x a _
 
     leaving-change : (x len a : ℕ) (n : Node) → Change (calls x len) a (afterCall (gave w x n) x (w .nodes x) left)
     leaving-change x len a n = by (ℕ-discrete a x)
@@ -118,14 +118,14 @@ module _ {L : Limits} {P : ℕ} (setting : Setting L P) where
         by (yes z) = gone-on (ap (put (w .count) x (suc (w .count x))) z ∙ put-same (w .count) x (suc (w .count x)) ∙ ap (λ y. suc (w .count y)) (sym z))
         by (no z) = same (put-other (w .busy) x true a z)
 
-    call-change : (x len a : ℕ) (y : Given Barrier) → CallWay L (w .nodes x) y → Change (calls x len) a (afterCall (gave w x (y .node)) x (w .nodes x) (y .answer))
-    call-change x len a y (CallWay.refused n) = same refl
-    call-change x len a y (CallWay.sends v b) = same refl
-    call-change x len a y (CallWay.waits b m) = same refl
-    call-change x len a y (CallWay.next b m g d) = same refl
-    call-change x len a y (CallWay.second b m g d e) = same refl
-    call-change x len a y (CallWay.leaves b m g d e) = leaving-change x len a _
-    call-change x len a y (CallWay.single b d) = leaving-change x len a _
+    call-change : (x len a : ℕ) (y : Given Barrier) → CallWay L (w .nodes x) len y → Change (calls x len) a (afterCall (gave w x (y .node)) x (w .nodes x) (y .answer))
+    call-change x len a y (CallWay.refused n s) = same refl
+    call-change x len a y (CallWay.sends first rest v b fl e ro) = same refl
+    call-change x len a y (CallWay.waits v b m z g) = same refl
+    call-change x len a y (CallWay.next v b m g d) = same refl
+    call-change x len a y (CallWay.second v b m z g d e) = same refl
+    call-change x len a y (CallWay.leaves v b m z g d e) = leaving-change x len a _
+    call-change x len a y (CallWay.single v b d) = leaving-change x len a _
 
     off-change : (x b a n : ℕ) (m : Node) → Change (delivers x b) a (offUnlessEarly (gave w b m) x b n)
     off-change x b a n m = cases (Change (delivers x b) a) (eqb n 7) (gave w b m) (carries (gave w b m) (without x b (w .items))) (λ z. same refl) (λ z. same refl)
@@ -133,8 +133,8 @@ module _ {L : Limits} {P : ℕ} (setting : Setting L P) where
     -- a message whose take is done is of the receiver's phase, and isNone hasStored left that
     take-phase : (x b : ℕ) (m : Item) (byte : ℕ) (y : Given Outcome) → oldest x b (w .items) ≡ some m → m .load ≡ work byte → TakeWay L (w .nodes b) x byte y → y .answer ≡ done
         → (m .phase ≡ w .count b) × ((z : ℕ) → z < P → w .count z ≤ m .phase)
-    take-phase x b m byte y old lw (TakeWay.refused n) e = done-not-refused n e
-    take-phase x b m byte y old lw (TakeWay.accepted v a1 a2 df cap) e =
+    take-phase x b m byte y old lw (TakeWay.refused n s) e = done-not-refused n e
+    take-phase x b m byte y old lw (TakeWay.done v a1 a2 df cap) e =
         let j = message-of setting w q x b m old byte lw in
         (same-phase setting w q x b m old byte lw (j .0) (j .1) df ∙ sym (i .counts b),
           λ z h. omega (arith, not-behind setting w q x b m old byte lw (j .0) (j .1) z h, i .counts z))
@@ -148,14 +148,16 @@ module _ {L : Limits} {P : ℕ} (setting : Setting L P) where
 
     take-change : (x b a : ℕ) (m : Item) (byte : ℕ) (y : Given Outcome) → oldest x b (w .items) ≡ some m → m .load ≡ work byte → take L (w .nodes b) x byte ≡ y → TakeWay L (w .nodes b) x byte y
         → Change (delivers x b) a (afterTake (gave w b (y .node)) x b m (y .answer))
-    take-change x b a m byte y old lw eq (TakeWay.refused n) = off-change x b a n (w .nodes b)
-    take-change x b a m byte y old lw eq (TakeWay.accepted v a1 a2 df ca) =
+    take-change x b a m byte y old lw eq (TakeWay.refused n s) = off-change x b a n (w .nodes b)
+    take-change x b a m byte y old lw eq (TakeWay.done v a1 a2 df ca) =
         awoken x b a m _ (TakeDone.takes x m byte old lw (take-phase x b m byte (take L (w .nodes b) x byte) old lw (take-way L (w .nodes b) x byte) (ap (λ (y : Given Outcome). y .answer) eq) .0) (ap (λ (y : Given Outcome). y .answer) eq))
 
     frame-change : (x b a : ℕ) (bs : List ℕ) (y : Given Outcome) → FrameWay L (w .nodes b) bs y → Change (delivers x b) a (afterFrame (gave w b (y .node)) x b (y .answer))
-    frame-change x b a bs y (FrameWay.refused n) = off-change x b a n (w .nodes b)
-    frame-change x b a bs y (FrameWay.late d) = same refl
-    frame-change x b a bs y (FrameWay.accepted v re awaitedIn d) = same refl
+    frame-change x b a bs y (FrameWay.refused n s) = off-change x b a n (w .nodes b)
+    frame-change x b a bs y (FrameWay.early co d) = off-change x b a 7 (w .nodes b)
+    frame-change x b a bs y (FrameWay.foreign co d u v) = off-change x b a 8 (w .nodes b)
+    frame-change x b a bs y (FrameWay.late co d) = same refl
+    frame-change x b a bs y (FrameWay.done co d) = same refl
 
     deliver-change : (x b a : ℕ) (o : Option Item) → oldest x b (w .items) ≡ o → Change (delivers x b) a (deliveredOldest L P w x b o)
     deliver-change x b a none e = same refl
@@ -189,14 +191,14 @@ module _ {L : Limits} {P : ℕ} (setting : Setting L P) where
       idle : (b : ℕ) → b < P → w .count b ≡ w .count a → w .busy b ≡ false
       reached : (b : ℕ) → b < P → w .count a ≤ w .count b
 
-    gone : (a len : ℕ) → a < P → (y : Given Barrier) → CallWay L (w .nodes a) y → y .answer ≡ left → Gone a
-    gone a len h y (CallWay.refused x) e = let z : _≡_ {A = ℕ} 0 1 = cc in absurd (omega arith)
-    gone a len h y (CallWay.sends v b) e = let z : _≡_ {A = ℕ} 0 1 = cc in absurd (omega arith)
-    gone a len h y (CallWay.waits b m) e = let z : _≡_ {A = ℕ} 0 1 = cc in absurd (omega arith)
-    gone a len h y (CallWay.next b m g d) e = let z : _≡_ {A = ℕ} 0 1 = cc in absurd (omega arith)
-    gone a len h y (CallWay.second b m g d k) e = let z : _≡_ {A = ℕ} 0 1 = cc in absurd (omega arith)
-    gone a len h y (CallWay.single b d) e = absurd (omega (arith, ap dimension (i .node a h .nodes), dim-pos setting))
-    gone a len h y (CallWay.leaves b m g d k) e =
+    gone : (a len : ℕ) → a < P → (y : Given Barrier) → CallWay L (w .nodes a) len y → y .answer ≡ left → Gone a
+    gone a len h y (CallWay.refused x s) e = let z : _≡_ {A = ℕ} 0 1 = cc in absurd (omega arith)
+    gone a len h y (CallWay.sends first rest v b fl q ro) e = let z : _≡_ {A = ℕ} 0 1 = cc in absurd (omega arith)
+    gone a len h y (CallWay.waits v b m z g) e = let z : _≡_ {A = ℕ} 0 1 = cc in absurd (omega arith)
+    gone a len h y (CallWay.next v b m g d) e = let z : _≡_ {A = ℕ} 0 1 = cc in absurd (omega arith)
+    gone a len h y (CallWay.second v b m z g d k) e = let z : _≡_ {A = ℕ} 0 1 = cc in absurd (omega arith)
+    gone a len h y (CallWay.single v b d) e = absurd (omega (arith, ap dimension (i .node a h .nodes), dim-pos setting))
+    gone a len h y (CallWay.leaves v b m z g d k) e =
         record { taken = none-left P (w .untaken) (w .sends) (w .items) (nx .played .ledger) (nx .played .marks) (w .count a) (o .taken); idle = λ x hx z. idles′ x hx z (ℕ-discrete x a); reached = λ x hx. reach x hx (ℕ-discrete x a) }
       where
         two : (w .nodes a .pass ≡ 1) ⊎ (w .nodes a .pass ≡ 2) → w .nodes a .pass ≡ 2

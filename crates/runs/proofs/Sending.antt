@@ -11,7 +11,7 @@ use lib.ListN.{length, length-set}
 use Rattle.base.specs.Limits.{Limits, fieldLimit}
 use Rattle.tree.specs.Tree.{dimension, distance}
 use Rattle.node.specs.Change.{withBusy}
-use Rattle.node.specs.Answers.{Given, Outcome, refused}
+use Rattle.node.specs.Answers.{Given, Outcome, done, refused}
 use Rattle.node.specs.Calls.{oneSent}
 use Rattle.node.specs.declared.Node.{Node}
 use Rattle.runs.specs.Board.{put, work, Item, Board, sends, idles, gave, afterSend, afterIdle}
@@ -24,7 +24,7 @@ use Rattle.cycle.proofs.Window.{Move, window-keeps}
 use Rattle.cycle.proofs.Events.{stateOf, ledgerWith, pageSent, act-rest, act-send}
 use Rattle.runs.proofs.Tools.{put-same, put-other}
 use Rattle.runs.proofs.Setting.{Setting, tree, dim-low, shell-ok, shell-lt}
-use Rattle.runs.proofs.Ways.{SendWay, IdleWay}
+use Rattle.node.proofs.Ways.{SendWay, IdleWay}
 use Rattle.runs.proofs.View.{like-sent, like-idle}
 use Rattle.runs.proofs.Pairs.{pair-append}
 use Rattle.runs.proofs.Sim.{hasStored, window-same, awaitedIn, Holds, Carried, Sim, acted, stored-same}
@@ -65,8 +65,8 @@ module _ {L : Limits} {P : ℕ} (setting : Setting L P) (w : Board) (play : Play
   -- ---- idle
 
   pub idle-next : (a : ℕ) → a < P → (q : Given Outcome) → IdleWay L (w .nodes a) q → Next setting w play (idles a) (afterIdle (gave w a (q .node)) a (q .answer))
-  idle-next a h q (IdleWay.refused x) = held setting w play (idles a) a
-  idle-next a h q (IdleWay.accepted v) =
+  idle-next a h q (IdleWay.refused x s) = held setting w play (idles a) a
+  idle-next a h q (IdleWay.done v) =
       let o = hold setting w play a h in
       turns-still setting w play (idles a) a h (withTallies (stateOf ledger a) false (stateOf ledger a .tallies)) (withBusy (w .nodes a) false) refl refl (act-rest (tree setting) (fieldLimit L) ledger reached a h)
       (record { nodes = o .nodes; number = o .number; phase = o .phase; pass = o .pass; low = o .low; sents = o .sents; takens = o .takens; firsts = o .firsts; seconds = o .seconds;
@@ -83,8 +83,8 @@ module _ {L : Limits} {P : ℕ} (setting : Setting L P) (w : Board) (play : Play
       omega (arith, sum-less (λ y. ledger .pages (ledger .phase a) .nodes y .tallies sentAll) (L .sends) P a (λ y q. sim .capped (ledger .phase a) y q) h l, mul-le-mul-right (L .sends) (setting .few))
 
   pub send-next : (a b : ℕ) → a < P → (q : Given Outcome) → SendWay L (w .nodes a) b q → Next setting w play (sends a b) (afterSend (gave w a (q .node)) a b (q .answer))
-  send-next a b h q (SendWay.refused x) = held setting w play (sends a b) a
-  send-next a b h q (SendWay.accepted va b1 b2 bu cap) =
+  send-next a b h q (SendWay.refused x s) = held setting w play (sends a b) a
+  send-next a b h q (SendWay.done va b1 b2 bu cap) =
       record { played = record { ledger = ledgerWith ledger (ledger .phase a) u ms; reached = Reached.next ledger (ledgerWith ledger (ledger .phase a) u ms) reached (act-send (tree setting) (fieldLimit L) ledger reached a b j h hb jp shell (sym (o .like .busy) ∙ bu) (log-room a h less));
         sim = acted setting w ledger sim a h u v refl n′ (record { nodes = o .nodes; number = o .number; phase = o .phase; pass = o .pass; low = o .low; sents = length-set (n .sent) j _ ∙ o .sents; takens = o .takens; firsts = o .firsts; seconds = o .seconds;
             like = like-sent p n (stateOf ledger a) (dims-is setting w play a h) (o .like) j jp (omega (arith, o .sents, jp, dim-low setting)) bu }) (omega (arith, less))

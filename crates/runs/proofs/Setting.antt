@@ -9,7 +9,7 @@ use Rattle.tree.specs.Tree.{dimension, awaited, receivers, distance}
 use Rattle.runs.specs.Claim.{Fit}
 use Rattle.cycle.proofs.Tree.{Tree}
 use Rattle.cycle.proofs.Partners.{partners, await-is, hear as hear-of, receivers-await as receivers-await-of}
-use Rattle.cycle.proofs.Partners.{Has, shell-ok as shell-of}
+use Rattle.cycle.proofs.Partners.{Among, shell-ok as shell-of}
 use Rattle.cycle.proofs.Lists.{All}
 use Rattle.cycle.proofs.OnePhase.{Shell}
 use Rattle.tree.proofs.Dimension.{smallest, positive}
@@ -34,7 +34,7 @@ module _ {L : Limits} {P : ℕ} (setting : Setting L P) where
   pub awaited-is : (k a : ℕ) → awaited P k a ≡ tree .awaited k a
   awaited-is k a = sym (await-is P (setting .two) k a)
 
-  pub hear : (k a c : ℕ) → c < P → tree .awaited k c ≡ some a → Has (receivers P k a) c
+  pub hear : (k a c : ℕ) → c < P → tree .awaited k c ≡ some a → Among (receivers P k a) c
   hear k a c h e = hear-of P (setting .two) k a c h e
 
   pub receivers-await : (k a : ℕ) → a < P → All (λ c. (c < P) × (tree .awaited k c ≡ some a)) (receivers P k a)

@@ -25,7 +25,7 @@ use Rattle.cycle.proofs.Window.{Window}
 use Rattle.cycle.proofs.Events.{stateOf, ledgerWith}
 use Rattle.runs.proofs.Tools.{put-same, put-other, put-all}
 use Rattle.runs.proofs.Setting.{Setting, tree}
-use Rattle.runs.proofs.Bound.{Shown}
+use Rattle.node.proofs.Clauses.{Has}
 use Rattle.runs.proofs.View.{fieldOf, firstEntries, secondEntries, view, Like}
 use Rattle.runs.proofs.Pairs.{Pair}
 
@@ -98,8 +98,8 @@ module _ {L : Limits} {P : ℕ} (setting : Setting L P) where
     pub step : stepNumber p (f .pass) (f .dim) ≡ s
     pub phase : f .phase ≡ c % 256
     pub sender : f .sender ≡ a
-    pub first : f .pass ≡ 1 → (g : Entry) → Shown s p (fieldOf g) → firstEntries (firstOf f) g ≡ x g
-    pub second : f .pass ≡ 2 → (g : Entry) → Shown s p (fieldOf g) → secondEntries (secondOf f) g ≡ x g
+    pub first : f .pass ≡ 1 → (g : Entry) → Has p s (fieldOf g) → firstEntries (firstOf f) g ≡ x g
+    pub second : f .pass ≡ 2 → (g : Entry) → Has p s (fieldOf g) → secondEntries (secondOf f) g ≡ x g
 
   abbrev pub Loads : ℕ → ℕ → Load → Content → Type 0
   Loads a c (work byte) message = byte ≡ c % 256

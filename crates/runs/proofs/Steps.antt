@@ -19,7 +19,7 @@ use Rattle.cycle.proofs.Ledger.{Dated, Page, Ledger, Reached}
 use Rattle.cycle.proofs.Window.{Move, window-keeps}
 use Rattle.cycle.proofs.Events.{ledgerWith, pageLost, act-lose}
 use Rattle.runs.proofs.Setting.{Setting, tree}
-use Rattle.runs.proofs.Ways.{send-way, idle-way, call-way}
+use Rattle.node.proofs.Ways.{send-way, idle-way, call-way}
 use Rattle.runs.proofs.Pairs.{Pair, pair-append, Cut, cut, Lost, lost}
 use Rattle.runs.proofs.Sim.{hasStored, awaitedIn, Carried, Sim, carried}
 use Rattle.runs.proofs.Marks.{Named, Apart, Marks, marks-same, less-named, less-apart, log-same}

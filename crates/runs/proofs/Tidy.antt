@@ -12,7 +12,7 @@ use lib.Dec.{ltb, eqb}
 use borrow.Author.Tests.{ltb-true, eq-eqb, ne-eqb, lt-ltb, le-leb}
 use Rattle.base.specs.Choice.{choose, both, either, list}
 use Rattle.base.specs.Limits.{Limits, takenLimit, width}
-use Rattle.base.proofs.Laws.{clash, choose-yes, choose-no, cases, both-make, every-make}
+use Rattle.base.proofs.Laws.{clash, choose-yes, choose-no, cases, both-make, every-make, getD-list}
 use Rattle.tree.specs.Tree.{dimension}
 use Rattle.frame.specs.Frame.{sentNumber, takenNumber, sentAt, takenAt, fieldsOf, hasShell, numberOk}
 use Rattle.frame.specs.declared.Sent.{Sent}
@@ -27,10 +27,8 @@ use Rattle.node.specs.declared.Stored.{Stored}
 use Rattle.node.specs.declared.Confirm.{Confirm}
 use Rattle.node.specs.declared.Node.{Node}
 use Rattle.runs.specs.Board.{Load, work, frame, Item}
-use Rattle.runs.proofs.Tools.{getD-list}
 use Rattle.frame.proofs.RoundTripChecks.{Numbers, numbers-known}
 use Rattle.frame.proofs.RoundTripAccepted.{Accepted, Read}
-use Rattle.runs.proofs.Tools.{getD-list}
 use Rattle.runs.proofs.View.{bump-total, pastEnd}
 use Rattle.runs.proofs.Legal.{Tidy}
 

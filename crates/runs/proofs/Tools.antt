@@ -1,16 +1,16 @@
 -- Laws of choice, of changed functions and of listed values.
-use mathlib.Core.Path.{_≡_, refl, sym, ap, _∙_, subst}
+use mathlib.Core.Path.{_≡_, refl, sym, ap, subst}
 use mathlib.Core.Logic.{_≢_}
 use mathlib.Core.Bool.{Bool, true, false}
-use Prim.Native.Nat.{ℕ, zero, suc, _+_, _<_}
+use Prim.Native.Nat.{ℕ, zero, suc, _+_}
 use native.Mathlib.Decide.{ℕ-discrete}
 use native.Mathlib.Omega.{arith}
-use lib.ListN.{getD}
 use lib.Dec.{eqb}
 use borrow.Author.Tests.{eqb-true, eqb-false, eq-eqb, ne-eqb}
-use Rattle.base.specs.Choice.{choose, list}
+use Rattle.base.specs.Choice.{choose}
 use Rattle.base.proofs.Laws.{choose-yes, choose-no, cases}
 use Rattle.node.specs.Sums.{total}
+use Rattle.node.specs.Change.{at}
 use Rattle.runs.specs.Board.{put}
 use Rattle.cycle.proofs.Sums.{pick, update, sum}
 
@@ -40,13 +40,6 @@ put-update f i v j =
     bridge (eqb j i) (ℕ-discrete j i) v (f j) v (f j) (eqb-true j i) (eqb-false j i) (λ b. refl) (λ n. refl)
 
 -- ---- listed values and sums
-
-pub getD-list : {A : Type 0} (s c : ℕ) (f : ℕ → A) (i : ℕ) (d : A) → i < c → getD (list s c f) i d ≡ f (s + i)
-getD-list s zero f i d h = absurd (omega arith)
-getD-list s (suc c) f zero d h = let e : s ≡ s + 0 = omega arith in ap f e
-getD-list s (suc c) f (suc i) d h =
-    let e : suc s + i ≡ s + suc i = omega arith in
-    getD-list (suc s) c f i d (omega arith) ∙ ap f e
 
 pub total-sum : (f : ℕ → ℕ) (n : ℕ) → total f n ≡ sum f 0 n
 total-sum f zero = refl

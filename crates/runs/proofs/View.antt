@@ -11,7 +11,7 @@ use lib.ListN.{length, getD, set}
 use lib.Seq.{getD-set-same, getD-set-other}
 use Rattle.base.specs.Choice.{choose, list}
 use Rattle.base.specs.Limits.{Limits, fieldLimit, width}
-use Rattle.base.proofs.Laws.{choose-yes}
+use Rattle.base.proofs.Laws.{choose-yes, getD-list}
 use Rattle.tree.specs.Tree.{dimension, awaited}
 use Rattle.frame.specs.Frame.{sentNumber, takenNumber, sentAt, takenAt}
 use Rattle.frame.specs.declared.Sent.{Sent}
@@ -26,10 +26,9 @@ use Rattle.node.specs.declared.Confirm.{Confirm}
 use Rattle.node.specs.declared.Node.{Node}
 use Rattle.cycle.proofs.Sums.{pick, update, update-same, update-other}
 use Rattle.cycle.proofs.Exact.{Entry, sentTo, takenFrom, sentAll, takenAll, Entries, entryOf, ownSums}
-use Rattle.cycle.proofs.OnePhase.{State, confirming, dimOf, Agrees, Above, atStep, withStored, withTallies, bumpSent, bumpTaken}
+use Rattle.cycle.proofs.OnePhase.{State, confirming, Agrees, Above, atStep, withStored, withTallies, bumpSent, bumpTaken}
 use Rattle.cycle.proofs.Opening.{fresh}
-use Rattle.runs.proofs.Tools.{getD-list}
-use Rattle.runs.proofs.Bound.{Shown, shown-less, agreed-first, agreed-second}
+use Rattle.node.proofs.Clauses.{Has, has-lower, first-agrees, second-agrees}
 
 -- what an array of stored frames gives past its end
 abbrev pub pastEnd : Stored
@@ -64,11 +63,11 @@ abbrev pub Alike : ℕ → ℕ → Option Entries → Option Entries → Type 0
 Alike p s none none = Unit {0}
 Alike p s none (some y) = ⊥
 Alike p s (some x) none = ⊥
-Alike p s (some x) (some y) = (f : Entry) → Shown s p (fieldOf f) → x f ≡ y f
+Alike p s (some x) (some y) = (f : Entry) → Has p s (fieldOf f) → x f ≡ y f
 
 pub record Like (p : ℕ) (v u : State) : Type 0 where
   pub busy : v .busy ≡ u .busy
-  pub tallies : (f : Entry) → Shown 0 p (fieldOf f) → v .tallies f ≡ u .tallies f
+  pub tallies : (f : Entry) → Has p 0 (fieldOf f) → v .tallies f ≡ u .tallies f
   pub step : v .step ≡ u .step
   pub flag : v .flag ≡ u .flag
   pub agreed : v .agreed ≡ u .agreed
@@ -118,23 +117,17 @@ issued-is p n (suc k) =
 
 -- ---- sums of like states
 
-pub shown-le : (i k p : ℕ) (f : Field) → i ≤ k → Shown k p f → Shown i p f
-shown-le i k p (sentIn m) l h = omega arith
-shown-le i k p (takenIn m) l h = omega arith
-shown-le i k p allSent l h = tt
-shown-le i k p allTaken l h = tt
-
-alike-entry : (p s : ℕ) (a b : Option Entries) → Alike p s a b → (f : Entry) → Shown s p (fieldOf f) → entryOf a f ≡ entryOf b f
+alike-entry : (p s : ℕ) (a b : Option Entries) → Alike p s a b → (f : Entry) → Has p s (fieldOf f) → entryOf a f ≡ entryOf b f
 alike-entry p s none none h f q = refl
 alike-entry p s none (some y) h f q = absurd h
 alike-entry p s (some x) none h f q = absurd h
 alike-entry p s (some x) (some y) h f q = h f q
 
 module _ (p : ℕ) (v u : State) (like : Like p v u) where
-  pub own-like : (k : ℕ) → k ≤ p → (f : Entry) → Shown k p (fieldOf f) → ownSums (v .tallies) (v .stored) k f ≡ ownSums (u .tallies) (u .stored) k f
+  pub own-like : (k : ℕ) → k ≤ p → (f : Entry) → Has p k (fieldOf f) → ownSums (v .tallies) (v .stored) k f ≡ ownSums (u .tallies) (u .stored) k f
   own-like zero l f h = like .tallies f h
   own-like (suc k) l f h =
-      let q = shown-less k p (fieldOf f) h in
+      let q = has-lower p k (suc k) (fieldOf f) (omega arith) h in
       let r = own-like k (omega arith) f q in
       let z = alike-entry p k (v .stored k) (u .stored k) (like .stored k (omega arith)) f q in
       omega arith
@@ -146,7 +139,7 @@ module _ (p : ℕ) (v u : State) (like : Like p v u) where
       let z = alike-entry p (p + k) (v .stored (p + k)) (u .stored (p + k)) (like .stored (p + k) (omega arith)) sentAll tt in
       omega arith
 
-  above-shown : (s : ℕ) (f : Entry) → Above s p f → Shown s p (fieldOf f)
+  above-shown : (s : ℕ) (f : Entry) → Above s p f → Has p s (fieldOf f)
   above-shown s (sentTo j) h = omega arith
   above-shown s (takenFrom j) h = omega arith
   above-shown s sentAll h = tt
@@ -178,12 +171,12 @@ agree-first L p n k e l a = go (awaited (n .nodes) k (n .number)) refl
     go : (o : Option ℕ) → awaited (n .nodes) k (n .number) ≡ o → Agrees p (fieldLimit L) (view p n) k o
     go none q = Agrees.alone
     go (some w) q =
-        let c = agreed-first L n k (ap isNone q) a in
+        let c = first-agrees L n k a (ap isNone q) in
         Agrees.first w (firstEntries (firstAt n k)) l (slots-first p n k l ∙ choose-yes (some (firstEntries (firstAt n k))) none (c .stored))
-        (sym (own-is p n k (omega arith) (sentTo k)) ∙ c .one) (sym (own-is p n k (omega arith) (takenFrom k)) ∙ c .two)
-        (λ f h. omega (arith, own-is p n k (omega arith) f, c .three (fieldOf f) (shown f h))) (λ z. omega (arith, own-is p n k (omega arith) sentAll, own-is p n k (omega arith) takenAll, c .four (z ∙ sym e)))
+        (sym (own-is p n k (omega arith) (sentTo k)) ∙ c .sent) (sym (own-is p n k (omega arith) (takenFrom k)) ∙ c .taken)
+        (λ f h. omega (arith, own-is p n k (omega arith) f, c .within (fieldOf f) (shown f h))) (λ z. omega (arith, own-is p n k (omega arith) sentAll, own-is p n k (omega arith) takenAll, c .last (z ∙ sym e)))
       where
-        shown : (f : Entry) → Above k p f → Shown (suc k) (dims n) (fieldOf f)
+        shown : (f : Entry) → Above k p f → Has (dims n) (suc k) (fieldOf f)
         shown (sentTo j) h = omega arith
         shown (takenFrom j) h = omega arith
         shown sentAll h = tt
@@ -199,9 +192,9 @@ agree-second L p n k e l a = go (awaited (n .nodes) k (n .number)) refl
     go : (o : Option ℕ) → awaited (n .nodes) k (n .number) ≡ o → Agrees p (fieldLimit L) (view p n) (p + k) o
     go none q = Agrees.alone
     go (some w) q =
-        let c = agreed-second L n k (ap isNone q) a in
+        let c = second-agrees L n k a (ap isNone q) in
         Agrees.second w (secondEntries (secondAt n k)) (omega arith) (slots-second p n k ∙ choose-yes (some (secondEntries (secondAt n k))) none (c .stored))
-        (omega (arith, own2, c .three)) (c .five) (λ u. omega (arith, own2, c .six (omega arith)))
+        (omega (arith, own2, c .within)) (c .same) (λ u. omega (arith, own2, c .last (omega arith)))
 
 -- ---- what the calls change
 
@@ -248,7 +241,7 @@ module _ (p : ℕ) (n : Node) (u : State) (e : dims n ≡ p) (like : Like p (vie
   pub like-sent : (m : ℕ) → m < p → m < length (n .sent) → n .busy ≡ true → Like p (view p (oneSent n m)) (withTallies u true (bumpSent (u .tallies) m))
   like-sent m l h b = record { busy = b; tallies = tal; step = like .step; flag = like .flag; agreed = like .agreed; stored = like .stored }
     where
-      tal : (f : Entry) → Shown 0 p (fieldOf f) → tally (oneSent n m) (fieldOf f) ≡ bumpSent (u .tallies) m f
+      tal : (f : Entry) → Has p 0 (fieldOf f) → tally (oneSent n m) (fieldOf f) ≡ bumpSent (u .tallies) m f
       tal (sentTo j) q = bump-at (λ (x : Sent). x .0) (n .sent) (sentNumber 0) (record { 0 = tally n (sentIn m) + 1 }) m h refl j ∙ update-like (λ i. tally n (sentIn i)) (λ i. u .tallies (sentTo i)) m j (like .tallies (sentTo m) (omega arith)) (like .tallies (sentTo j) q)
       tal (takenFrom j) q = like .tallies (takenFrom j) q
       tal sentAll q = bump-total (λ (x : Sent). x .0) (n .sent) (sentNumber 0) (record { 0 = tally n (sentIn m) + 1 }) m h refl (dims n) (omega arith) ∙ ap suc (like .tallies sentAll tt)
@@ -257,7 +250,7 @@ module _ (p : ℕ) (n : Node) (u : State) (e : dims n ≡ p) (like : Like p (vie
   pub like-taken : (m : ℕ) → m < p → m < length (n .taken) → Like p (view p (at (withBusy (oneTaken n m) true) 1 0 true 0)) (atStep (withTallies u true (bumpTaken (u .tallies) m)) 0 true 0)
   like-taken m l h = record { busy = refl; tallies = tal; step = refl; flag = refl; agreed = refl; stored = like .stored }
     where
-      tal : (f : Entry) → Shown 0 p (fieldOf f) → tally (at (withBusy (oneTaken n m) true) 1 0 true 0) (fieldOf f) ≡ bumpTaken (u .tallies) m f
+      tal : (f : Entry) → Has p 0 (fieldOf f) → tally (at (withBusy (oneTaken n m) true) 1 0 true 0) (fieldOf f) ≡ bumpTaken (u .tallies) m f
       tal (sentTo j) q = like .tallies (sentTo j) q
       tal (takenFrom j) q = bump-at (λ (x : Taken). x .0) (n .taken) (takenNumber 0) (record { 0 = tally n (takenIn m) + 1 }) m h refl j ∙ update-like (λ i. tally n (takenIn i)) (λ i. u .tallies (takenFrom i)) m j (like .tallies (takenFrom m) (omega arith)) (like .tallies (takenFrom j) q)
       tal sentAll q = like .tallies sentAll tt
@@ -269,7 +262,7 @@ module _ (p : ℕ) (n : Node) (u : State) (e : dims n ≡ p) (like : Like p (vie
   pub like-at : (pass k : ℕ) (f : Bool) (t s : ℕ) → stepNumber p pass k ≡ s → Like p (view p (at n pass k f t)) (atStep u s f t)
   like-at pass k f t s q = record { busy = like .busy; tallies = λ g q. same-tal n (at n pass k f t) refl refl refl (fieldOf g) ∙ like .tallies g q; step = q; flag = refl; agreed = refl; stored = like .stored }
 
-  pub like-first : (k : ℕ) (x : Stored) (y : Entries) → k < p → k < length (n .first) → x .present ≡ true → ((f : Entry) → Shown k p (fieldOf f) → firstEntries x f ≡ y f)
+  pub like-first : (k : ℕ) (x : Stored) (y : Entries) → k < p → k < length (n .first) → x .present ≡ true → ((f : Entry) → Has p k (fieldOf f) → firstEntries x f ≡ y f)
       → Like p (view p (withFirst n (set (n .first) k x))) (withStored u k y)
   like-first k x y l h pr q = record { busy = like .busy; tallies = λ f q. same-tal n (withFirst n (set (n .first) k x)) refl refl refl (fieldOf f) ∙ like .tallies f q; step = like .step; flag = like .flag; agreed = like .agreed; stored = st }
     where
@@ -285,7 +278,7 @@ module _ (p : ℕ) (n : Node) (u : State) (e : dims n ≡ p) (like : Like p (vie
               (subst (λ o. Alike p k o (some y)) (sym (slots-first p (withFirst n (set (n .first) k x)) k l ∙ ap firstSlot (getD-set-same (n .first) k x pastEnd h) ∙ choose-yes (some (firstEntries x)) none pr)) q)
           go (no z) = subst (λ o. Alike p s o (u .stored s)) (sym (other z (decLt s p))) (like .stored s b)
 
-  pub like-second : (k : ℕ) (x : Confirm) (y : Entries) → k < p → k < length (n .second) → x .present ≡ true → ((f : Entry) → Shown (p + k) p (fieldOf f) → secondEntries x f ≡ y f)
+  pub like-second : (k : ℕ) (x : Confirm) (y : Entries) → k < p → k < length (n .second) → x .present ≡ true → ((f : Entry) → Has p (p + k) (fieldOf f) → secondEntries x f ≡ y f)
       → Like p (view p (withSecond n (set (n .second) k x))) (withStored u (p + k) y)
   like-second k x y l h pr q = record { busy = like .busy; tallies = λ f q. same-tal n (withSecond n (set (n .second) k x)) refl refl refl (fieldOf f) ∙ like .tallies f q; step = like .step; flag = like .flag; agreed = like .agreed; stored = st }
     where
@@ -314,7 +307,7 @@ like-fresh p P i ph e l = record { busy = refl; tallies = tal; step = refl; flag
     s0 j h = ap (λ (x : Sent). x .0) (getD-list 0 width (λ m. sentNumber 0) j (sentNumber 0) (omega arith))
     t0 : (j : ℕ) → j < p → takenAt (list 0 width (λ m. takenNumber 0)) j ≡ 0
     t0 j h = ap (λ (x : Taken). x .0) (getD-list 0 width (λ m. takenNumber 0) j (takenNumber 0) (omega arith))
-    tal : (f : Entry) → Shown 0 p (fieldOf f) → tally (freshIn P i ph) (fieldOf f) ≡ 0
+    tal : (f : Entry) → Has p 0 (fieldOf f) → tally (freshIn P i ph) (fieldOf f) ≡ 0
     tal (sentTo j) h = s0 j (h .1)
     tal (takenFrom j) h = t0 j (h .1)
     tal sentAll h = total-zero (λ j. sentAt (list 0 width (λ m. sentNumber 0)) j) (dimension P) (λ j q. s0 j (omega arith))
