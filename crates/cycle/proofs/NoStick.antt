@@ -5,12 +5,11 @@ use mathlib.Core.Bool.{false}
 use mathlib.Core.Option.{Option, none, some}
 use mathlib.Core.List.{List, [], _∷_}
 use Prim.Native.Nat.{ℕ, zero, suc, _+_, _-_, _≤_, _<_, zero-le}
-use native.Mathlib.Nat.{add-zero}
 use native.Mathlib.Decide.{decLe, decLt, ℕ-discrete}
 use native.Mathlib.Omega.{arith}
 use lib.ListN.{length}
 use lib.Seq.{take-all}
-use Rattle.cycle.proofs.Sums.{pick, sum, sum-ext, sum-le, sum-split, sum-tight, sum-count, count}
+use Rattle.cycle.proofs.Sums.{pick, sum, sum-at, sum-ext, sum-le, sum-split, sum-tight, sum-count, count}
 use Rattle.cycle.proofs.FinalClaim.{Quiet, claim-le, firsts}
 use Rattle.cycle.proofs.Tree.{Tree, meet-sum}
 use Rattle.cycle.proofs.Growth.{totalTaken, Claimed}
@@ -40,12 +39,6 @@ sum-part f P low n h =
     let q′ : sum f 0 (low + (n + (P - (low + n)))) ≡ sum f 0 low + sum f low (n + (P - (low + n))) = subst (λ x. sum f 0 (low + (n + (P - (low + n)))) ≡ sum f 0 low + sum f x (n + (P - (low + n)))) z q in
     let r = sum-split f low n (P - (low + n)) in
     let s : sum f 0 P ≡ sum f 0 (low + (n + (P - (low + n)))) = ap (sum f 0) e in
-    omega arith
-
-sum-at : (f : ℕ → ℕ) (P j : ℕ) → j < P → f j ≤ sum f 0 P
-sum-at f P j h =
-    let q = sum-part f P j 1 (omega arith) in
-    let z : f (j + 0) ≡ f j = ap f (add-zero j) in
     omega arith
 
 -- a node that has come to t, or none

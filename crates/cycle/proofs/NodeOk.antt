@@ -11,7 +11,7 @@ use Rattle.cycle.proofs.Tree.{Tree}
 use Rattle.cycle.proofs.Growth.{Course, totalTaken, Claimed}
 use Rattle.cycle.proofs.OwnSums.{Confirmed, firstNumber, secondNumber, firstSum, secondSum, FirstStored, SecondStored, Agreed, first-sum-ok, second-sum-ok}
 use Rattle.cycle.proofs.Exact.{Entry, sentTo, takenFrom, sentAll, takenAll, Entries, entryOf, ownSums, runSum}
-use Rattle.cycle.proofs.OnePhase.{Content, message, report, Parcel, State, PhaseBoard, frameOf, dimOf, placed, Agrees, alone, first, second, HasEntry}
+use Rattle.cycle.proofs.OnePhase.{Content, message, report, Parcel, State, PhaseBoard, frameOf, dimOf, Agrees, alone, first, second, HasEntry}
 use Rattle.cycle.proofs.Latest.{own-same}
 use Rattle.cycle.proofs.AtRest.{frame-first, frame-second, dim-first, dim-second}
 

@@ -2,7 +2,7 @@
 use mathlib.Core.Path.{_≡_, refl, sym, ap, _∙_}
 use mathlib.Core.Logic.{_≢_, _⊎_, inl, inr}
 use mathlib.Core.List.{List, [], _∷_, _++_}
-use Prim.Native.Nat.{ℕ, zero, suc, _+_, _≤_, _<_, zero-le}
+use Prim.Native.Nat.{ℕ, zero, suc, _+_, _*_, _≤_, _<_, zero-le}
 use native.Mathlib.Nat.{add-zero, add-suc, add-assoc}
 use native.Mathlib.Decide.{ℕ-discrete, decLt, decLe}
 use native.Mathlib.Omega.{arith}
@@ -197,3 +197,32 @@ below-snoc P l x h b i k = go (ℕ-discrete i (length l))
     go : Dec (i ≡ length l) → getD (snoc l x) i 0 < P
     go (yes e) = rw (e, getD-snoc-last l x 0) h
     go (no n) = let j : i < length l = omega (arith, length-snoc l x) in rw (List·getD-append l (x ∷ []) 0 i j) (b i j)
+
+-- ---- a row of numbers
+
+-- a number of the row is at most the sum
+pub sum-at : (f : ℕ → ℕ) (n i : ℕ) → i < n → f i ≤ sum f 0 n
+sum-at f zero i l = absurd (omega arith)
+sum-at f (suc n) i l = at (λ l. sum-at f n i l) (ℕ-discrete i n)
+  where
+    at : (i < n → f i ≤ sum f 0 n) → Dec (i ≡ n) → f i ≤ sum f 0 n + f (0 + n)
+    at r (yes z) = let x : f i ≡ f (0 + n) = ap f (z ∙ omega arith) in omega arith
+    at r (no z) = omega (arith, r (omega arith))
+
+-- numbers at most S, and one of them less
+sum-cap : (f : ℕ → ℕ) (S n : ℕ) → ((y : ℕ) → y < n → f y ≤ S) → sum f 0 n ≤ n * S
+sum-cap f S zero h = zero-le
+sum-cap f S (suc n) h =
+    let z : f (0 + n) ≡ f n = ap f (omega arith) in
+    omega (arith, sum-cap f S n (λ y l. h y (omega arith)), h n (omega arith))
+
+pub sum-less : (f : ℕ → ℕ) (S n a : ℕ) → ((y : ℕ) → y < n → f y ≤ S) → a < n → f a < S → sum f 0 n < n * S
+sum-less f S zero a h l q = absurd (omega arith)
+sum-less f S (suc n) a h l q = go (λ k. sum-less f S n a (λ y l. h y (omega arith)) k q) (ℕ-discrete a n)
+  where
+    z : f (0 + n) ≡ f n
+    z = ap f (omega arith)
+
+    go : (a < n → sum f 0 n < n * S) → Dec (a ≡ n) → sum f 0 n + f (0 + n) < suc n * S
+    go r (yes e) = let x : f a ≡ f n = ap f e in omega (arith, sum-cap f S n (λ y l. h y (omega arith)), z)
+    go r (no e) = omega (arith, r (omega arith), h n (omega arith), z)

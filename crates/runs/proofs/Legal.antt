@@ -144,9 +144,6 @@ module _ {L : Limits} {P : ℕ} (setting : Setting L P) where
     passed k l = invariant T (fieldLimit L) B r .fit (B .phase a) .nodes-ok a h .agrees k l
 
     module _ (t : Tidy L P n) where
-      at-first : n .pass ≡ 1 → stateOf B a .step ≡ n .dim
-      at-first e = sym (o .like .step) ∙ step-first p (n .pass) (n .dim) e
-
       at-second : n .pass ≡ 2 → stateOf B a .step ≡ p + n .dim
       at-second e = sym (o .like .step) ∙ step-second p (n .pass) (n .dim) e
 

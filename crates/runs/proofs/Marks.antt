@@ -3,14 +3,13 @@ use mathlib.Core.Path.{_≡_, refl, sym, ap, _∙_, subst}
 use mathlib.Core.Logic.{_≢_}
 use mathlib.Core.Option.{Option, none, some}
 use mathlib.Core.List.{List, [], _∷_, _++_}
-use Prim.Native.Nat.{ℕ, zero, suc, _+_, _≤_, _<_, zero-le}
+use Prim.Native.Nat.{ℕ, suc, _+_, _≤_, _<_, zero-le}
 use native.Mathlib.Decide.{ℕ-discrete, decLt}
 use native.Mathlib.Omega.{arith}
 use lib.ListN.{length}
 use Rattle.base.specs.Choice.{both}
-use Rattle.node.specs.Change.{at}
 use Rattle.runs.specs.Board.{put, work, frame, Item, posted}
-use Rattle.cycle.proofs.Sums.{pick, update, update-all, sum, sum-ext, sum-update, length-snoc}
+use Rattle.cycle.proofs.Sums.{sum-at, pick, update, update-all, sum, sum-ext, sum-update, length-snoc}
 use Rattle.cycle.proofs.Lists.{All, all-append, all-map, all-mid}
 use Rattle.cycle.proofs.Exact.{takenAll}
 use Rattle.cycle.proofs.OnePhase.{State}
@@ -198,13 +197,6 @@ module _ (P : ℕ) where
   pub none-left : (ut : ℕ → Option ℕ) (sd : ℕ) (is : List Item) (B : Ledger) → Marks ut sd is B → (n : ℕ) → takesIn B n ≡ length (B .pages n .senders) → (i : ℕ) → ut i ≢ some n
   none-left ut sd is B k n e i q = go (decLt i sd)
     where
-      ge : (f : ℕ → ℕ) (m : ℕ) → i < m → f i ≤ sum f 0 m
-      ge f zero l = absurd (omega arith)
-      ge f (suc m) l = at (λ l. ge f m l) (ℕ-discrete i m)
-        where
-          at : (i < m → f i ≤ sum f 0 m) → Dec (i ≡ m) → f i ≤ sum f 0 m + f (0 + m)
-          at r (yes z) = let x : f i ≡ f (0 + m) = ap f (z ∙ omega arith) in omega arith
-          at r (no z) = omega (arith, r (omega arith))
       go : Dec (i < sd) → ⊥
-      go (yes l) = omega (arith, k .sums n, ge (λ i. hit n (ut i)) sd l, ap (hit n) q, hit-same n)
+      go (yes l) = omega (arith, k .sums n, sum-at (λ i. hit n (ut i)) sd i l, ap (hit n) q, hit-same n)
       go (no l) = let z : none ≡ some n = sym (k .tidy i (omega arith)) ∙ q in let y : _≡_ {A = ℕ} 0 1 = cc in omega arith

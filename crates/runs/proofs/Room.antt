@@ -1,13 +1,12 @@
 -- A node that has a message of its phase under way to it has not yet taken all that it may: refusal 6 is never given where nothing is lost.
-use mathlib.Core.Path.{_≡_, refl, sym, ap, _∙_, subst}
+use mathlib.Core.Path.{_≡_, refl, sym, ap, subst}
 use mathlib.Core.Logic.{_≢_}
 use mathlib.Core.Bool.{false}
 use mathlib.Core.List.{List, [], _∷_, _++_}
 use Prim.Native.Nat.{ℕ, zero, suc, _+_, _-_, _*_, _≤_, _<_, zero-le}
-use native.Mathlib.Decide.{ℕ-discrete}
 use native.Mathlib.Omega.{arith}
-use Rattle.node.specs.Change.{at}
 use Rattle.cycle.proofs.Sums.{pick, update, update-other, update-all, sum, sum-update}
+use Rattle.cycle.proofs.Sums.{sum-less, sum-at}
 use Rattle.cycle.proofs.Tree.{Tree}
 use Rattle.cycle.proofs.Exact.{sentTo, takenFrom, sentAll, takenAll}
 use Rattle.cycle.proofs.OnePhase.{message, Parcel, PhaseBoard, OnLink}
@@ -21,20 +20,6 @@ some-message a c [] ys = go (on-link a c (record { from = a; to = c; load = mess
     go (yes o) = omega arith
     go (no o) = absurd (o (refl, refl))
 some-message a c (x ∷ xs) ys = omega (arith, some-message a c xs ys)
-
-sum-cap : (f : ℕ → ℕ) (S n : ℕ) → ((y : ℕ) → y < n → f y ≤ S) → sum f 0 n ≤ n * S
-sum-cap f S zero h = zero-le
-sum-cap f S (suc n) h = let z : f (0 + n) ≡ f n = ap f (omega arith) in omega (arith, sum-cap f S n (λ y l. h y (omega arith)), h n (omega arith))
-
-sum-less : (f : ℕ → ℕ) (S n a : ℕ) → ((y : ℕ) → y < n → f y ≤ S) → a < n → f a < S → sum f 0 n < n * S
-sum-less f S zero a h l q = absurd (omega arith)
-sum-less f S (suc n) a h l q = go (λ k. sum-less f S n a (λ y l. h y (omega arith)) k q) (ℕ-discrete a n)
-  where
-    z : f (0 + n) ≡ f n
-    z = ap f (omega arith)
-    go : (a < n → sum f 0 n < n * S) → Dec (a ≡ n) → sum f 0 n + f (0 + n) < suc n * S
-    go r (yes e) = let x : f a ≡ f n = ap f e in omega (arith, sum-cap f S n (λ y l. h y (omega arith)), z)
-    go r (no e) = omega (arith, r (omega arith), h n (omega arith), z)
 
 -- one of them 0, another less than S
 sum-but-one : (f : ℕ → ℕ) (S n a c : ℕ) → ((y : ℕ) → y < n → f y ≤ S) → a < n → c < n → a ≢ c → f c ≡ 0 → f a < S → sum f 0 n < (n - 1) * S
@@ -51,14 +36,6 @@ sum-but-one f S n a c h la lc ne z l = go n refl
         let y : n * S ≡ suc k * S = ap (λ i. i * S) e in
         rw x (omega (arith, s, b, y))
 
-sum-ge : (f : ℕ → ℕ) (n i : ℕ) → i < n → f i ≤ sum f 0 n
-sum-ge f zero i l = absurd (omega arith)
-sum-ge f (suc n) i l = at (λ l. sum-ge f n i l) (ℕ-discrete i n)
-  where
-    at : (i < n → f i ≤ sum f 0 n) → Dec (i ≡ n) → f i ≤ sum f 0 n + f (0 + n)
-    at r (yes z) = let x : f i ≡ f (0 + n) = ap f (z ∙ omega arith) in omega arith
-    at r (no z) = omega (arith, r (omega arith))
-
 pub taken-room : {P p : ℕ} (tree : Tree P p) (limit S : ℕ) (b : PhaseBoard) → PhaseInvariant tree limit b → b .lossy ≡ false → ((y : ℕ) → y < P → b .nodes y .tallies sentAll ≤ S)
     → (a c : ℕ) → a < P → c < P → a ≢ c → (xs ys : List Parcel) → b .items ≡ xs ++ record { from = a; to = c; load = message } ∷ ys → b .nodes c .tallies takenAll < (P - 1) * S
 taken-room {P} {p} tree limit S b f wh cap′ a c ha hc ne xs ys e =
@@ -68,7 +45,7 @@ taken-room {P} {p} tree limit S b f wh cap′ a c ha hc ne xs ys e =
     below : (y : ℕ) → y < P → b .sentBetween y c ≤ S
     below y h =
         let t : sum (b .sentBetween y) 0 P ≡ sum (λ j. b .nodes y .tallies (sentTo j)) 0 p = subst (λ l. sum (b .sentBetween y) l P ≡ sum (λ j. b .nodes y .tallies (sentTo j)) 0 p) (tree .low-top y h) (subst (λ s. sum (b .sentBetween y) (tree .low p y) s ≡ sum (λ j. b .nodes y .tallies (sentTo j)) 0 p) (tree .size-top y h) (f .sent-pre y h p (omega arith))) in
-        omega (arith, t, f .nodes-ok y h .sum-s, cap′ y h, sum-ge (b .sentBetween y) P c hc)
+        omega (arith, t, f .nodes-ok y h .sum-s, cap′ y h, sum-at (b .sentBetween y) P c hc)
     own0 : b .sentBetween c c ≡ 0
     own0 =
         let t : sum (b .sentBetween c) c 1 ≡ 0 = subst (λ l. sum (b .sentBetween c) l 1 ≡ 0) (tree .low-zero c hc) (subst (λ s. sum (b .sentBetween c) (tree .low 0 c) s ≡ 0) (tree .size-zero c hc) (f .sent-pre c hc 0 zero-le)) in

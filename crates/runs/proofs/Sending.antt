@@ -4,8 +4,7 @@ use mathlib.Core.Logic.{_≢_, inl}
 use mathlib.Core.Bool.{true, false}
 use mathlib.Core.Option.{some}
 use mathlib.Core.List.{List, [], _∷_, _++_}
-use Prim.Native.Nat.{ℕ, zero, suc, _+_, _*_, _≤_, _<_, zero-le}
-use native.Mathlib.Decide.{ℕ-discrete}
+use Prim.Native.Nat.{ℕ, suc, _<_}
 use native.Mathlib.Omega.{arith}
 use lib.ListN.{length, length-set}
 use Rattle.base.specs.Limits.{Limits, fieldLimit}
@@ -16,7 +15,7 @@ use Rattle.node.specs.Calls.{oneSent}
 use Rattle.node.specs.declared.Node.{Node}
 use Rattle.runs.specs.Board.{put, work, Item, Board, sends, idles, gave, afterSend, afterIdle}
 use native.Mathlib.Nat.{mul-le-mul-right}
-use Rattle.cycle.proofs.Sums.{sum, sum-count, sum-ext, count}
+use Rattle.cycle.proofs.Sums.{sum-count, sum-ext, sum-less, count}
 use Rattle.cycle.proofs.Exact.{sentAll}
 use Rattle.cycle.proofs.OnePhase.{message, State, withTallies, bumpSent, Shell}
 use Rattle.cycle.proofs.Ledger.{Dated, Page, Ledger, Reached, invariant, within-one}
@@ -30,21 +29,6 @@ use Rattle.runs.proofs.Pairs.{pair-append}
 use Rattle.runs.proofs.Sim.{hasStored, window-same, awaitedIn, Holds, Carried, Sim, acted, stored-same}
 use Rattle.runs.proofs.Marks.{Marks, marks-send}
 use Rattle.runs.proofs.Played.{Played, Next, lossy-same, held, turns-still, hold, dims-is}
-
--- a sum of numbers at most S, one of them less
-sum-cap : (f : ℕ → ℕ) (S n : ℕ) → ((y : ℕ) → y < n → f y ≤ S) → sum f 0 n ≤ n * S
-sum-cap f S zero h = zero-le
-sum-cap f S (suc n) h = let z : f (0 + n) ≡ f n = ap f (omega arith) in omega (arith, sum-cap f S n (λ y l. h y (omega arith)), h n (omega arith))
-
-sum-less : (f : ℕ → ℕ) (S n a : ℕ) → ((y : ℕ) → y < n → f y ≤ S) → a < n → f a < S → sum f 0 n < n * S
-sum-less f S zero a h l q = absurd (omega arith)
-sum-less f S (suc n) a h l q = go (λ k. sum-less f S n a (λ y l. h y (omega arith)) k q) (ℕ-discrete a n)
-  where
-    z : f (0 + n) ≡ f n
-    z = ap f (omega arith)
-    go : (a < n → sum f 0 n < n * S) → Dec (a ≡ n) → sum f 0 n + f (0 + n) < suc n * S
-    go r (yes e) = let x : f a ≡ f n = ap f e in omega (arith, sum-cap f S n (λ y l. h y (omega arith)), z)
-    go r (no e) = omega (arith, r (omega arith), h n (omega arith), z)
 
 module _ {L : Limits} {P : ℕ} (setting : Setting L P) (w : Board) (play : Played setting w) where
   abbrev p : ℕ

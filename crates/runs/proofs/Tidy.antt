@@ -3,7 +3,7 @@ use mathlib.Core.Path.{_≡_, refl, sym, ap, _∙_, subst}
 use mathlib.Core.Logic.{_≢_, _⊎_, inl, inr}
 use mathlib.Core.Bool.{Bool, true, false, not}
 use mathlib.Core.List.{List}
-use Prim.Native.Nat.{ℕ, zero, suc, _+_, _≤_, _<_}
+use Prim.Native.Nat.{ℕ, _+_, _≤_, _<_}
 use native.Mathlib.Decide.{ℕ-discrete}
 use native.Mathlib.Omega.{arith}
 use lib.ListN.{length, getD, set}
@@ -18,7 +18,7 @@ use Rattle.frame.specs.Frame.{sentNumber, takenNumber, sentAt, takenAt, fieldsO
 use Rattle.frame.specs.declared.Sent.{Sent}
 use Rattle.frame.specs.declared.Taken.{Taken}
 use Rattle.frame.specs.declared.Frame.{Frame}
-use Rattle.node.specs.Sums.{sentIn, takenIn, allSent, allTaken, dims, tally, firstAt, secondAt, total}
+use Rattle.node.specs.Sums.{sentIn, takenIn, allSent, allTaken, dims, tally, firstAt, secondAt}
 use Rattle.node.specs.Agree.{isAlone}
 use Rattle.node.specs.State.{firstOk, secondOk, awaitsFrame}
 use Rattle.node.specs.Change.{withBusy, at, withFirst, withSecond, freshIn, noFirst, noSecond}
@@ -27,6 +27,7 @@ use Rattle.node.specs.declared.Stored.{Stored}
 use Rattle.node.specs.declared.Confirm.{Confirm}
 use Rattle.node.specs.declared.Node.{Node}
 use Rattle.runs.specs.Board.{Load, work, frame, Item}
+use Rattle.node.proofs.Totals.{total-zero}
 use Rattle.frame.proofs.RoundTripChecks.{Numbers, numbers-known}
 use Rattle.frame.proofs.RoundTripAccepted.{Accepted, Read}
 use Rattle.runs.proofs.View.{bump-total, pastEnd}
@@ -45,10 +46,6 @@ absent-first L n k e = rw (e, either-true (both (ltb k (dims n)) (not (isAlone n
 absent-second : (L : Limits) (n : Node) (k : ℕ) → secondAt n k ≡ noSecond → secondOk L n k ≡ true
 unfolding secondOk
 absent-second L n k e = rw (e, either-true (both (ltb k (dims n)) (not (isAlone n k)))) refl
-
-total-zero : (g : ℕ → ℕ) (p : ℕ) → ((j : ℕ) → j < p → g j ≡ 0) → total g p ≡ 0
-total-zero g zero h = refl
-total-zero g (suc p) h = omega (arith, total-zero g p (λ j l. h j (omega arith)), h p (omega arith))
 
 pub tidy-fresh : (L : Limits) (P i ph : ℕ) → dimension P ≤ width → Tidy L P (freshIn P i ph)
 tidy-fresh L P i ph l =

@@ -28,6 +28,7 @@ use Rattle.cycle.proofs.Sums.{pick, update, update-same, update-other}
 use Rattle.cycle.proofs.Exact.{Entry, sentTo, takenFrom, sentAll, takenAll, Entries, entryOf, ownSums}
 use Rattle.cycle.proofs.OnePhase.{State, confirming, Agrees, Above, atStep, withStored, withTallies, bumpSent, bumpTaken}
 use Rattle.cycle.proofs.Opening.{fresh}
+use Rattle.node.proofs.Totals.{total-more, total-zero}
 use Rattle.node.proofs.Clauses.{Has, has-lower, first-agrees, second-agrees}
 
 -- what an array of stored frames gives past its end
@@ -204,17 +205,6 @@ same-tal n n′ a b c (takenIn m) = rw c refl
 same-tal n n′ a b c allSent = rw (a, b) refl
 same-tal n n′ a b c allTaken = rw (a, c) refl
 
-total-bump : (g h : ℕ → ℕ) (m p : ℕ) → m < p → h m ≡ suc (g m) → ((j : ℕ) → j ≢ m → h j ≡ g j) → total h p ≡ suc (total g p)
-total-bump g h m zero l a b = absurd (omega arith)
-total-bump g h m (suc p) l a b = go (λ q. total-bump g h m p q a b) (ℕ-discrete p m)
-  where
-    rest : (q : ℕ) → q ≤ m → total h q ≡ total g q
-    rest zero l = refl
-    rest (suc q) l = omega (arith, rest q (omega arith), b q (omega arith))
-    go : (m < p → total h p ≡ suc (total g p)) → Dec (p ≡ m) → total h p + h p ≡ suc (total g p + g p)
-    go r (yes e) = let x : h p ≡ h m = ap h e in let y : g p ≡ g m = ap g e in omega (arith, rest p (omega arith), a)
-    go r (no e) = omega (arith, r (omega arith), b p e)
-
 -- a tally counted up in an array
 module _ {A : Type 0} (sel : A → ℕ) (l : List A) (d r : A) (m : ℕ) (h : m < length l) (e : sel r ≡ sel (getD l m d) + 1) where
   pub bump-at : (j : ℕ) → sel (getD (set l m r) j d) ≡ update (λ i. sel (getD l i d)) m (suc (sel (getD l m d))) j
@@ -226,8 +216,10 @@ module _ {A : Type 0} (sel : A → ℕ) (l : List A) (d r : A) (m : ℕ) (h : m 
 
   pub bump-total : (p : ℕ) → m < p → total (λ j. sel (getD (set l m r) j d)) p ≡ suc (total (λ j. sel (getD l j d)) p)
   bump-total p b =
-      total-bump (λ j. sel (getD l j d)) (λ j. sel (getD (set l m r) j d)) m p b (bump-at m ∙ update-same (λ i. sel (getD l i d)) m (suc (sel (getD l m d))))
+      let same = update-same (λ i. sel (getD l i d)) m (suc (sel (getD l m d))) in
+      total-more (λ j. sel (getD l j d)) (λ j. sel (getD (set l m r) j d)) m p b (bump-at m ∙ same ∙ omega arith)
       (λ j q. bump-at j ∙ update-other (λ i. sel (getD l i d)) m (suc (sel (getD l m d))) j q)
+      ∙ omega arith
 
 -- a changed function on like functions
 update-like : (f g : ℕ → ℕ) (m j : ℕ) → f m ≡ g m → f j ≡ g j → update f m (suc (f m)) j ≡ update g m (suc (g m)) j
@@ -295,10 +287,6 @@ module _ (p : ℕ) (n : Node) (u : State) (e : dims n ≡ p) (like : Like p (vie
           go (no z) = subst (λ o. Alike p s o (u .stored s)) (sym (other z (decLt s p))) (like .stored s b)
 
 -- ---- a fresh state
-
-total-zero : (g : ℕ → ℕ) (p : ℕ) → ((j : ℕ) → j < p → g j ≡ 0) → total g p ≡ 0
-total-zero g zero h = refl
-total-zero g (suc p) h = omega (arith, total-zero g p (λ j l. h j (omega arith)), h p (omega arith))
 
 pub like-fresh : (p P i ph : ℕ) → dimension P ≡ p → p ≤ width → Like p (view p (freshIn P i ph)) fresh
 like-fresh p P i ph e l = record { busy = refl; tallies = tal; step = refl; flag = refl; agreed = refl; stored = st }
