@@ -12,7 +12,8 @@ use Rattle.cycle.proofs.Tree.{Tree}
 use Rattle.cycle.proofs.Lists.{All, all-map}
 use Rattle.cycle.proofs.Exact.{takenAll}
 use Rattle.cycle.proofs.OnePhase.{Parcel, State, PhaseBoard, dimOf, Unheard, Turn, Agrees}
-use Rattle.cycle.proofs.PhaseInvariant.{PhaseInvariant, phase-keeps}
+use Rattle.cycle.proofs.PhaseInvariant.{PhaseInvariant}
+use Rattle.cycle.proofs.PhaseKept.{phase-keeps}
 use Rattle.cycle.proofs.NoStick.{no-stick}
 use Rattle.cycle.proofs.Opening.{fresh, start-ok}
 

@@ -10,7 +10,9 @@ pub mod Partners
 pub mod Latest
 pub mod AtRest
 pub mod NodeOk
+pub mod Messages
 pub mod PhaseInvariant
+pub mod PhaseKept
 pub mod NoStick
 pub mod Opening
 pub mod Ledger

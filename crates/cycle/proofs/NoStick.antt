@@ -20,7 +20,9 @@ use Rattle.cycle.proofs.OnePhase.{Parcel, State, PhaseBoard, frameOf, d
 use Rattle.cycle.proofs.Latest.{on-link, Stands, latest-none}
 use Rattle.cycle.proofs.AtRest.{least, dim-first, dim-second, exact1, unstuck}
 use Rattle.cycle.proofs.NodeOk.{world, confirmedIn, StoredOk, NodeOk, own-most, linear, agreed-of, second-ok}
-use Rattle.cycle.proofs.PhaseInvariant.{is-message, messages, messages-on, PhaseInvariant, reach, closing}
+use Rattle.cycle.proofs.Messages.{is-message, messages, messages-on}
+use Rattle.cycle.proofs.PhaseInvariant.{PhaseInvariant, reach}
+use Rattle.cycle.proofs.PhaseKept.{closing}
 
 -- ---- sums that are equal at the top are equal below
 

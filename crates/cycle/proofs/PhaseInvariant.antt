@@ -1,111 +1,24 @@
--- One phase: every event keeps the invariant.
-use mathlib.Core.Path.{_≡_, refl, sym, ap, _∙_, subst}
-use mathlib.Core.Logic.{_≢_, _⊎_, inl, inr}
-use mathlib.Core.Bool.{Bool, true, false}
+-- The invariant of one phase, and what an event at one node has to give to keep it.
+use mathlib.Core.Path.{_≡_, sym, ap, _∙_}
+use mathlib.Core.Logic.{_≢_}
+use mathlib.Core.Bool.{true, false}
 use mathlib.Core.Option.{Option, none, some}
-use mathlib.Core.List.{List, [], _∷_, _++_}
-use Prim.Native.Nat.{ℕ, suc, _+_, _-_, _≤_, _<_, zero-le}
-use native.Mathlib.Decide.{decLe, decLt, ℕ-discrete}
+use mathlib.Core.List.{List}
+use Prim.Native.Nat.{ℕ, _+_, _≤_, _<_}
 use native.Mathlib.Omega.{arith}
 use lib.ListN.{length}
-use Rattle.cycle.proofs.Sums.{update, update-all, update-same, update-other, pick, sum, sum-ext, sum-le, sum-update, sum-update-out, count, Below, snoc, length-snoc, count-snoc-same, count-snoc-other}
-use Rattle.cycle.proofs.FinalClaim.{Quiet, final}
+use Rattle.cycle.proofs.Sums.{update, update-all, sum, sum-ext, sum-le, count, Below}
+use Rattle.cycle.proofs.FinalClaim.{Quiet}
 use Rattle.cycle.proofs.Tree.{Tree}
-use Rattle.cycle.proofs.Growth.{Course, totalTaken, Claimed, Growth, same, sends, takes-one, claimed-keep}
-use Rattle.cycle.proofs.OwnSums.{Agreed}
-use Rattle.cycle.proofs.Lists.{All, all-append, all-map, all-mid}
-use Rattle.cycle.proofs.Sums.{below-snoc}
-use Rattle.cycle.proofs.Exact.{Entry, sentTo, takenFrom, sentAll, takenAll, Entries, entryOf, ownSums, runSum}
-use Rattle.cycle.proofs.OnePhase.{Content, message, report, Parcel, State, PhaseBoard, frameOf, dimOf, posts, OnLink, atStep, withStored, withTallies, changed, placed, oneMore, bumpSent, bumpTaken, Shell, Turn, Agrees, alone, first, second}
-use Rattle.cycle.proofs.Latest.{on-link, own-same, Latest, BusyAtStart, latest-keeps}
-use Rattle.cycle.proofs.AtRest.{dim-second}
-use Rattle.cycle.proofs.NodeOk.{world, confirmedIn, agree-same, FrameOk, StoredOk, ContentOk, ParcelOk, NodeOk, agreed-of, second-ok, frame-ok}
-
--- ---- counting work under way
-
-abbrev pub is-message : Content → ℕ
-is-message message = 1
-is-message (report s x) = 0
-
-abbrev pub messages : List Parcel → ℕ
-messages [] = 0
-messages (i ∷ is) = is-message (i .load) + messages is
-
-abbrev pub messages-on : ℕ → ℕ → List Parcel → ℕ
-messages-on y z [] = 0
-messages-on y z (i ∷ is) = pick (on-link y z i) (is-message (i .load)) 0 + messages-on y z is
-
-pub messages-append : (xs ys : List Parcel) → messages (xs ++ ys) ≡ messages xs + messages ys
-messages-append [] ys = omega arith
-messages-append (i ∷ is) ys = let r = messages-append is ys in omega arith
-
-messages-on-append : (y z : ℕ) (xs ys : List Parcel) → messages-on y z (xs ++ ys) ≡ messages-on y z xs + messages-on y z ys
-messages-on-append y z [] ys = omega arith
-messages-on-append y z (i ∷ is) ys = let r = messages-on-append y z is ys in omega arith
-
-report-on : (y z : ℕ) (a c s : ℕ) (x : Entries) → pick (on-link y z (record { from = a; to = c; load = report s x })) (is-message (report s x)) 0 ≡ 0
-report-on y z a c s x = go (on-link y z (record { from = a; to = c; load = report s x }))
-  where
-    go : (d : Dec (OnLink y z (record { from = a; to = c; load = report s x }))) → pick {A = ℕ} d 0 0 ≡ 0
-    go (yes q) = refl
-    go (no q) = refl
-
-messages-reports : (a s : ℕ) (x : Entries) (rs : List ℕ) → messages (posts a (report s x) rs) ≡ 0
-messages-reports a s x [] = refl
-messages-reports a s x (r ∷ rs) = omega (arith, messages-reports a s x rs)
-
-messages-on-reports : (y z a s : ℕ) (x : Entries) (rs : List ℕ) → messages-on y z (posts a (report s x) rs) ≡ 0
-messages-on-reports y z a s x [] = refl
-messages-on-reports y z a s x (r ∷ rs) = omega (arith, messages-on-reports y z a s x rs, report-on y z a r s x)
-
--- one more from a to c
-more-hit : (m : ℕ → ℕ → ℕ) (a c y z : ℕ) → oneMore m a c y z ≡ m y z + pick (on-link y z (record { from = a; to = c; load = message })) 1 0
-more-hit m a c y z = go (ℕ-discrete y a) (ℕ-discrete z c) (on-link y z (record { from = a; to = c; load = message }))
-  where
-    go : (d : Dec (y ≡ a)) (e : Dec (z ≡ c)) (o : Dec (OnLink y z (record { from = a; to = c; load = message }))) → oneMore m a c y z ≡ m y z + pick {A = ℕ} o 1 0
-    go (yes d) (yes e) (yes o) = rw (d, e, update-same m a (update (m a) c (suc (m a c))), update-same (m a) c (suc (m a c))) (omega arith)
-    go (yes d) (yes e) (no o) = absurd (o (sym d, sym e))
-    go (yes d) (no e) (yes o) = absurd (e (sym (o .1)))
-    go (yes d) (no e) (no o) = rw (d, update-same m a (update (m a) c (suc (m a c))), update-other (m a) c (suc (m a c)) z e) (omega arith)
-    go (no d) e (yes o) = absurd (d (sym (o .0)))
-    go (no d) e (no o) = rw (update-other m a (update (m a) c (suc (m a c))) y d) (omega arith)
-
-more-column : (m : ℕ → ℕ → ℕ) (a c y : ℕ) → oneMore m a c y c ≡ update (λ y. m y c) a (suc (m a c)) y
-more-column m a c y = go (ℕ-discrete y a)
-  where
-    go : (d : Dec (y ≡ a)) → pick {A = ℕ → ℕ} d (update (m a) c (suc (m a c))) (m y) c ≡ pick {A = ℕ} d (suc (m a c)) (m y c)
-    go (yes d) = update-same (m a) c (suc (m a c))
-    go (no d) = refl
-
-more-other : (m : ℕ → ℕ → ℕ) (a c y z : ℕ) → (y ≢ a) ⊎ (z ≢ c) → oneMore m a c y z ≡ m y z
-more-other m a c y z (inl n) = rw (update-other m a (update (m a) c (suc (m a c))) y n) refl
-more-other m a c y z (inr n) = go (ℕ-discrete y a)
-  where
-    go : (d : Dec (y ≡ a)) → pick {A = ℕ → ℕ} d (update (m a) c (suc (m a c))) (m y) z ≡ m y z
-    go (yes d) = update-other (m a) c (suc (m a c)) z n ∙ rw d refl
-    go (no d) = refl
+use Rattle.cycle.proofs.Growth.{Course, totalTaken, Growth, same, sends, takes-one, claimed-keep}
+use Rattle.cycle.proofs.Lists.{All, all-map}
+use Rattle.cycle.proofs.Exact.{Entry, sentTo, takenFrom, sentAll, takenAll, Entries, runSum}
+use Rattle.cycle.proofs.OnePhase.{Content, message, report, Parcel, State, PhaseBoard, dimOf, changed}
+use Rattle.cycle.proofs.Latest.{Latest, BusyAtStart}
+use Rattle.cycle.proofs.NodeOk.{world, FrameOk, StoredOk, ContentOk, ParcelOk, NodeOk}
+use Rattle.cycle.proofs.Messages.{messages, messages-on}
 
 module _ {P p : ℕ} (tree : Tree P p) (limit : ℕ) where
-  pre-up : (row shells : ℕ → ℕ) (k a c j : ℕ) → k ≤ p → Shell tree a c j → runSum tree row k a ≡ sum shells 0 k
-      → runSum tree (update row c (suc (row c))) k a ≡ sum (update shells j (suc (shells j))) 0 k
-  pre-up row shells k a c j l s e = go (decLt j k)
-    where
-      go : Dec (j < k) → runSum tree (update row c (suc (row c))) k a ≡ sum (update shells j (suc (shells j))) 0 k
-      go (yes q) =
-          let i = s k l .1 q in
-          omega (arith, sum-update row c (suc (row c)) (tree .low k a) (tree .size k a) (i .0) (i .1), sum-update shells j (suc (shells j)) 0 k zero-le (omega arith))
-      go (no q) = sum-update-out row c (suc (row c)) (tree .low k a) (tree .size k a) (out (decLt c (tree .low k a))) ∙ e ∙ sym (sum-update-out shells j (suc (shells j)) 0 k (inr (omega arith)))
-        where
-          out : Dec (c < tree .low k a) → (c < tree .low k a) ⊎ (tree .low k a + tree .size k a ≤ c)
-          out (yes u) = inl u
-          out (no u) = inr (far (decLt c (tree .low k a + tree .size k a)))
-            where
-              far : Dec (c < tree .low k a + tree .size k a) → tree .low k a + tree .size k a ≤ c
-              far (yes v) = absurd (q (s k l .0 (omega arith, v)))
-              far (no v) = omega arith
-
-  -- ---- the invariant
-
   pub record PhaseInvariant (b : PhaseBoard) : Type 0 where
     pub nodes-ok : (a : ℕ) → a < P → NodeOk tree limit b a (b .nodes a)
     pub items-ok : All (ParcelOk tree limit b) (b .items)
@@ -123,7 +36,7 @@ module _ {P p : ℕ} (tree : Tree P p) (limit : ℕ) where
   pub reach : (b : PhaseBoard) → PhaseInvariant b → totalTaken P (world b) ≤ length (b .senders)
   reach b i = omega (arith, i .covers)
 
-  frame-keep : (b b′ : PhaseBoard) → Growth P (world b) (world b′) → ((y : ℕ) (f : Entry) → b .nodes y .tallies f ≤ b′ .nodes y .tallies f) → totalTaken P (world b) ≤ length (b .senders)
+  pub frame-keep : (b b′ : PhaseBoard) → Growth P (world b) (world b′) → ((y : ℕ) (f : Entry) → b .nodes y .tallies f ≤ b′ .nodes y .tallies f) → totalTaken P (world b) ≤ length (b .senders)
       → (s w : ℕ) (x : Entries) → FrameOk tree limit b s w x → FrameOk tree limit b′ s w x
   frame-keep b b′ e g r s w x h =
       record {
@@ -135,24 +48,24 @@ module _ {P p : ℕ} (tree : Tree P p) (limit : ℕ) where
         in2 = λ k q. claimed-keep P (world b) (world b′) (tree .low k w) (tree .size k w) (x takenAll) (x sentAll) r e (h .in2 k q);
       }
 
-  kept-keep : (b b′ : PhaseBoard) → Growth P (world b) (world b′) → ((y : ℕ) (f : Entry) → b .nodes y .tallies f ≤ b′ .nodes y .tallies f) → totalTaken P (world b) ≤ length (b .senders)
+  pub kept-keep : (b b′ : PhaseBoard) → Growth P (world b) (world b′) → ((y : ℕ) (f : Entry) → b .nodes y .tallies f ≤ b′ .nodes y .tallies f) → totalTaken P (world b) ≤ length (b .senders)
       → (s : ℕ) (o : Option ℕ) (x : Option Entries) → StoredOk tree limit b s o x → StoredOk tree limit b′ s o x
   kept-keep b b′ e g r s none none h = tt
   kept-keep b b′ e g r s none (some x) h = h
   kept-keep b b′ e g r s (some w) none h = tt
   kept-keep b b′ e g r s (some w) (some x) h = frame-keep b b′ e g r s w x h
 
-  load-keep : (b b′ : PhaseBoard) → Growth P (world b) (world b′) → ((y : ℕ) (f : Entry) → b .nodes y .tallies f ≤ b′ .nodes y .tallies f) → totalTaken P (world b) ≤ length (b .senders)
+  pub load-keep : (b b′ : PhaseBoard) → Growth P (world b) (world b′) → ((y : ℕ) (f : Entry) → b .nodes y .tallies f ≤ b′ .nodes y .tallies f) → totalTaken P (world b) ≤ length (b .senders)
       → (w : ℕ) (q : Content) → ContentOk tree limit b w q → ContentOk tree limit b′ w q
   load-keep b b′ e g r w message h = tt
   load-keep b b′ e g r w (report s x) h = frame-keep b b′ e g r s w x h
 
-  items-keep : (b b′ : PhaseBoard) → Growth P (world b) (world b′) → ((y : ℕ) (f : Entry) → b .nodes y .tallies f ≤ b′ .nodes y .tallies f) → totalTaken P (world b) ≤ length (b .senders)
+  pub items-keep : (b b′ : PhaseBoard) → Growth P (world b) (world b′) → ((y : ℕ) (f : Entry) → b .nodes y .tallies f ≤ b′ .nodes y .tallies f) → totalTaken P (world b) ≤ length (b .senders)
       → (is : List Parcel) → All (ParcelOk tree limit b) is → All (ParcelOk tree limit b′) is
   items-keep b b′ e g r is h = all-map (ParcelOk tree limit b) (ParcelOk tree limit b′) (λ i k. load-keep b b′ e g r (i .from) (i .load) k) is h
 
   -- a node as it was, on the new board
-  node-keep : (b b′ : PhaseBoard) → Growth P (world b) (world b′) → ((y : ℕ) (f : Entry) → b .nodes y .tallies f ≤ b′ .nodes y .tallies f) → totalTaken P (world b) ≤ length (b .senders)
+  pub node-keep : (b b′ : PhaseBoard) → Growth P (world b) (world b′) → ((y : ℕ) (f : Entry) → b .nodes y .tallies f ≤ b′ .nodes y .tallies f) → totalTaken P (world b) ≤ length (b .senders)
       → (a : ℕ) (v : State) → count a (b′ .senders) ≡ count a (b .senders) → NodeOk tree limit b a v → NodeOk tree limit b′ a v
   node-keep b b′ e g r a v c h =
       record {
@@ -165,36 +78,36 @@ module _ {P p : ℕ} (tree : Tree P p) (limit : ℕ) where
         step-le = h .step-le;
       }
 
-  quiet-keep : (w w′ : Course) (T : ℕ) → Growth P w w′ → Quiet (w .senders) (totalTaken P w) P (w .done) T → Quiet (w′ .senders) (totalTaken P w′) P (w′ .done) T
+  pub quiet-keep : (w w′ : Course) (T : ℕ) → Growth P w w′ → Quiet (w .senders) (totalTaken P w) P (w .done) T → Quiet (w′ .senders) (totalTaken P w′) P (w′ .done) T
   quiet-keep w w′ T (same a b c) q =
       record { all-sent = ap length a ∙ q .all-sent; all-taken = sum-ext (w′ .taken) (w .taken) 0 P (λ i k l. b i) ∙ q .all-taken; all-idle = λ y h. c y (q .all-idle y h) }
   quiet-keep w w′ T (sends z zP a b n c) q = absurd (n (q .all-idle z zP))
   quiet-keep w w′ T (takes-one a b c) q = absurd (omega (arith, q .all-sent, q .all-taken))
 
   pub record Obligations (b : PhaseBoard) (a : ℕ) (v : State) (is : List Parcel) (log′ : List ℕ) (sentBetween′ takenBetween′ : ℕ → ℕ → ℕ) : Type 0 where
-    here : a < P
-    evol : Growth P (world b) (world (changed b a v is log′ sentBetween′ takenBetween′))
-    grow : (f : Entry) → b .nodes a .tallies f ≤ v .tallies f
-    others : (y : ℕ) → y ≢ a → count y log′ ≡ count y (b .senders)
-    node : NodeOk tree limit (changed b a v is log′ sentBetween′ takenBetween′) a v
-    items : All (ParcelOk tree limit (changed b a v is log′ sentBetween′ takenBetween′)) is
-    below : Below P log′
-    covers : totalTaken P (world (changed b a v is log′ sentBetween′ takenBetween′)) + messages is ≤ length log′
-    balance : b .lossy ≡ false → totalTaken P (world (changed b a v is log′ sentBetween′ takenBetween′)) + messages is ≡ length log′
-    pairs : b .lossy ≡ false → (y z : ℕ) → sentBetween′ y z ≡ takenBetween′ y z + messages-on y z is
-    rows : (y : ℕ) → y ≢ a → (z : ℕ) → sentBetween′ y z ≡ b .sentBetween y z
-    columns : (z : ℕ) → z ≢ a → (y : ℕ) → takenBetween′ y z ≡ b .takenBetween y z
-    sent-pre : (k : ℕ) → k ≤ p → runSum tree (sentBetween′ a) k a ≡ sum (λ j. v .tallies (sentTo j)) 0 k
-    taken-pre : (k : ℕ) → k ≤ p → runSum tree (λ y. takenBetween′ y a) k a ≡ sum (λ j. v .tallies (takenFrom j)) 0 k
-    small : length log′ ≤ limit
-    busy-start : v .busy ≡ true → (v .step ≡ 0) × (v .flag ≡ true)
-    quiet : p + p ≤ v .step → Quiet log′ (totalTaken P (world (changed b a v is log′ sentBetween′ takenBetween′))) P (world (changed b a v is log′ sentBetween′ takenBetween′) .done) (v .agreed)
-    latest : b .lossy ≡ false → Latest tree (changed b a v is log′ sentBetween′ takenBetween′)
+    pub here : a < P
+    pub evol : Growth P (world b) (world (changed b a v is log′ sentBetween′ takenBetween′))
+    pub grow : (f : Entry) → b .nodes a .tallies f ≤ v .tallies f
+    pub others : (y : ℕ) → y ≢ a → count y log′ ≡ count y (b .senders)
+    pub node : NodeOk tree limit (changed b a v is log′ sentBetween′ takenBetween′) a v
+    pub items : All (ParcelOk tree limit (changed b a v is log′ sentBetween′ takenBetween′)) is
+    pub below : Below P log′
+    pub covers : totalTaken P (world (changed b a v is log′ sentBetween′ takenBetween′)) + messages is ≤ length log′
+    pub balance : b .lossy ≡ false → totalTaken P (world (changed b a v is log′ sentBetween′ takenBetween′)) + messages is ≡ length log′
+    pub pairs : b .lossy ≡ false → (y z : ℕ) → sentBetween′ y z ≡ takenBetween′ y z + messages-on y z is
+    pub rows : (y : ℕ) → y ≢ a → (z : ℕ) → sentBetween′ y z ≡ b .sentBetween y z
+    pub columns : (z : ℕ) → z ≢ a → (y : ℕ) → takenBetween′ y z ≡ b .takenBetween y z
+    pub sent-pre : (k : ℕ) → k ≤ p → runSum tree (sentBetween′ a) k a ≡ sum (λ j. v .tallies (sentTo j)) 0 k
+    pub taken-pre : (k : ℕ) → k ≤ p → runSum tree (λ y. takenBetween′ y a) k a ≡ sum (λ j. v .tallies (takenFrom j)) 0 k
+    pub small : length log′ ≤ limit
+    pub busy-start : v .busy ≡ true → (v .step ≡ 0) × (v .flag ≡ true)
+    pub quiet : p + p ≤ v .step → Quiet log′ (totalTaken P (world (changed b a v is log′ sentBetween′ takenBetween′))) P (world (changed b a v is log′ sentBetween′ takenBetween′) .done) (v .agreed)
+    pub latest : b .lossy ≡ false → Latest tree (changed b a v is log′ sentBetween′ takenBetween′)
 
-  grows : (b : PhaseBoard) (a : ℕ) (v : State) → ((f : Entry) → b .nodes a .tallies f ≤ v .tallies f) → (y : ℕ) (f : Entry) → b .nodes y .tallies f ≤ update (b .nodes) a v y .tallies f
+  pub grows : (b : PhaseBoard) (a : ℕ) (v : State) → ((f : Entry) → b .nodes a .tallies f ≤ v .tallies f) → (y : ℕ) (f : Entry) → b .nodes y .tallies f ≤ update (b .nodes) a v y .tallies f
   grows b a v g = update-all (λ y u. (f : Entry) → b .nodes y .tallies f ≤ u .tallies f) (b .nodes) a v g (λ y n f. omega arith)
 
-  phase-keep : (b : PhaseBoard) → PhaseInvariant b → (a : ℕ) (v : State) (is : List Parcel) (log′ : List ℕ) (sentBetween′ takenBetween′ : ℕ → ℕ → ℕ) → Obligations b a v is log′ sentBetween′ takenBetween′ → PhaseInvariant (changed b a v is log′ sentBetween′ takenBetween′)
+  pub phase-keep : (b : PhaseBoard) → PhaseInvariant b → (a : ℕ) (v : State) (is : List Parcel) (log′ : List ℕ) (sentBetween′ takenBetween′ : ℕ → ℕ → ℕ) → Obligations b a v is log′ sentBetween′ takenBetween′ → PhaseInvariant (changed b a v is log′ sentBetween′ takenBetween′)
   phase-keep b i a v is log′ sentBetween′ takenBetween′ g =
       record {
         nodes-ok = update-all (λ y u. y < P → NodeOk tree limit b′ y u) (b .nodes) a v (λ h. g .node)
@@ -217,386 +130,3 @@ module _ {P p : ℕ} (tree : Tree P p) (limit : ℕ) where
     where
       b′ : PhaseBoard
       b′ = changed b a v is log′ sentBetween′ takenBetween′
-
-  -- ---- events that change no tally
-
-  local : (b : PhaseBoard) → PhaseInvariant b → (a : ℕ) (v : State) (is : List Parcel) → a < P → v .tallies ≡ b .nodes a .tallies → (b .nodes a .busy ≡ false → v .busy ≡ false)
-      → NodeOk tree limit b a v → All (ParcelOk tree limit b) is → messages is ≡ messages (b .items) → ((y z : ℕ) → messages-on y z is ≡ messages-on y z (b .items))
-      → (v .busy ≡ true → (v .step ≡ 0) × (v .flag ≡ true)) → (p + p ≤ v .step → Quiet (b .senders) (totalTaken P (world b)) P (world b .done) (v .agreed))
-      → (b .lossy ≡ false → Latest tree (placed b a v is)) → PhaseInvariant (placed b a v is)
-  local b i a v is h te bu ok its j1 j2 b0 qu la = phase-keep b i a v is (b .senders) (b .sentBetween) (b .takenBetween) (
-      record {
-        here = h;
-        evol = ev;
-        grow = gr;
-        others = λ y n. refl;
-        node = node-keep b b′ ev (grows b a v gr) (reach b i) a v refl ok;
-        items = items-keep b b′ ev (grows b a v gr) (reach b i) is its;
-        below = i .below;
-        covers = omega (arith, sum-ext (world b′ .taken) (world b .taken) 0 P (λ y k l. got y), j1, i .covers);
-        balance = λ ll. omega (arith, sum-ext (world b′ .taken) (world b .taken) 0 P (λ y k l. got y), j1, i .balance ll);
-        pairs = λ ll y z. omega (arith, i .pairs ll y z, j2 y z);
-        rows = λ y n z. refl;
-        columns = λ z n y. refl;
-        sent-pre = λ k l. rw te (i .sent-pre a h k l);
-        taken-pre = λ k l. rw te (i .taken-pre a h k l);
-        small = i .small;
-        busy-start = b0;
-        quiet = λ l. quiet-keep (world b) (world b′) (v .agreed) ev (qu l);
-        latest = la;
-      })
-    where
-      b′ : PhaseBoard
-      b′ = placed b a v is
-
-      gr : (f : Entry) → b .nodes a .tallies f ≤ v .tallies f
-      gr f = rw te (omega arith)
-
-      got : (y : ℕ) → update (b .nodes) a v y .tallies takenAll ≡ b .nodes y .tallies takenAll
-      got = update-all (λ y u. u .tallies takenAll ≡ b .nodes y .tallies takenAll) (b .nodes) a v (ap (λ t. t takenAll) te) (λ y n. refl)
-
-      ev : Growth P (world b) (world b′)
-      ev = same refl got (update-all (λ y u. b .nodes y .busy ≡ false → u .busy ≡ false) (b .nodes) a v bu (λ y n d. d))
-
-  messages-less : (b : PhaseBoard) (xs ys : List Parcel) (a c s : ℕ) (x : Entries) → b .items ≡ xs ++ record { from = a; to = c; load = report s x } ∷ ys → messages (xs ++ ys) ≡ messages (b .items)
-  messages-less b xs ys a c s x e = rw e (omega (arith, messages-append xs (record { from = a; to = c; load = report s x } ∷ ys), messages-append xs ys))
-
-  messages-on-less : (b : PhaseBoard) (xs ys : List Parcel) (a c s : ℕ) (x : Entries) → b .items ≡ xs ++ record { from = a; to = c; load = report s x } ∷ ys
-      → (y z : ℕ) → messages-on y z (xs ++ ys) ≡ messages-on y z (b .items)
-  messages-on-less b xs ys a c s x e y z =
-      rw e (omega (arith, messages-on-append y z xs (record { from = a; to = c; load = report s x } ∷ ys), messages-on-append y z xs ys, report-on y z a c s x))
-
-  less : (b : PhaseBoard) → PhaseInvariant b → (xs ys : List Parcel) (t : Parcel) → b .items ≡ xs ++ t ∷ ys → ParcelOk tree limit b t × All (ParcelOk tree limit b) (xs ++ ys)
-  less b i xs ys t e = all-mid (ParcelOk tree limit b) xs ys t (subst (λ is. All (ParcelOk tree limit b) is) e (i .items-ok))
-
-  not-busy : (v : State) {A : Type 0} → v .busy ≡ false → v .busy ≡ true → A
-  not-busy v e f = let z : _≡_ {A = Bool} true false = sym f ∙ e in let y : _≡_ {A = ℕ} 0 1 = cc in absurd (omega arith)
-
-  rests-keep : (b : PhaseBoard) → PhaseInvariant b → (a : ℕ) → a < P → (b .lossy ≡ false → Latest tree (placed b a (withTallies (b .nodes a) false (b .nodes a .tallies)) (b .items)))
-      → PhaseInvariant (placed b a (withTallies (b .nodes a) false (b .nodes a .tallies)) (b .items))
-  rests-keep b i a h la =
-      local b i a v (b .items) h refl (λ q. refl)
-      (record {
-        stored-ok = ok .stored-ok;
-        agreed-is = ok .agreed-is;
-        agrees = λ s l. agree-same p limit (b .nodes a) v s (tree .awaited (dimOf p s) a) refl (λ i q. refl) (λ q. refl) (ok .agrees s l);
-        sum-t = ok .sum-t;
-        sum-s = ok .sum-s;
-        count-is = ok .count-is;
-        step-le = ok .step-le;
-      })
-      (i .items-ok) refl (λ y z. refl) (λ q. not-busy v refl q) (i .quiet a h) la
-    where
-      v : State
-      v = withTallies (b .nodes a) false (b .nodes a .tallies)
-
-      ok : NodeOk tree limit b a (b .nodes a)
-      ok = i .nodes-ok a h
-
-  -- a node elsewhere in its steps, changed the same frames
-  placed-ok : (b : PhaseBoard) (a : ℕ) (v : State) (s : ℕ) (f : Bool) (T : ℕ) → NodeOk tree limit b a v → s ≤ p + p → (p ≤ s → T ≡ ownSums (v .tallies) (v .stored) p takenAll)
-      → ((i : ℕ) → i < s → Agrees p limit v i (tree .awaited (dimOf p i) a)) → ((i : ℕ) → i < s → p ≤ i → T ≡ v .agreed) → NodeOk tree limit b a (atStep v s f T)
-  placed-ok b a v s f T ok l t ag tt′ =
-      record {
-        stored-ok = ok .stored-ok;
-        agreed-is = t;
-        agrees = λ i k. agree-same p limit v (atStep v s f T) i (tree .awaited (dimOf p i) a) refl (λ j q. refl) (λ q. tt′ i k q) (ag i k);
-        sum-t = ok .sum-t;
-        sum-s = ok .sum-s;
-        count-is = ok .count-is;
-        step-le = l;
-      }
-
-  waits-keep : (b : PhaseBoard) → PhaseInvariant b → (a : ℕ) → a < P → b .nodes a .busy ≡ false → (is : List Parcel) → All (ParcelOk tree limit b) is → messages is ≡ messages (b .items) → ((y z : ℕ) → messages-on y z is ≡ messages-on y z (b .items))
-      → (b .lossy ≡ false → Latest tree (placed b a (atStep (b .nodes a) (b .nodes a .step) false (b .nodes a .agreed)) is)) → PhaseInvariant (placed b a (atStep (b .nodes a) (b .nodes a .step) false (b .nodes a .agreed)) is)
-  waits-keep b i a h bu is its j1 j2 la =
-      local b i a (atStep v (v .step) false (v .agreed)) is h refl (λ q. q) (placed-ok b a v (v .step) false (v .agreed) ok (ok .step-le) (ok .agreed-is) (ok .agrees) (λ i k q. refl))
-      its j1 j2 (λ q. not-busy v bu q) (i .quiet a h) la
-    where
-      v : State
-      v = b .nodes a
-
-      ok : NodeOk tree limit b a v
-      ok = i .nodes-ok a h
-
-  all-posts : (b : PhaseBoard) (a : ℕ) (q : Content) (rs : List ℕ) → ContentOk tree limit b a q → All (ParcelOk tree limit b) (posts a q rs)
-  all-posts b a q [] h = tt
-  all-posts b a q (r ∷ rs) h = (h, all-posts b a q rs h)
-
-  -- a frame is stored at s₀; what is before s₀ stays
-  kept-fit : (b : PhaseBoard) (a c s₀ : ℕ) (x : Entries) (v : State) → NodeOk tree limit b c v → s₀ < p + p → tree .awaited (dimOf p s₀) c ≡ some a → FrameOk tree limit b s₀ a x
-      → (s : ℕ) (f : Bool) (T : ℕ) → s ≤ s₀ → s ≤ v .step → (p ≤ s → T ≡ v .agreed) → NodeOk tree limit b c (atStep (withStored v s₀ x) s f T)
-  kept-fit b a c s₀ x v ok l aw fo s f T m n t =
-      record {
-        stored-ok = update-all (λ s o. s < p + p → StoredOk tree limit b s (tree .awaited (dimOf p s) c) o) (v .stored) s₀ (some x) (λ q. rw aw fo) (λ j q k. ok .stored-ok j k);
-        agreed-is = λ q. t q ∙ ok .agreed-is (omega arith) ∙ own-same (v .tallies) (v .stored) (update (v .stored) s₀ (some x)) p (λ i k. sym (update-other (v .stored) s₀ (some x) i (omega arith))) takenAll;
-        agrees = λ i k. agree-same p limit v (atStep (withStored v s₀ x) s f T) i (tree .awaited (dimOf p i) c) refl (λ j q. update-other (v .stored) s₀ (some x) j (omega arith)) (λ q. t (omega arith)) (ok .agrees i (omega arith));
-        sum-t = ok .sum-t;
-        sum-s = ok .sum-s;
-        count-is = ok .count-is;
-        step-le = omega arith;
-      }
-
-  stores-keep : (b : PhaseBoard) → PhaseInvariant b → (xs ys : List Parcel) (a c s₀ : ℕ) (x : Entries) (s : ℕ) (f : Bool) (T : ℕ) → c < P → s₀ < p + p → b .items ≡ xs ++ record { from = a; to = c; load = report s₀ x } ∷ ys
-      → b .nodes c .step < p + p → tree .awaited (dimOf p s₀) c ≡ some a → s ≤ s₀ → s ≤ b .nodes c .step → (p ≤ s → T ≡ b .nodes c .agreed)
-      → (b .nodes c .busy ≡ true → (s ≡ 0) × (f ≡ true))
-      → (b .lossy ≡ false → Latest tree (placed b c (atStep (withStored (b .nodes c) s₀ x) s f T) (xs ++ ys))) → PhaseInvariant (placed b c (atStep (withStored (b .nodes c) s₀ x) s f T) (xs ++ ys))
-  stores-keep b i xs ys a c s₀ x s f T h sp e l aw m n t b0 la =
-      local b i c (atStep (withStored (b .nodes c) s₀ x) s f T) (xs ++ ys) h refl (λ q. q)
-      (kept-fit b a c s₀ x (b .nodes c) (i .nodes-ok c h) sp aw (less b i xs ys (record { from = a; to = c; load = report s₀ x }) e .0) s f T m n t)
-      (less b i xs ys (record { from = a; to = c; load = report s₀ x }) e .1) (messages-less b xs ys a c s₀ x e) (messages-on-less b xs ys a c s₀ x e) b0 (λ q. absurd (omega arith)) la
-
-  -- ---- a send
-
-  send-keep : (b : PhaseBoard) → PhaseInvariant b → (a c j : ℕ) → a < P → c < P → j < p → Shell tree a c j → b .nodes a .busy ≡ true → length (b .senders) < limit
-      → (b .lossy ≡ false → Latest tree (changed b a (withTallies (b .nodes a) true (bumpSent (b .nodes a .tallies) j)) (b .items ++ posts a message (c ∷ [])) (snoc (b .senders) a) (oneMore (b .sentBetween) a c) (b .takenBetween)))
-      → PhaseInvariant (changed b a (withTallies (b .nodes a) true (bumpSent (b .nodes a .tallies) j)) (b .items ++ posts a message (c ∷ [])) (snoc (b .senders) a) (oneMore (b .sentBetween) a c) (b .takenBetween))
-  send-keep b i a c j h hc jp sl bu lm la = phase-keep b i a v is (snoc (b .senders) a) (oneMore (b .sentBetween) a c) (b .takenBetween) (
-      record {
-        here = h;
-        evol = ev;
-        grow = gr;
-        others = λ y n. count-snoc-other (b .senders) a y n;
-        node =
-            record {
-              stored-ok = λ s l. kept-keep b b′ ev (grows b a v gr) (reach b i) s (tree .awaited (dimOf p s) a) (v .stored s) (ok .stored-ok s l);
-              agreed-is = λ q. absurd (omega (arith, z .0));
-              agrees = λ s l. absurd (omega (arith, z .0));
-              sum-t = ok .sum-t;
-              sum-s = omega (arith, ok .sum-s, sum-update (λ i. b .nodes a .tallies (sentTo i)) j (suc (b .nodes a .tallies (sentTo j))) 0 p zero-le (omega arith));
-              count-is = omega (arith, ok .count-is, count-snoc-same (b .senders) a);
-              step-le = ok .step-le;
-            };
-        items = all-append (ParcelOk tree limit b′) (b .items) (posts a message (c ∷ [])) (items-keep b b′ ev (grows b a v gr) (reach b i) (b .items) (i .items-ok)) (tt, tt);
-        below = below-snoc P (b .senders) a h (i .below);
-        covers = omega (arith, sum-ext (world b′ .taken) (world b .taken) 0 P (λ y k l. got y), messages-append (b .items) (posts a message (c ∷ [])), length-snoc (b .senders) a, i .covers);
-        balance = λ ll. omega (arith, sum-ext (world b′ .taken) (world b .taken) 0 P (λ y k l. got y), messages-append (b .items) (posts a message (c ∷ [])), length-snoc (b .senders) a, i .balance ll);
-        pairs = λ ll y z. omega (arith, more-hit (b .sentBetween) a c y z, messages-on-append y z (b .items) (posts a message (c ∷ [])), i .pairs ll y z);
-        rows = λ y n z. more-other (b .sentBetween) a c y z (inl n);
-        columns = λ z n y. refl;
-        sent-pre = λ k l. rw (update-same (b .sentBetween) a (update (b .sentBetween a) c (suc (b .sentBetween a c)))) (pre-up (b .sentBetween a) (λ i. b .nodes a .tallies (sentTo i)) k a c j l sl (i .sent-pre a h k l));
-        taken-pre = i .taken-pre a h;
-        small = omega (arith, length-snoc (b .senders) a);
-        busy-start = λ q. z;
-        quiet = λ q. absurd (omega (arith, z .0));
-        latest = la;
-      })
-    where
-      v : State
-      v = withTallies (b .nodes a) true (bumpSent (b .nodes a .tallies) j)
-
-      is : List Parcel
-      is = b .items ++ posts a message (c ∷ [])
-
-      b′ : PhaseBoard
-      b′ = changed b a v is (snoc (b .senders) a) (oneMore (b .sentBetween) a c) (b .takenBetween)
-
-      ok : NodeOk tree limit b a (b .nodes a)
-      ok = i .nodes-ok a h
-
-      z : (b .nodes a .step ≡ 0) × (b .nodes a .flag ≡ true)
-      z = i .busy-start a bu
-
-      gr : (f : Entry) → b .nodes a .tallies f ≤ bumpSent (b .nodes a .tallies) j f
-      gr (sentTo k) = update-all (λ i x. b .nodes a .tallies (sentTo i) ≤ x) (λ i. b .nodes a .tallies (sentTo i)) j (suc (b .nodes a .tallies (sentTo j))) (omega arith) (λ i q. omega arith) k
-      gr (takenFrom k) = omega arith
-      gr sentAll = omega arith
-      gr takenAll = omega arith
-
-      got : (y : ℕ) → update (b .nodes) a v y .tallies takenAll ≡ b .nodes y .tallies takenAll
-      got = update-all (λ y u. u .tallies takenAll ≡ b .nodes y .tallies takenAll) (b .nodes) a v refl (λ y n. refl)
-
-      ev : Growth P (world b) (world b′)
-      ev = sends a h refl got (λ q. not-busy (b .nodes a) q bu) (update-all (λ y u. b .nodes y .busy ≡ false → u .busy ≡ false) (b .nodes) a v (λ q. not-busy (b .nodes a) q bu) (λ y n d. d))
-
-  -- ---- a take
-
-  update-sum : (g : State → ℕ) (nodes : ℕ → State) (a : ℕ) (v : State) → a < P → sum (λ y. g (update nodes a v y)) 0 P + g (nodes a) ≡ sum (λ y. g (nodes y)) 0 P + g v
-  update-sum g nodes a v h =
-      let e = sum-ext (λ y. g (update nodes a v y)) (update (λ y. g (nodes y)) a (g v)) 0 P (λ y i j. at y (ℕ-discrete y a)) in
-      omega (arith, sum-update (λ y. g (nodes y)) a (g v) 0 P zero-le (omega arith))
-    where
-      at : (y : ℕ) (d : Dec (y ≡ a)) → g (pick {A = State} d v (nodes y)) ≡ pick {A = ℕ} d (g v) (g (nodes y))
-      at y (yes d) = refl
-      at y (no d) = refl
-
-  take-keep : (b : PhaseBoard) → PhaseInvariant b → (xs ys : List Parcel) (a c j : ℕ) → c < P → j < p → Shell tree c a j → b .items ≡ xs ++ record { from = a; to = c; load = message } ∷ ys
-      → b .nodes c .step < p + p
-      → (b .lossy ≡ false → Latest tree (changed b c (atStep (withTallies (b .nodes c) true (bumpTaken (b .nodes c .tallies) j)) 0 true 0) (xs ++ ys) (b .senders) (b .sentBetween) (oneMore (b .takenBetween) a c)))
-      → PhaseInvariant (changed b c (atStep (withTallies (b .nodes c) true (bumpTaken (b .nodes c .tallies) j)) 0 true 0) (xs ++ ys) (b .senders) (b .sentBetween) (oneMore (b .takenBetween) a c))
-  take-keep b i xs ys a c j h jp sl e u la = phase-keep b i c v (xs ++ ys) (b .senders) (b .sentBetween) (oneMore (b .takenBetween) a c) (
-      record {
-        here = h;
-        evol = ev;
-        grow = gr;
-        others = λ y n. refl;
-        node =
-            record {
-              stored-ok = λ s l. kept-keep b b′ ev (grows b c v gr) (reach b i) s (tree .awaited (dimOf p s) c) (v .stored s) (ok .stored-ok s l);
-              agreed-is = λ q. absurd (omega arith);
-              agrees = λ s l. absurd (omega arith);
-              sum-t = omega (arith, ok .sum-t, sum-update (λ i. b .nodes c .tallies (takenFrom i)) j (suc (b .nodes c .tallies (takenFrom j))) 0 p zero-le (omega arith));
-              sum-s = ok .sum-s;
-              count-is = ok .count-is;
-              step-le = zero-le;
-            };
-        items = items-keep b b′ ev (grows b c v gr) (reach b i) (xs ++ ys) (less b i xs ys t e .1);
-        below = i .below;
-        covers = omega (arith, update-sum (λ n. n .tallies takenAll) (b .nodes) c v h, one-message, i .covers);
-        balance = λ ll. omega (arith, update-sum (λ n. n .tallies takenAll) (b .nodes) c v h, one-message, i .balance ll);
-        pairs = λ ll y z. omega (arith, more-hit (b .takenBetween) a c y z, one-on y z, i .pairs ll y z);
-        rows = λ y n z. refl;
-        columns = λ z n y. more-other (b .takenBetween) a c y z (inr n);
-        sent-pre = i .sent-pre c h;
-        taken-pre = λ k l. sum-ext (λ y. oneMore (b .takenBetween) a c y c) (update (λ y. b .takenBetween y c) a (suc (b .takenBetween a c))) (tree .low k c) (tree .size k c) (λ y m n. more-column (b .takenBetween) a c y)
-            ∙ pre-up (λ y. b .takenBetween y c) (λ i. b .nodes c .tallies (takenFrom i)) k c a j l sl (i .taken-pre c h k l);
-        small = i .small;
-        busy-start = λ q. (refl, refl);
-        quiet = λ q. absurd (omega arith);
-        latest = la;
-      })
-    where
-      t : Parcel
-      t = record { from = a; to = c; load = message }
-
-      v : State
-      v = atStep (withTallies (b .nodes c) true (bumpTaken (b .nodes c .tallies) j)) 0 true 0
-
-      b′ : PhaseBoard
-      b′ = changed b c v (xs ++ ys) (b .senders) (b .sentBetween) (oneMore (b .takenBetween) a c)
-
-      ok : NodeOk tree limit b c (b .nodes c)
-      ok = i .nodes-ok c h
-
-      one-message : messages (b .items) ≡ suc (messages (xs ++ ys))
-      one-message = rw e (omega (arith, messages-append xs (t ∷ ys), messages-append xs ys))
-
-      one-on : (y z : ℕ) → messages-on y z (b .items) ≡ pick (on-link y z t) 1 0 + messages-on y z (xs ++ ys)
-      one-on y z = rw e (omega (arith, messages-on-append y z xs (t ∷ ys), messages-on-append y z xs ys))
-
-      gr : (f : Entry) → b .nodes c .tallies f ≤ bumpTaken (b .nodes c .tallies) j f
-      gr (sentTo k) = omega arith
-      gr (takenFrom k) = update-all (λ i x. b .nodes c .tallies (takenFrom i) ≤ x) (λ i. b .nodes c .tallies (takenFrom i)) j (suc (b .nodes c .tallies (takenFrom j))) (omega arith) (λ i q. omega arith) k
-      gr sentAll = omega arith
-      gr takenAll = omega arith
-
-      ev : Growth P (world b) (world b′)
-      ev = takes-one refl (λ y. grows b c v gr y takenAll) (omega (arith, one-message, i .covers))
-
-  -- ---- moving on, and leaving
-
-  pub closing : (v : State) (k : ℕ) (o : Option ℕ) → (o ≡ none → ⊥) → suc k ≡ p → Agrees p limit v (p + k) o → ownSums (v .tallies) (λ i. v .stored (p + i)) (suc k) sentAll ≡ v .agreed
-  closing v k o n e alone = absurd (n refl)
-  closing v k o n e (first w x l g c1 c2 c3 c4) = absurd (omega arith)
-  closing v k o n e (second w x l g c3 c5 c6) =
-      let d : p + k - p ≡ k = omega arith in
-      let c : ownSums (v .tallies) (λ i. v .stored (p + i)) k sentAll + x sentAll ≡ v .agreed = rw d at (c6 (omega arith)) in
-      let q : entryOf (v .stored (p + k)) sentAll ≡ x sentAll = rw g refl in
-      omega arith
-
-  quiet-now : (b : PhaseBoard) → PhaseInvariant b → (a : ℕ) → a < P → b .nodes a .busy ≡ false → (k : ℕ) → b .nodes a .step ≡ p + k → suc k ≡ p
-      → Agrees p limit (b .nodes a) (b .nodes a .step) (tree .awaited (dimOf p (b .nodes a .step)) a) → Quiet (b .senders) (totalTaken P (world b)) P (world b .done) (b .nodes a .agreed)
-  quiet-now b i a h bu k e l ag =
-      final (b .senders) (totalTaken P (world b)) P (world b .done) (v .agreed) (o .part) (i .below) (o .in-reach) (reach b i) (λ y q. o .claims y zero-le (omega arith)) (sym (o .adds) ∙ total)
-    where
-      v : State
-      v = b .nodes a
-
-      ok : NodeOk tree limit b a v
-      ok = i .nodes-ok a h
-
-      here : Agrees p limit v (p + k) (tree .awaited k a)
-      here = rw (dim-second p k) at (subst (λ s. Agrees p limit v s (tree .awaited (dimOf p s) a)) e ag)
-
-      all : (j : ℕ) → j < p → Agreed tree (v .agreed) (tree .awaited j a) (confirmedIn (v .stored (p + j)))
-      all j q = go (ℕ-discrete j k)
-        where
-          go : Dec (j ≡ k) → Agreed tree (v .agreed) (tree .awaited j a) (confirmedIn (v .stored (p + j)))
-          go (yes f) = rw f (agreed-of tree limit v k (tree .awaited k a) here)
-          go (no f) = agreed-of tree limit v j (tree .awaited j a) (rw (dim-second p j) at (ok .agrees (p + j) (omega arith)))
-
-      o : Claimed P (world b) 0 P (v .agreed) (ownSums (v .tallies) (λ i. v .stored (p + i)) p sentAll)
-      o = subst (λ n. Claimed P (world b) 0 n (v .agreed) (ownSums (v .tallies) (λ i. v .stored (p + i)) p sentAll)) (tree .size-top a h)
-          (subst (λ n. Claimed P (world b) n (tree .size p a) (v .agreed) (ownSums (v .tallies) (λ i. v .stored (p + i)) p sentAll)) (tree .low-top a h)
-          (second-ok tree limit b a v h ok refl (reach b i) bu p (omega arith) (omega arith) all))
-
-      total : ownSums (v .tallies) (λ i. v .stored (p + i)) p sentAll ≡ v .agreed
-      total = subst (λ n. ownSums (v .tallies) (λ i. v .stored (p + i)) n sentAll ≡ v .agreed) l (closing v k (tree .awaited k a) (tree .not-last k a h l) l here)
-
-  moves-keep : (b : PhaseBoard) → PhaseInvariant b → (a T : ℕ) → a < P → b .nodes a .busy ≡ false → b .nodes a .step < p + p
-      → Agrees p limit (b .nodes a) (b .nodes a .step) (tree .awaited (dimOf p (b .nodes a .step)) a)
-      → (p ≤ b .nodes a .step → T ≡ b .nodes a .agreed) → (suc (b .nodes a .step) ≡ p → T ≡ ownSums (b .nodes a .tallies) (b .nodes a .stored) p takenAll)
-      → (b .lossy ≡ false → Latest tree (placed b a (atStep (b .nodes a) (suc (b .nodes a .step)) true T) (b .items))) → PhaseInvariant (placed b a (atStep (b .nodes a) (suc (b .nodes a .step)) true T) (b .items))
-  moves-keep b i a T h bu l ag t t1 la =
-      local b i a (atStep v (suc (v .step)) true T) (b .items) h refl (λ q. q)
-      (placed-ok b a v (suc (v .step)) true T ok (omega arith) (λ q. tot-now q (decLe p (v .step))) ags (λ i k q. t (omega arith)))
-      (i .items-ok) refl (λ y z. refl) (λ q. not-busy v bu q)
-      (λ q. subst (λ T. Quiet (b .senders) (totalTaken P (world b)) P (world b .done) T) (sym (t (omega arith))) (quiet-now b i a h bu (v .step - p) (omega arith) (omega arith) ag))
-      la
-    where
-      v : State
-      v = b .nodes a
-
-      ok : NodeOk tree limit b a v
-      ok = i .nodes-ok a h
-
-      tot-now : p ≤ suc (v .step) → Dec (p ≤ v .step) → T ≡ ownSums (v .tallies) (v .stored) p takenAll
-      tot-now q (yes d) = t d ∙ ok .agreed-is d
-      tot-now q (no d) = t1 (omega arith)
-
-      ags : (s : ℕ) → s < suc (v .step) → Agrees p limit v s (tree .awaited (dimOf p s) a)
-      ags s q = go (ℕ-discrete s (v .step))
-        where
-          go : Dec (s ≡ v .step) → Agrees p limit v s (tree .awaited (dimOf p s) a)
-          go (yes f) = subst (λ s. Agrees p limit v s (tree .awaited (dimOf p s) a)) (sym f) ag
-          go (no f) = ok .agrees s (omega arith)
-
-  pub phase-keeps : (b b′ : PhaseBoard) → Turn tree limit b b′ → PhaseInvariant b → PhaseInvariant b′
-  phase-keeps b b′ g i = by b b′ g i (latest-keeps tree limit b b′ g (i .busy-start) (i .latest))
-    where
-      by : (b b′ : PhaseBoard) → Turn tree limit b b′ → PhaseInvariant b → (b′ .lossy ≡ false → Latest tree b′) → PhaseInvariant b′
-      by b b′ (Turn.sends a c j h hc l sl bu lm) i la = send-keep b i a c j h hc l sl bu lm la
-      by b b′ (Turn.rests a h) i la = rests-keep b i a h la
-      by b b′ (Turn.takes xs ys a c j ha h l sl e u) i la = take-keep b i xs ys a c j h l sl e u la
-      by b b′ (Turn.stores xs ys a c s x h sp e f l aw m) i la =
-          stores-keep b i xs ys a c s x (b .nodes c .step) (b .nodes c .flag) (b .nodes c .agreed) h sp e l aw m (omega arith) (λ q. refl) (i .busy-start c) la
-      by b b′ (Turn.falls xs ys a c s x T h sp e f l aw m t) i la =
-          stores-keep b i xs ys a c s x s false T h sp e l aw (omega arith) (omega arith) t (λ q. absurd (omega (arith, i .busy-start c q .0))) la
-      by b b′ (Turn.drops xs ys a c s x h e l) i la =
-          local b i c (b .nodes c) (xs ++ ys) h refl (λ q. q) (i .nodes-ok c h) (less b i xs ys (record { from = a; to = c; load = report s x }) e .1)
-          (messages-less b xs ys a c s x e) (messages-on-less b xs ys a c s x e) (i .busy-start c) (i .quiet c h) la
-      by b b′ (Turn.puts a rs h bu l rc) i la =
-          let q = report (b .nodes a .step) (frameOf p (b .nodes a) (b .nodes a .step)) in
-          waits-keep b i a h bu (b .items ++ posts a q rs)
-          (all-append (ParcelOk tree limit b) (b .items) (posts a q rs) (i .items-ok) (all-posts b a q rs (frame-ok tree limit b a h (i .nodes-ok a h) (reach b i) bu (b .nodes a .step) l (omega arith))))
-          (omega (arith, messages-append (b .items) (posts a q rs), messages-reports a (b .nodes a .step) (frameOf p (b .nodes a) (b .nodes a .step)) rs))
-          (λ y z. omega (arith, messages-on-append y z (b .items) (posts a q rs), messages-on-reports y z a (b .nodes a .step) (frameOf p (b .nodes a) (b .nodes a .step)) rs)) la
-      by b b′ (Turn.waits a h bu f) i la = waits-keep b i a h bu (b .items) (i .items-ok) refl (λ y z. refl) la
-      by b b′ (Turn.moves a T h bu l f ag t t1) i la = moves-keep b i a T h bu l ag t t1 la
-      by b b′ (Turn.loses xs ys t e) i la =
-          record {
-            nodes-ok = λ a h. again a (i .nodes-ok a h);
-            items-ok = all-map (ParcelOk tree limit b) (ParcelOk tree limit b′) (λ t x. again-load (t .from) (t .load) x) (xs ++ ys) (less b i xs ys t e .1);
-            below = i .below;
-            covers = omega (arith, i .covers, ap messages e, messages-append xs (t ∷ ys), messages-append xs ys);
-            balance = λ q. never q;
-            pairs = λ q. never q;
-            sent-pre = i .sent-pre;
-            taken-pre = i .taken-pre;
-            small = i .small;
-            busy-start = i .busy-start;
-            quiet = i .quiet;
-            latest = la;
-          }
-        where
-          never : {A : Type 0} → _≡_ {A = Bool} true false → A
-          never q = let y : _≡_ {A = ℕ} 0 1 = cc in absurd (omega arith)
-
-          ev : Growth P (world b) (world b′)
-          ev = same refl (λ y. refl) (λ y d. d)
-
-          again : (a : ℕ) → NodeOk tree limit b a (b .nodes a) → NodeOk tree limit b′ a (b .nodes a)
-          again a ok = node-keep b b′ ev (λ y f. omega arith) (reach b i) a (b .nodes a) refl ok
-
-          again-load : (w : ℕ) (q : Content) → ContentOk tree limit b w q → ContentOk tree limit b′ w q
-          again-load w q x = load-keep b b′ ev (λ y f. omega arith) (reach b i) w q x

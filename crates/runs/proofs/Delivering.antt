@@ -28,7 +28,7 @@ use Rattle.cycle.proofs.Sums.{pick, update, update-all, update-same, update-oth
 use Rattle.cycle.proofs.Lists.{All, all-mid}
 use Rattle.cycle.proofs.Exact.{takenAll, Entries}
 use Rattle.cycle.proofs.OnePhase.{message, report, State, dimOf, atStep, withStored, withTallies, bumpTaken, Content, OnLink, Shell}
-use Rattle.cycle.proofs.PhaseInvariant.{messages, messages-append}
+use Rattle.cycle.proofs.Messages.{messages, messages-append}
 use Rattle.cycle.proofs.Ledger.{Dated, Page, Ledger, ofPhase, Step, Reached, invariant, safe, within-one}
 use Rattle.cycle.proofs.Window.{Window, Move, window-keeps, report-step}
 use Rattle.cycle.proofs.Dating.{FirstDated, phase-mid}

@@ -11,7 +11,8 @@ use Rattle.cycle.proofs.Tree.{Tree}
 use Rattle.cycle.proofs.Exact.{sentTo, takenFrom, sentAll, takenAll}
 use Rattle.cycle.proofs.OnePhase.{message, Parcel, PhaseBoard, OnLink}
 use Rattle.cycle.proofs.Latest.{on-link}
-use Rattle.cycle.proofs.PhaseInvariant.{messages-on, PhaseInvariant}
+use Rattle.cycle.proofs.Messages.{messages-on}
+use Rattle.cycle.proofs.PhaseInvariant.{PhaseInvariant}
 
 some-message : (a c : ℕ) (xs ys : List Parcel) → 1 ≤ messages-on a c (xs ++ record { from = a; to = c; load = message } ∷ ys)
 some-message a c [] ys = go (on-link a c (record { from = a; to = c; load = message }))
