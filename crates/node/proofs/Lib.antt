@@ -3,3 +3,7 @@ pub mod Valid
 pub mod Ways
 pub mod Totals
 pub mod Bound
+pub mod Depends
+pub mod Moving
+pub mod Storing
+pub mod ValidOut
