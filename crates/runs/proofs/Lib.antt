@@ -13,10 +13,10 @@ pub mod Delivering
 pub mod Steps
 pub mod Safety
 pub mod Lone
-pub mod Legal
-pub mod Tidy
+pub mod Agreeing
 pub mod Clear
 pub mod Room
-pub mod Alive
+pub mod Sound
+pub mod Calm
 pub mod Lively
 pub mod Whole

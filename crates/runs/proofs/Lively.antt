@@ -36,8 +36,8 @@ use Rattle.runs.proofs.Sim.{Carried, Sim}
 use Rattle.node.proofs.Valid.{step-first, step-second}
 use Rattle.runs.proofs.Calling.{mute-of}
 use Rattle.runs.proofs.Delivering.{c}
-use Rattle.runs.proofs.Legal.{agrees-first, agrees-second}
-use Rattle.runs.proofs.Alive.{Sound, sound, valid-at}
+use Rattle.runs.proofs.Agreeing.{agrees-first, agrees-second}
+use Rattle.runs.proofs.Calm.{Calm, calm-run}
 
 -- ---- looking for one
 
@@ -147,7 +147,7 @@ module _ {L : Limits} {P : ℕ} (setting : Setting L P) where
   abbrev T : Tree P (dimension P)
   T = tree setting
 
-  module _ (w : Board) (s : Sound setting w) where
+  module _ (w : Board) (s : Calm setting w) where
     abbrev B : Ledger
     B = s .played .ledger
 
@@ -155,7 +155,7 @@ module _ {L : Limits} {P : ℕ} (setting : Setting L P) where
     i = s .played .sim
 
     ok : (a : ℕ) → a < P → valid L (w .nodes a) ≡ true
-    ok a h = valid-at setting w (s .played) (s .kept) a h
+    ok a h = s .accepted a h
 
     to-lt : (l : List Item) (ms : List Dated) → Pair (Carried setting) l ms → (m : Item) → List·Memᴰ m l → m .to < P
     to-lt l ms h m k = at l k ms h
@@ -260,4 +260,4 @@ module _ {L : Limits} {P : ℕ} (setting : Setting L P) where
             (λ len l. move-goes L P (w .nodes (r .0)) len (ok (r .0) (r .1 .0)) (idle-of f1 (r .0) (r .1 .0) (r .1 .1 .0)) (mute-now f3 (r .0) (r .1 .0) (r .1 .1 .0)) (r .1 .1 .1))
 
   pub every-run-lives : (es : List Event) → NoLoss es → Lives L P (run L P es)
-  every-run-lives es l = lives-now (run L P es) (sound setting es l)
+  every-run-lives es l = lives-now (run L P es) (calm-run setting es l)

@@ -1,37 +1,26 @@
--- On a board that is played, no state is refused.
+-- A step that agrees in the proof agrees in the definitions.
 use mathlib.Core.Path.{_≡_, refl, sym, ap, _∙_, subst}
-use mathlib.Core.Logic.{_⊎_, inl, inr}
 use mathlib.Core.Bool.{Bool, true, false}
 use mathlib.Core.Option.{Option, none, some}
 use Prim.Native.Nat.{ℕ, suc, _+_, _-_, _≤_, _<_}
 use native.Mathlib.Omega.{arith}
-use borrow.Author.Tests.{ne-eqb, le-ltb}
 use Rattle.base.specs.Choice.{choose}
-use Rattle.base.specs.Limits.{Limits, fieldLimit, takenLimit, width}
+use Rattle.base.specs.Limits.{Limits, fieldLimit}
 use Rattle.base.proofs.Laws.{clash}
 use Rattle.tree.specs.Tree.{dimension, awaited}
-use Rattle.node.specs.Sums.{Field, sentIn, takenIn, allSent, allTaken, dims}
-use Rattle.node.specs.Sums.{tally, number, firstAt, secondAt, own, ownIssued}
+use Rattle.node.specs.Sums.{Field, sentIn, takenIn, allSent, allTaken, dims, number, firstAt, secondAt, own, ownIssued}
 use Rattle.node.specs.Agree.{isNone, agrees}
-use Rattle.node.specs.State.{valid, firstOk, secondOk}
-use Rattle.node.specs.Calls.{stepNumber}
 use Rattle.node.specs.declared.Node.{Node}
 use Rattle.cycle.proofs.Tree.{Tree}
 use Rattle.cycle.proofs.Exact.{Entry, sentTo, takenFrom, sentAll, takenAll, Entries, ownSums}
 use Rattle.cycle.proofs.OnePhase.{State, dimOf, Agrees, Above}
 use Rattle.cycle.proofs.AtRest.{dim-first, dim-second}
-use Rattle.cycle.proofs.NodeOk.{tot-le}
-use Rattle.cycle.proofs.PhaseInvariant.{reach}
-use Rattle.cycle.proofs.Ledger.{Ledger, phaseOf, Reached, invariant}
+use Rattle.cycle.proofs.Ledger.{Ledger, Reached}
 use Rattle.cycle.proofs.Events.{stateOf}
-use Rattle.tree.specs.Lookups.{badBoard}
 use Rattle.runs.proofs.Setting.{Setting, tree, dim-pos, awaited-is}
 use Rattle.node.proofs.Clauses.{Has, first-step, second-step}
-use Rattle.node.proofs.Valid.{valid-good, stepOf}
-use Rattle.runs.proofs.View.{fieldOf, firstEntries, secondEntries, view, Alike, Like, slots-first, slots-second, own-is, issued-is, own-like, agree-like}
+use Rattle.runs.proofs.View.{fieldOf, firstEntries, secondEntries, view, Alike, Like, slots-first, slots-second, own-is, issued-is, agree-like}
 use Rattle.runs.proofs.Sim.{Holds}
-use Rattle.runs.proofs.Emit.{step-lt}
-use Rattle.node.proofs.Valid.{step-first, step-second}
 
 alike-sym : (p s : ℕ) (a b : Option Entries) → Alike p s a b → Alike p s b a
 alike-sym p s none none h = tt
@@ -102,16 +91,6 @@ agree-back-second L p n k o e q l (Agrees.second w x m g c3 c5 c6) =
     own2 : ownIssued n k ≡ ownSums (view p n .tallies) (λ i. view p n .stored (p + i)) (p + k - p) sentAll
     own2 = issued-is p n k ∙ ap (λ i. ownSums (view p n .tallies) (λ i. view p n .stored (p + i)) i sentAll) (sym z₀)
 
--- what the simulation doesn't say of a state
-pub record Tidy (L : Limits) (P : ℕ) (n : Node) : Type 0 where
-  pub sent-le : tally n allSent ≤ L .sends
-  pub taken-le : tally n allTaken ≤ takenLimit L
-  pub others : (m : ℕ) → dimension P ≤ m → m < width → (tally n (sentIn m) ≡ 0) × (tally n (takenIn m) ≡ 0)
-  pub no-total : n .pass ≡ 1 → n .agreed ≡ 0
-  pub firsts : (k : ℕ) → k < width → firstOk L n k ≡ true
-  pub seconds : (k : ℕ) → k < width → secondOk L n k ≡ true
-  pub busy-at : n .busy ≡ true → (n .pass ≡ 1) × ((n .dim ≡ 0) × (n .flag ≡ true))
-
 module _ {L : Limits} {P : ℕ} (setting : Setting L P) where
   abbrev p : ℕ
   p = dimension P
@@ -139,55 +118,3 @@ module _ {L : Limits} {P : ℕ} (setting : Setting L P) where
     agrees-second k l g =
         agree-back-second L p n k (T .awaited k a) dims-is (awaits k) l
         (agree-like p (stateOf B a) (view p n) (like-sym p (view p n) (stateOf B a) (o .like)) (fieldLimit L) (p + k) (T .awaited k a) (omega arith) (subst (λ d. Agrees p (fieldLimit L) (stateOf B a) (p + k) (T .awaited d a)) (dim-second p k) g))
-
-    passed : (k : ℕ) → k < stateOf B a .step → Agrees p (fieldLimit L) (stateOf B a) k (T .awaited (dimOf p k) a)
-    passed k l = invariant T (fieldLimit L) B r .fit (B .phase a) .nodes-ok a h .agrees k l
-
-    module _ (t : Tidy L P n) where
-      at-second : n .pass ≡ 2 → stateOf B a .step ≡ p + n .dim
-      at-second e = sym (o .like .step) ∙ step-second p (n .pass) (n .dim) e
-
-      at-is : stepOf n ≡ stateOf B a .step
-      at-is = ap (λ d. stepNumber d (n .pass) (n .dim)) dims-is ∙ o .like .step
-
-      agreed-is : n .pass ≡ 2 → (n .agreed ≡ own n (dims n) allTaken) × (n .agreed ≤ fieldLimit L)
-      agreed-is e =
-          let z = at-second e in
-          let f = invariant (tree setting) (fieldLimit L) B r .fit (B .phase a) in
-          let q = f .nodes-ok a h in
-          (
-            o .like .agreed ∙ q .agreed-is (omega arith)
-            ∙ sym (own-like p (view p n) (stateOf B a) (o .like) p (omega arith) takenAll tt)
-            ∙ sym (own-is p n p (omega arith) takenAll) ∙ ap (λ d. own n d allTaken) (sym dims-is),
-            omega (arith, o .like .agreed, tot-le (tree setting) (fieldLimit L) (phaseOf B (B .phase a)) a (stateOf B a) h q refl (omega arith), reach (tree setting) (fieldLimit L) (phaseOf B (B .phase a)) f, f .small),
-          )
-
-      agreed-low : (n .pass ≡ 1) ⊎ (n .pass ≡ 2) → n .agreed ≤ fieldLimit L
-      agreed-low (inl e) = omega (arith, t .no-total e)
-      agreed-low (inr e) = agreed-is e .1
-
-      good-board : badBoard L (n .nodes) ≡ false
-      good-board =
-          let e = o .nodes in
-          rw (ne-eqb (n .nodes) 0 (λ q. omega (arith, setting .two)), le-ltb (L .nodes) (n .nodes) (omega (arith, setting .few)))
-
-      pub legal : valid L n ≡ true
-      legal =
-          valid-good L n (record {
-            board = good-board;
-            number = omega (arith, o .nodes, o .number);
-            pass = o .pass;
-            dim = λ z. omega (arith, o .low, dims-is);
-            lone = λ z. absurd (omega (arith, dims-is, dim-pos setting));
-            sent = t .sent-le;
-            taken = t .taken-le;
-            others = λ m x y. t .others m (omega (arith, dims-is)) y;
-            agreed = agreed-low (o .pass);
-            agreed-first = t .no-total;
-            agreed-second = λ e. agreed-is e .0;
-            first = t .firsts;
-            second = t .seconds;
-            before-first = λ k x y. agrees-first k (omega (arith, dims-is)) (passed k (omega (arith, at-is)));
-            before-second = λ k x. agrees-second k (omega (arith, step-lt p (n .pass) (n .dim) (o .pass) (o .low), at-is, o .like .step, dims-is)) (passed (p + k) (omega (arith, at-is, dims-is)));
-            busy = t .busy-at;
-          })
