@@ -1,4 +1,5 @@
--- NO STICK, put together: where nobody is busy, nothing is under way to a node still in the phase and nobody would send, the node that is least far agrees.
+-- A board at rest: nobody busy, nothing under way to a node still in the phase, nobody with a frame to send. Then all sums are
+-- exact as far as everybody has come, and the step of the node that is least far agrees.
 use mathlib.Core.Path.{_≡_, refl, sym, ap, _∙_}
 use mathlib.Core.Option.{Option, none, some}
 use Prim.Native.Nat.{ℕ, zero, suc, _+_, _-_, _≤_, _<_}

@@ -1,4 +1,4 @@
--- The items of one phase among all items.
+-- The items of one phase among the items of all.
 use mathlib.Core.Path.{_≡_, refl, sym, ap, _∙_}
 use mathlib.Core.Logic.{_≢_}
 use mathlib.Core.List.{List, [], _∷_, _++_, map, append-nil}

@@ -1,4 +1,4 @@
--- Each kind of step, from its conditions: what the simulation of the concrete board cites.
+-- What an event does to the ledger is a step of it, kind by kind: what the proof about boards cites.
 use mathlib.Core.Path.{_≡_, refl, sym, ap, _∙_, subst}
 use mathlib.Core.Logic.{_⊎_}
 use mathlib.Core.Bool.{true, false}
@@ -18,11 +18,11 @@ use Rattle.cycle.proofs.Dating.{dated, phase-more, phase-more-else, pha
 abbrev pub stateOf : Ledger → ℕ → State
 stateOf b a = b .pages (b .phase a) .nodes a
 
--- what there is of the phase, with node a changed
+-- the page with node a changed
 abbrev pub pageWith : Page → ℕ → State → Page
 pageWith w a v = record { nodes = update (w .nodes) a v; senders = w .senders; sentBetween = w .sentBetween; takenBetween = w .takenBetween; lossy = w .lossy }
 
--- the board with one phase changed
+-- the ledger with one page changed
 abbrev pub ledgerWith : Ledger → ℕ → Page → List Dated → Ledger
 ledgerWith b n w ms = record { phase = b .phase; pages = update (b .pages) n w; items = ms }
 

@@ -1,5 +1,5 @@
--- NO STICK, the part without events: if what every node has stored is what its partner would write now, and all work is taken,
--- then the sums of a node are the sums over its run, and the two sides of a step agree.
+-- Where what every node has stored is what its partner would write now, the own sums of a node are the sums over its run; and
+-- where all work is taken, what one run has sent to its sibling the sibling has taken.
 use mathlib.Core.Path.{_≡_, refl, sym, _∙_}
 use mathlib.Core.Option.{Option, none, some}
 use Prim.Native.Nat.{ℕ, zero, suc, _+_, _≤_, _<_}
@@ -17,7 +17,7 @@ sum-swap m i n j (suc l) =
     let b = sum-swap m i n j l in
     omega arith
 
--- ---- fields of a frame: sent and taken by shell, and in all
+-- ---- the numbers of a node and of a frame: sent and taken by shell, and in all
 
 pub data Entry : Type 0 where
   sentTo : ℕ → Entry
@@ -28,19 +28,22 @@ pub data Entry : Type 0 where
 abbrev pub Entries : Type 0
 Entries = Entry → ℕ
 
+-- the number of a stored frame; 0 where none is stored
 abbrev pub entryOf : Option Entries → Entries
 entryOf none f = 0
 entryOf (some x) f = x f
 
+-- the own sums: tallies, and the stored frames of the first k steps
 abbrev pub ownSums : Entries → (ℕ → Option Entries) → ℕ → Entries
 ownSums tal g zero f = tal f
 ownSums tal g (suc k) f = ownSums tal g k f + entryOf (g k) f
 
 module _ {P p : ℕ} (tree : Tree P p) where
+  -- a sum over the run of a in dimension k
   abbrev pub runSum : (ℕ → ℕ) → ℕ → ℕ → ℕ
   runSum g k a = sum g (tree .low k a) (tree .size k a)
 
-  -- what is stored for step k, from the awaited node if there is one, is exact in the field f
+  -- what is stored for step k, from the awaited node if there is one, is exact in the number f
   abbrev pub Exact : (ℕ → Entries) → Entry → ℕ → Option ℕ → Option Entries → Type 0
   Exact tal f k none none = Unit {0}
   Exact tal f k none (some x) = ⊥

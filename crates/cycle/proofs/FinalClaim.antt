@@ -1,4 +1,4 @@
--- A claim of a node for a total T, and what follows when all nodes' claims add up to T.
+-- The final lemma: a claim of a node for a total T, and that a phase is quiet where the claims of all nodes add up to T.
 use mathlib.Core.Path.{_≡_, refl}
 use mathlib.Core.Logic.{_≢_}
 use mathlib.Core.List.{List}
@@ -8,16 +8,18 @@ use native.Mathlib.Omega.{arith}
 use lib.ListN.{length, take, getD}
 use Rattle.cycle.proofs.Sums.{sum, sum-tight, sum-count-take, count, Below}
 
--- firsts log T y: how often y is among the first T senders
+-- how often y is among the first T senders
 abbrev pub firsts : List ℕ → ℕ → ℕ → ℕ
 firsts log T y = count y (take T log)
 
--- log: the senders of the phase in order; R: takes so far; Q: y is idle in the phase or has left it; s: what y has put in
+-- The claim of y for T. log: the senders of the phase in order; R: all that is taken; Q: y is idle in the phase or has left
+-- it; s: what y says to have sent.
 pub data Claim (log : List ℕ) (R : ℕ) (Q : Type 0) (y s T : ℕ) : Type 0 where
   over : firsts log T y < s → Claim log R Q y s T
   quiet : s ≡ firsts log T y → length log ≡ T → R ≡ T → Q → Claim log R Q y s T
   later : s ≡ firsts log T y → T < length log → getD log T 0 ≢ y → Claim log R Q y s T
 
+-- all that was sent is taken, and all nodes are idle in the phase or have left it
 pub record Quiet (log : List ℕ) (R P : ℕ) (Q : ℕ → Type 0) (T : ℕ) : Type 0 where
   pub all-sent : length log ≡ T
   pub all-taken : R ≡ T

@@ -1,4 +1,4 @@
--- How a phase goes on by one event, and what stays true of the frames of that phase.
+-- How a phase goes on by one event, and that the claims and the bounds of its frames stay true.
 use mathlib.Core.Path.{_≡_, sym, _∙_, subst}
 use mathlib.Core.List.{List, [], _∷_}
 use Prim.Native.Nat.{ℕ, _+_, _≤_, _<_}
@@ -16,6 +16,7 @@ pub record Course : Type 1 where
 abbrev pub totalTaken : ℕ → Course → ℕ
 totalTaken P w = sum (w .taken) 0 P
 
+-- what one event does to a phase
 pub data Growth (P : ℕ) (w w′ : Course) : Type 0 where
   same : w′ .senders ≡ w .senders → ((y : ℕ) → w′ .taken y ≡ w .taken y) → ((y : ℕ) → w .done y → w′ .done y) → Growth P w w′
   sends : (z : ℕ) → z < P → w′ .senders ≡ snoc (w .senders) z → ((y : ℕ) → w′ .taken y ≡ w .taken y) → (w .done z → ⊥) → ((y : ℕ) → w .done y → w′ .done y) → Growth P w w′
@@ -44,7 +45,8 @@ claim-keep P w w′ y s T (takes-one a b c) t (over h) = over (rw a h)
 claim-keep P w w′ y s T (takes-one a b c) t (quiet e f g d) = absurd (omega arith)
 claim-keep P w w′ y s T (takes-one a b c) t (later e f g) = later (rw a e) (rw a f) (rw a g)
 
--- the frames of a phase: the run of the sender is [lo, lo + n)
+-- A number in a frame of pass 1 is at most what the run of its sender has taken; a frame of pass 2 is a sum of claims. The run
+-- is the n nodes from low on.
 abbrev pub AtMost : Course → ℕ → ℕ → ℕ → Type 0
 AtMost w low n x = x ≤ sum (w .taken) low n
 

@@ -1,4 +1,5 @@
--- NO STICK, the part with events: the latest frame of a step on a link, or the stored one if none is under way, is what its sender would write now.
+-- The invariant that no board sticks by: the latest frame of a step on a link, or the stored one if none is under way, is what
+-- its sender would write now.
 use mathlib.Core.Path.{_≡_, refl, sym, ap, _∙_, fun-ext}
 use mathlib.Core.Logic.{_≢_, _⊎_, inl, inr}
 use mathlib.Core.Bool.{Bool, true, false}

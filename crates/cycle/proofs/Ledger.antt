@@ -1,4 +1,5 @@
--- All phases: a board is a board of one phase for each phase, with the items of that phase only. An event acts in one phase.
+-- All phases: the ledger has a page for each phase, and with the items of that phase the page is a board of one phase. An event
+-- acts on one page. Safety and "no board sticks" of the ledger.
 use mathlib.Core.Path.{_≡_, refl, sym, ap, _∙_, subst}
 use mathlib.Core.Logic.{_≢_, _⊎_}
 use mathlib.Core.Bool.{Bool, true, false}
@@ -17,6 +18,7 @@ use Rattle.cycle.proofs.PhaseKept.{phase-keeps}
 use Rattle.cycle.proofs.NoStick.{no-stick}
 use Rattle.cycle.proofs.Opening.{fresh, start-ok}
 
+-- an item and the phase that it belongs to
 pub record Dated : Type 0 where
   pub phase : ℕ
   pub item : Parcel
@@ -29,6 +31,7 @@ pub record Page : Type 0 where
   pub takenBetween : ℕ → ℕ → ℕ
   pub lossy : Bool
 
+-- which phase each node is in, the page of each phase, and the items under way
 pub record Ledger : Type 0 where
   pub phase : ℕ → ℕ
   pub pages : ℕ → Page
@@ -71,6 +74,8 @@ module _ {P p : ℕ} (tree : Tree P p) (limit : ℕ) where
     late : (n : ℕ) (w : Page) (ms : List Dated) → Turn tree limit (phaseOf b n) (boardOf w (ofPhase n ms)) → ((m : ℕ) → m ≢ n → ofPhase m ms ≡ ofPhase m (b .items))
         → ((y : ℕ) → w .nodes y ≡ b .pages n .nodes y) → Step b (record { phase = b .phase; pages = update (b .pages) n w; items = ms })
 
+  -- each page has the invariant of a phase; a node is fresh in the phases ahead, at a step in its own, and past the last step
+  -- in those behind
   pub record Invariant (b : Ledger) : Type 0 where
     pub fit : (n : ℕ) → PhaseInvariant tree limit (phaseOf b n)
     pub ahead : (y n : ℕ) → b .phase y < n → b .pages n .nodes y ≡ fresh
@@ -141,6 +146,7 @@ module _ {P p : ℕ} (tree : Tree P p) (limit : ℕ) where
       go (no l) = omega arith
       go (yes l) = let f = ap (λ v. v .busy) (i .ahead y n l) in let z : _≡_ {A = Bool} true false = sym f ∙ e in let q : _≡_ {A = ℕ} 0 1 = cc in absurd (omega arith)
 
+  -- the phase is over: all taken, all idle, everybody there or past it
   pub record Over (b : Ledger) (n : ℕ) : Type 0 where
     pub taken : sum (λ y. b .pages n .nodes y .tallies takenAll) 0 P ≡ length (b .pages n .senders)
     pub idle : (y : ℕ) → y < P → b .pages n .nodes y .busy ≡ false
@@ -152,7 +158,7 @@ module _ {P p : ℕ} (tree : Tree P p) (limit : ℕ) where
       let q = i .fit n .quiet a h (i .past a n l) in
       record { taken = q .all-taken ∙ sym (q .all-sent); idle = q .all-idle; reached = λ y k. idle-means b i y n (q .all-idle y k) }
 
-  -- the phases of confirming nodes are within one of one another
+  -- the phases of two nodes are within one of one another
   pub within-one : (b : Ledger) → Reached b → (a c : ℕ) → a < P → c < P → b .phase a ≤ suc (b .phase c)
   within-one b r a c h k = go (decLt (suc (b .phase c)) (b .phase a))
     where
@@ -160,7 +166,8 @@ module _ {P p : ℕ} (tree : Tree P p) (limit : ℕ) where
       go (no l) = omega arith
       go (yes l) = absurd (omega (arith, safe b r a (suc (b .phase c)) h l .reached c k))
 
-  -- ---- NO STICK: in the oldest phase somebody is busy, or something of it is under way to somebody in it, or somebody would send, or move or leave
+  -- ---- NO BOARD STICKS: where nobody in the oldest phase is busy, has something of it under way to it, or would send, a step
+  -- agrees
 
   pub no-board-sticks : (b : Ledger) → Reached b → (u : ℕ) → u < P → b .pages (b .phase u) .lossy ≡ false → ((y : ℕ) → y < P → b .phase u ≤ b .phase y)
       → ((a : ℕ) → a < P → b .phase a ≡ b .phase u → b .pages (b .phase u) .nodes a .busy ≡ false)

@@ -1,4 +1,4 @@
--- The invariant of one phase: what frames and nodes hold, and how it is carried over an event.
+-- What the frames and the nodes of one phase hold, and that what a node would write is so too.
 use mathlib.Core.Path.{_≡_, refl, sym, _∙_}
 use mathlib.Core.Bool.{false}
 use mathlib.Core.Option.{Option, none, some}
@@ -55,11 +55,13 @@ agree-same p limit v v′ s o t e q (second w x l g c3 c5 c6) =
     second w x l (e s (omega arith) ∙ g) (omega arith) (c5 ∙ sym (q l)) (λ z. omega (arith, q l, c6 z))
 
 module _ {P p : ℕ} (tree : Tree P p) (limit : ℕ) where
+  -- a frame of pass 1: no number is above the true sum over its sender's run, and the shells add up to the totals
   pub record FirstGood (b : PhaseBoard) (s w : ℕ) (x : Entries) : Type 0 where
     pub le : (f : Entry) → HasEntry p f → x f ≤ runSum tree (λ y. b .nodes y .tallies f) s w
     pub sum-t : x takenAll ≡ sum (λ j. x (takenFrom j)) 0 p
     pub sum-s : x sentAll ≡ sum (λ j. x (sentTo j)) 0 p
 
+  -- a frame of step s, from w
   pub record FrameOk (b : PhaseBoard) (s w : ℕ) (x : Entries) : Type 0 where
     pub in1 : s < p → FirstGood b s w x
     pub in2 : (k : ℕ) → s ≡ p + k → Claimed P (world b) (tree .low k w) (tree .size k w) (x takenAll) (x sentAll)
@@ -76,6 +78,8 @@ module _ {P p : ℕ} (tree : Tree P p) (limit : ℕ) where
   abbrev pub ParcelOk : PhaseBoard → Parcel → Type 0
   ParcelOk b i = ContentOk b (i .from) (i .load)
 
+  -- a node: its stored frames are right, T is what the frames of pass 1 give, the steps before its own agree, and its totals
+  -- are what it has sent and what it has taken
   pub record NodeOk (b : PhaseBoard) (a : ℕ) (v : State) : Type 0 where
     pub stored-ok : (s : ℕ) → s < p + p → StoredOk b s (tree .awaited (dimOf p s) a) (v .stored s)
     pub agreed-is : p ≤ v .step → v .agreed ≡ ownSums (v .tallies) (v .stored) p takenAll

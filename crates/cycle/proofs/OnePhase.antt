@@ -1,5 +1,5 @@
--- One phase alone, with no loss: a node that has not come to the phase yet is a fresh, busy one that does nothing, and one that has left it is at step p + p.
--- Steps are counted through: pass 1, dimension k is step k; pass 2, dimension k is step p + k.
+-- One phase alone: a node that has not come to the phase yet is a fresh, busy one that does nothing, and one that has left it
+-- is at step p + p. Steps are counted through: pass 1, dimension k is step k; pass 2, dimension k is step p + k.
 use mathlib.Core.Path.{_≡_}
 use mathlib.Core.Logic.{_⊎_}
 use mathlib.Core.Bool.{Bool, true, false}
@@ -13,6 +13,7 @@ use Rattle.cycle.proofs.Tree.{Tree}
 use Rattle.cycle.proofs.Lists.{All}
 use Rattle.cycle.proofs.Exact.{Entry, sentTo, takenFrom, sentAll, takenAll, Entries, ownSums, InRun}
 
+-- what is under way: a work message, or the numbers of a frame of a step
 pub data Content : Type 0 where
   message : Content
   report : ℕ → Entries → Content
@@ -22,6 +23,7 @@ pub record Parcel : Type 0 where
   pub to : ℕ
   pub load : Content
 
+-- a node in the phase: its tallies, the step that it is at, T, and the frame stored for each step
 pub record State : Type 0 where
   pub busy : Bool
   pub tallies : Entries
@@ -30,7 +32,8 @@ pub record State : Type 0 where
   pub agreed : ℕ
   pub stored : ℕ → Option Entries
 
--- the board, and three histories: the senders in order, and how much each has sent to and taken from each
+-- The nodes and the items under way. History: the senders in order, how much each has sent to each and taken from each, and
+-- whether something was lost.
 pub record PhaseBoard : Type 0 where
   pub nodes : ℕ → State
   pub items : List Parcel
@@ -39,6 +42,7 @@ pub record PhaseBoard : Type 0 where
   pub takenBetween : ℕ → ℕ → ℕ
   pub lossy : Bool
 
+-- the numbers of a frame of pass 2: T, and total sent
 abbrev pub confirming : ℕ → ℕ → Entries
 confirming T x (sentTo j) = 0
 confirming T x (takenFrom j) = 0
@@ -49,11 +53,13 @@ confirming T x takenAll = T
 abbrev pub frameOf : ℕ → State → ℕ → Entries
 frameOf p v s = pick (decLt s p) (ownSums (v .tallies) (v .stored) s) (confirming (v .agreed) (ownSums (v .tallies) (λ i. v .stored (p + i)) (s - p) sentAll))
 
+-- the dimension of a step
 abbrev pub dimOf : ℕ → ℕ → ℕ
 dimOf p s = pick (decLt s p) s (s - p)
 
 -- ---- when a step agrees
 
+-- a number of a board of dimension p
 abbrev pub HasEntry : ℕ → Entry → Type 0
 HasEntry p (sentTo j) = j < p
 HasEntry p (takenFrom j) = j < p
@@ -73,6 +79,7 @@ above-ok s p (takenFrom j) h = h .1
 above-ok s p sentAll h = tt
 above-ok s p takenAll h = tt
 
+-- the step agrees, by the frame of the node that is awaited in it
 pub data Agrees (p limit : ℕ) (v : State) (s : ℕ) : Option ℕ → Type 0 where
   alone : Agrees p limit v s none
   first : (w : ℕ) (x : Entries) → s < p → v .stored s ≡ some x
@@ -82,6 +89,7 @@ pub data Agrees (p limit : ℕ) (v : State) (s : ℕ) : Option ℕ → Type 0 wh
   second : (w : ℕ) (x : Entries) → p ≤ s → v .stored s ≡ some x → ownSums (v .tallies) (λ i. v .stored (p + i)) (s - p) sentAll + x sentAll ≤ limit → x takenAll ≡ v .agreed
       → (suc s ≡ p + p → ownSums (v .tallies) (λ i. v .stored (p + i)) (s - p) sentAll + x sentAll ≡ v .agreed) → Agrees p limit v s (some w)
 
+-- the same to each receiver
 abbrev pub posts : ℕ → Content → List ℕ → List Parcel
 posts a q rs = map (λ r. record { from = a; to = r; load = q }) rs
 
@@ -131,6 +139,7 @@ module _ {P p : ℕ} (tree : Tree P p) where
   abbrev pub Shell : ℕ → ℕ → ℕ → Type 0
   Shell a c j = (k : ℕ) → k ≤ p → (InRun tree k a c → j < k) × (j < k → InRun tree k a c)
 
+  -- an event of the phase
   pub data Turn (limit : ℕ) (b : PhaseBoard) : PhaseBoard → Type 0 where
     sends : (a c j : ℕ) → a < P → c < P → j < p → Shell a c j → b .nodes a .busy ≡ true → length (b .senders) < limit
         → Turn limit b (changed b a (withTallies (b .nodes a) true (bumpSent (b .nodes a .tallies) j)) (b .items ++ posts a message (c ∷ [])) (snoc (b .senders) a) (oneMore (b .sentBetween) a c) (b .takenBetween))

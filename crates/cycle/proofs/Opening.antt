@@ -1,4 +1,4 @@
--- One phase, over the tree of the splitting rule: all runs.
+-- A phase that nobody has done anything in has the invariant.
 use mathlib.Core.Path.{_≡_, refl, sym, _∙_}
 use mathlib.Core.Logic.{inl, inr}
 use mathlib.Core.Bool.{true, false}

@@ -1,4 +1,4 @@
--- The own sums of a node, and why what it puts into a frame is right.
+-- Why what a node puts into a frame is right: its own sums, by the frames that it has stored.
 use mathlib.Core.Path.{_≡_, refl, sym, ap}
 use mathlib.Core.Option.{Option, none, some}
 use mathlib.Core.List.{List, [], _∷_, _++_}
@@ -36,6 +36,7 @@ claim-make l R Q y T a b q = go (decLt (firsts l T y) (count y l)) (decLt T (len
 
 -- ---- own sums
 
+-- what a frame of pass 2 says: T, and total sent
 pub record Confirmed : Type 0 where
   pub agreed : ℕ
   pub issued : ℕ
@@ -68,7 +69,7 @@ module _ {P p : ℕ} (tree : Tree P p) where
   SecondStored w k none (some x) = ⊥
   SecondStored w k (some v) (some x) = Claimed P w (tree .low k v) (tree .size k v) (x .agreed) (x .issued)
 
-  -- a step that agreed: the frame is there, changed the same total
+  -- a step that agreed: the frame is there, with the same total
   abbrev pub Agreed : ℕ → Option ℕ → Option Confirmed → Type 0
   Agreed T none o = Unit {0}
   Agreed T (some v) none = ⊥

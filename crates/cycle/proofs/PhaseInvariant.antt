@@ -20,17 +20,23 @@ use Rattle.cycle.proofs.Messages.{messages, messages-on}
 
 module _ {P p : ℕ} (tree : Tree P p) (limit : ℕ) where
   pub record PhaseInvariant (b : PhaseBoard) : Type 0 where
+    -- what the nodes and the items say
     pub nodes-ok : (a : ℕ) → a < P → NodeOk tree limit b a (b .nodes a)
     pub items-ok : All (ParcelOk tree limit b) (b .items)
+    -- senders are nodes of the board
     pub below : Below P (b .senders)
+    -- what is taken or under way was sent; and where nothing is lost there is nothing else
     pub covers : totalTaken P (world b) + messages (b .items) ≤ length (b .senders)
     pub balance : b .lossy ≡ false → totalTaken P (world b) + messages (b .items) ≡ length (b .senders)
     pub pairs : b .lossy ≡ false → (y z : ℕ) → b .sentBetween y z ≡ b .takenBetween y z + messages-on y z (b .items)
+    -- the tallies by shell are what was sent to and taken from each node of the shell
     pub sent-pre : (y : ℕ) → y < P → (k : ℕ) → k ≤ p → runSum tree (b .sentBetween y) k y ≡ sum (λ j. b .nodes y .tallies (sentTo j)) 0 k
     pub taken-pre : (z : ℕ) → z < P → (k : ℕ) → k ≤ p → runSum tree (λ y. b .takenBetween y z) k z ≡ sum (λ j. b .nodes z .tallies (takenFrom j)) 0 k
     pub small : length (b .senders) ≤ limit
     pub busy-start : BusyAtStart tree b
+    -- who has left has left a quiet phase
     pub quiet : (a : ℕ) → a < P → p + p ≤ b .nodes a .step → Quiet (b .senders) (totalTaken P (world b)) P (world b .done) (b .nodes a .agreed)
+    -- where nothing is lost, the latest frames are those that would be written now
     pub latest : b .lossy ≡ false → Latest tree b
 
   pub reach : (b : PhaseBoard) → PhaseInvariant b → totalTaken P (world b) ≤ length (b .senders)
@@ -84,6 +90,7 @@ module _ {P p : ℕ} (tree : Tree P p) (limit : ℕ) where
   quiet-keep w w′ T (sends z zP a b n c) q = absurd (n (q .all-idle z zP))
   quiet-keep w w′ T (takes-one a b c) q = absurd (omega (arith, q .all-sent, q .all-taken))
 
+  -- what an event that changes node a to v, and the items and histories, has to give
   pub record Obligations (b : PhaseBoard) (a : ℕ) (v : State) (is : List Parcel) (log′ : List ℕ) (sentBetween′ takenBetween′ : ℕ → ℕ → ℕ) : Type 0 where
     pub here : a < P
     pub evol : Growth P (world b) (world (changed b a v is log′ sentBetween′ takenBetween′))

@@ -117,7 +117,7 @@ module _ {P p : ℕ} (tree : Tree P p) (limit : ℕ) where
       ok : NodeOk tree limit b a (b .nodes a)
       ok = i .nodes-ok a h
 
-  -- a node elsewhere in its steps, changed the same frames
+  -- a node elsewhere in its steps, with the same frames
   placed-ok : (b : PhaseBoard) (a : ℕ) (v : State) (s : ℕ) (f : Bool) (T : ℕ) → NodeOk tree limit b a v → s ≤ p + p → (p ≤ s → T ≡ ownSums (v .tallies) (v .stored) p takenAll)
       → ((i : ℕ) → i < s → Agrees p limit v i (tree .awaited (dimOf p i) a)) → ((i : ℕ) → i < s → p ≤ i → T ≡ v .agreed) → NodeOk tree limit b a (atStep v s f T)
   placed-ok b a v s f T ok l t ag tt′ =

@@ -1,4 +1,4 @@
--- Finite sums over an interval, functions changed at one place, and counts in a list.
+-- Sums over an interval, functions changed at one place, and counts in a list.
 use mathlib.Core.Path.{_≡_, refl, sym, ap, _∙_}
 use mathlib.Core.Logic.{_≢_, _⊎_, inl, inr}
 use mathlib.Core.List.{List, [], _∷_, _++_}

@@ -1,4 +1,4 @@
--- What the safety proof asks of the tree: the run of dimension k that holds a is [lo k a, lo k a + size k a).
+-- What the proof asks of the tree: the run of dimension k that holds a is the nodes from low k a on, size k a of them.
 use mathlib.Core.Path.{_≡_}
 use mathlib.Core.Option.{Option, none, some}
 use Prim.Native.Nat.{ℕ, suc, _+_, _≤_, _<_}

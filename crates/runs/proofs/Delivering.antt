@@ -146,7 +146,7 @@ module _ {L : Limits} {P : ℕ} (setting : Setting L P) (w : Board) (play : Play
         go (report s x) z h = absurd (subst (Loads setting (m .from) (m .phase) (work byte)) z h)
 
     module _ (byte : ℕ) (lw : m .load ≡ work byte) (lj : c .one .item .load ≡ message) (by : byte ≡ m .phase % 256) where
-      -- while it is under way isNone hasStored left its phase
+      -- while it is under way nobody has left its phase
       pub not-behind : (y : ℕ) → y < P → ledger .phase y ≤ m .phase
       not-behind y hy = go (decLt (m .phase) (ledger .phase y))
         where

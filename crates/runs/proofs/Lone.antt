@@ -1,4 +1,4 @@
--- A board of one node: both halves.
+-- A board of one node: both halves of demand 3.
 use mathlib.Core.Path.{_≡_, refl, sym, ap, _∙_, subst}
 use mathlib.Core.Bool.{Bool, true, false}
 use mathlib.Core.Option.{none, some}

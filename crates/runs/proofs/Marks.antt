@@ -1,4 +1,4 @@
--- The untaken messages: their number is what is sent less what is taken.
+-- The untaken messages of a phase: what is sent in it less what is taken.
 use mathlib.Core.Path.{_≡_, refl, sym, ap, _∙_, subst}
 use mathlib.Core.Logic.{_≢_}
 use mathlib.Core.Option.{Option, none, some}
@@ -17,6 +17,7 @@ use Rattle.cycle.proofs.Ledger.{Dated, Page, Ledger}
 use Rattle.cycle.proofs.Events.{stateOf, ledgerWith, pageSent, pageTaken}
 use Rattle.runs.proofs.Tools.{put-same, put-other, put-update}
 
+-- 1 for a mark of phase n
 abbrev pub hit : ℕ → Option ℕ → ℕ
 hit n none = 0
 hit n (some k) = pick (ℕ-discrete k n) 1 0
@@ -38,6 +39,7 @@ hit-other k n q = go (ℕ-discrete k n)
 abbrev pub IsWork : Item → Type 0
 IsWork m = (byte : ℕ) × (m .load ≡ work byte)
 
+-- no two messages have the same name
 abbrev pub Apart : List Item → Type 0
 Apart [] = Unit {0}
 Apart (m ∷ ms) = All (λ k. IsWork m → IsWork k → k .name ≢ m .name) ms × Apart ms
@@ -60,6 +62,7 @@ frame-not-work m bs e w = let q = w .1 in let b = w .0 in go b q
     go : {A : Type 0} (b : ℕ) → m .load ≡ work b → A
     go b q = let z : _≡_ {A = ℕ} 0 1 = cc in absurd (omega arith)
 
+-- a message is marked untaken, with its phase
 abbrev pub Named : (ℕ → Option ℕ) → ℕ → Item → Type 0
 Named ut sd m = IsWork m → (m .name < sd) × (ut (m .name) ≡ some (m .phase))
 
@@ -107,7 +110,7 @@ module _ (P : ℕ) where
       new [] = tt
       new (r ∷ rs) = ((λ u w. frame-not-work (record { from = a; to = r; load = frame bs; phase = c; name = 0 }) bs refl w), new rs)
 
-  -- the takes of every phase, after node a hasStored changed
+  -- the takes of every phase, after node a has changed
   pub takes-same : (B : Ledger) (a : ℕ) (u : Page) (v : State) (ms : List Dated) → u .nodes ≡ update (B .pages (B .phase a) .nodes) a v → v .tallies takenAll ≡ stateOf B a .tallies takenAll
       → (n : ℕ) → takesIn (ledgerWith B (B .phase a) u ms) n ≡ takesIn B n
   takes-same B a u v ms e q =

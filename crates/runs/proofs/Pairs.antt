@@ -1,4 +1,4 @@
--- Items of the definitions beside messages of the proof: two lists in step.
+-- The items of the board beside the items of the ledger: two lists in step.
 use mathlib.Core.Path.{_≡_, refl, sym, ap, _∙_, subst}
 use mathlib.Core.Bool.{Bool, true, false}
 use mathlib.Core.Option.{some}

@@ -67,7 +67,7 @@ module _ {L : Limits} {P : ℕ} (setting : Setting L P) (w : Board) (play : Play
   pub held : (e : Event) (a : ℕ) → Next setting w play e (gave w a (w .nodes a))
   held e a = record { played = record { ledger = ledger; reached = reached; sim = unmoved setting w ledger sim a; marks = marks }; calm = inl (λ n. refl) }
 
-  -- node a turned-to to v, with its tallies as they were
+  -- node a turns to v, with its tallies as they were
   pub turned-to : (e : Event) (a : ℕ) (h : a < P) (v : State) (n : Node) (ms : List Dated) → v .tallies ≡ stateOf ledger a .tallies → Step (tree setting) (fieldLimit L) ledger (withState ledger a v ms) → Holds setting a (w .count a) n v
       → (is : List Item) → Pair (Carried setting) is ms → Window (awaitedIn setting) (ledger .phase) (hasStored (withState ledger a v ms)) ms
       → (bu : ℕ → Bool) → n .busy ≡ bu a → ((y : ℕ) → y ≢ a → bu y ≡ w .busy y)

@@ -1,4 +1,4 @@
--- A node that has a message of its phase under way to it has not yet taken all that it may: refusal 6 is never given where nothing is lost.
+-- A node with a message of its phase under way to it may take one more: refusal 6 is not given where nothing is lost.
 use mathlib.Core.Path.{_≡_, refl, sym, ap, subst}
 use mathlib.Core.Logic.{_≢_}
 use mathlib.Core.Bool.{false}

@@ -82,7 +82,7 @@ module _ {L : Limits} {P : ℕ} (setting : Setting L P) where
     node-busy : (a b : ℕ) → SendDone L P w a b → w .nodes a .busy ≡ true
     node-busy a b e = send-busy a b (send L (w .nodes a) b) (send-way L (w .nodes a) b) e
 
-    -- in a phase that somebody hasStored left, a node is idle
+    -- in a phase that somebody has left, a node is idle
     left-idle : (a n b : ℕ) → a < P → n < w .count a → b < P → w .count b ≡ n → w .nodes b .busy ≡ false
     left-idle a n b ha l hb′ e =
         let o = safe (tree setting) (fieldLimit L) (q .ledger) (q .reached) a n ha (omega (arith, i .counts a)) in
@@ -130,7 +130,7 @@ module _ {L : Limits} {P : ℕ} (setting : Setting L P) where
     off-change : (x b a n : ℕ) (m : Node) → Change (delivers x b) a (offUnlessEarly (gave w b m) x b n)
     off-change x b a n m = cases (Change (delivers x b) a) (eqb n 7) (gave w b m) (carries (gave w b m) (without x b (w .items))) (λ z. same refl) (λ z. same refl)
 
-    -- a message whose take is done is of the receiver's phase, and isNone hasStored left that
+    -- a message whose take is done is of the receiver's phase, and nobody has left that
     take-phase : (x b : ℕ) (m : Item) (byte : ℕ) (y : Given Outcome) → oldest x b (w .items) ≡ some m → m .load ≡ work byte → TakeWay L (w .nodes b) x byte y → y .answer ≡ done
         → (m .phase ≡ w .count b) × ((z : ℕ) → z < P → w .count z ≤ m .phase)
     take-phase x b m byte y old lw (TakeWay.refused n s) e = done-not-refused n e
@@ -241,6 +241,6 @@ module _ {L : Limits} {P : ℕ} (setting : Setting L P) where
           leftSend = λ a h n l b x hx e d. clash (sym (node-busy b x d) ∙ left-idle a n b h l hx e);
           leftTake = left-take }
 
-  -- FOR EVERY RUN, of two nodes and oneMore
+  -- FOR EVERY RUN, of two nodes and more
   pub every-run-safe : (es : List Event) → Safe L P (run L P es)
   every-run-safe es = is-safe (run L P es) (played es)

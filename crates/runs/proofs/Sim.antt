@@ -1,4 +1,4 @@
--- What the board of the definitions has to do with the board of the proof.
+-- What the board has to do with the ledger: state by state, item by item.
 use mathlib.Core.Path.{_≡_, refl, sym, ap, _∙_, subst}
 use mathlib.Core.Logic.{_≢_, _⊎_}
 use mathlib.Core.Bool.{Bool, true, false}
@@ -37,7 +37,7 @@ isSome (some x) = true
 abbrev pub hasStored : Ledger → ℕ → ℕ → Bool
 hasStored B c s = isSome (stateOf B c .stored s)
 
--- a fact of every seat, after node a has changed in its phase
+-- a fact of every state, after node a has changed in its phase
 pub seats : (B : Ledger) (a : ℕ) (u : Page) (ms : List Dated) (v : State) → u .nodes ≡ update (B .pages (B .phase a) .nodes) a v → (F : ℕ → State → Type 0) → F a v → ((y : ℕ) → y ≢ a → F y (stateOf B y))
     → (y : ℕ) → F y (stateOf (ledgerWith B (B .phase a) u ms) y)
 seats B a u ms v e F at rest y =
@@ -78,7 +78,7 @@ module _ {L : Limits} {P : ℕ} (setting : Setting L P) where
       go (yes d) e = (d, e)
       go (no d) e = let z : _≡_ {A = ℕ} 0 1 = cc in absurd (omega arith)
 
-  -- a state, of node y in its phase c, and the node of the proof
+  -- the state n of node y, in its phase c, is like the state u of the ledger
   pub record Holds (y c : ℕ) (n : Node) (u : State) : Type 0 where
     pub nodes : n .nodes ≡ P
     pub number : n .number ≡ y
@@ -91,7 +91,7 @@ module _ {L : Limits} {P : ℕ} (setting : Setting L P) where
     pub seconds : length (n .second) ≡ width
     pub like : Like p (view p n) u
 
-  -- a frame, of a's phase c, and the report of the proof
+  -- a frame of a, of phase c, says what the report of step s does
   pub record Says (a c : ℕ) (f : Frame) (s : ℕ) (x : Entries) : Type 0 where
     pub pass : (f .pass ≡ 1) ⊎ (f .pass ≡ 2)
     pub low : f .dim < p
@@ -107,6 +107,7 @@ module _ {L : Limits} {P : ℕ} (setting : Setting L P) where
   Loads a c (frame bs) message = ⊥
   Loads a c (frame bs) (report s x) = Says a c (fieldsOf p bs) s x
 
+  -- an item of the board is the item of the ledger
   pub record Carried (m : Item) (u : Dated) : Type 0 where
     pub from : m .from ≡ u .item .from
     pub to : m .to ≡ u .item .to
@@ -115,6 +116,7 @@ module _ {L : Limits} {P : ℕ} (setting : Setting L P) where
     pub to-lt : m .to < P
     pub load : Loads (m .from) (m .phase) (m .load) (u .item .load)
 
+  -- the board is as the ledger says
   pub record Sim (w : Board) (B : Ledger) : Type 0 where
     pub counts : (y : ℕ) → w .count y ≡ B .phase y
     pub node : (y : ℕ) → y < P → Holds y (w .count y) (w .nodes y) (stateOf B y)
@@ -123,7 +125,7 @@ module _ {L : Limits} {P : ℕ} (setting : Setting L P) where
     pub win : Window awaitedIn (B .phase) (hasStored B) (B .items)
     pub capped : (n y : ℕ) → y < P → B .pages n .nodes y .tallies sentAll ≤ L .sends
 
-  -- ---- a node hasStored changed in its phase
+  -- ---- a node has changed in its phase
 
   module _ (w : Board) (B : Ledger) (i : Sim w B) (a : ℕ) (h : a < P) (u : Page) (v : State) (e : u .nodes ≡ update (B .pages (B .phase a) .nodes) a v)
       (n : Node) (ok : Holds a (w .count a) n v) (cap : v .tallies sentAll ≤ L .sends) where

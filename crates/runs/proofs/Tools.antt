@@ -1,4 +1,4 @@
--- Laws of choice, of changed functions and of listed values.
+-- Functions changed at one place, as the board and as the ledger has them.
 use mathlib.Core.Path.{_≡_, refl, sym, ap, subst}
 use mathlib.Core.Logic.{_≢_}
 use mathlib.Core.Bool.{Bool, true, false}

@@ -41,6 +41,7 @@ fieldOf (takenFrom m) = takenIn m
 fieldOf sentAll = allSent
 fieldOf takenAll = allTaken
 
+-- the numbers of a stored frame
 abbrev pub firstEntries : Stored → Entries
 firstEntries x f = number x (fieldOf f)
 
@@ -53,6 +54,7 @@ firstSlot x = choose (x .present) (some (firstEntries x)) none
 abbrev pub secondSlot : Confirm → Option Entries
 secondSlot x = choose (x .present) (some (secondEntries x)) none
 
+-- what is stored for each step
 abbrev pub slots : ℕ → Node → ℕ → Option Entries
 slots p n s = pick (decLt s p) (firstSlot (firstAt n s)) (secondSlot (secondAt n (s - p)))
 
@@ -66,6 +68,7 @@ Alike p s none (some y) = ⊥
 Alike p s (some x) none = ⊥
 Alike p s (some x) (some y) = (f : Entry) → Has p s (fieldOf f) → x f ≡ y f
 
+-- two states that say the same, for a board of dimension p
 pub record Like (p : ℕ) (v u : State) : Type 0 where
   pub busy : v .busy ≡ u .busy
   pub tallies : (f : Entry) → Has p 0 (fieldOf f) → v .tallies f ≡ u .tallies f
