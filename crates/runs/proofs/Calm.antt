@@ -21,8 +21,8 @@ use native.Mathlib.Nat.{mul-le-mul-right}
 use Rattle.cycle.proofs.Lists.{All, all-mid}
 use Rattle.cycle.proofs.Exact.{takenAll, Entries}
 use Rattle.cycle.proofs.OnePhase.{message, report, dimOf}
-use Rattle.cycle.proofs.Ledger.{Dated, ofPhase, phaseOf, invariant}
-use Rattle.cycle.proofs.Window.{report-step}
+use Rattle.cycle.proofs.Ledger.{ofPhase, phaseOf, invariant}
+use Rattle.cycle.proofs.Window.{Partnered}
 use Rattle.cycle.proofs.Dating.{phase-mid}
 use Rattle.cycle.proofs.Events.{stateOf}
 use Rattle.frame.proofs.RoundTripAccepted.{Read}
@@ -131,9 +131,9 @@ module _ {L : Limits} {P : ℕ} (setting : Setting L P) where
 
             parts : awaitedIn setting (n .0) b ≡ some a
             parts =
-                all-mid (λ (u : Dated). (s : ℕ) → report-step (u .item .load) ≡ some s → awaitedIn setting s (u .item .to) ≡ some (u .item .from)) (c setting w q a b m e .pre) (c setting w q a b m e .post)
+                all-mid (Partnered (awaitedIn setting)) (c setting w q a b m e .pre) (c setting w q a b m e .post)
                 (record { phase = m .phase; item = record { from = a; to = b; load = report (n .0) (n .1 .0) } })
-                (subst (All (λ (u : Dated). (s : ℕ) → report-step (u .item .load) ≡ some s → awaitedIn setting s (u .item .to) ≡ some (u .item .from))) (whole setting w q a b m e (report (n .0) (n .1 .0)) (n .1 .1 .0)) (q .sim .win .partner)) .0 (n .0) refl
+                (subst (All (Partnered (awaitedIn setting))) (whole setting w q a b m e (report (n .0) (n .1 .0)) (n .1 .1 .0)) (q .sim .win .partner)) .0 (n .0) refl
 
             dim-s : dimOf p (n .0) ≡ fieldsIn L (w .nodes b) bs .dim
             dim-s = ap (dimOf p) (sym (y .step)) ∙ dim-step p (fieldsIn L (w .nodes b) bs .pass) (fieldsIn L (w .nodes b) bs .dim) (y .pass) (y .low)

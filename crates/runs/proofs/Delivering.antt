@@ -30,7 +30,7 @@ use Rattle.cycle.proofs.Exact.{takenAll, Entries}
 use Rattle.cycle.proofs.OnePhase.{message, report, State, dimOf, atStep, withStored, withTallies, bumpTaken, Content, OnLink, Shell}
 use Rattle.cycle.proofs.Messages.{messages, messages-append}
 use Rattle.cycle.proofs.Ledger.{Dated, Page, Ledger, ofPhase, Step, Reached, invariant, safe, within-one}
-use Rattle.cycle.proofs.Window.{Window, Move, window-keeps, report-step}
+use Rattle.cycle.proofs.Window.{Window, Move, window-keeps, Sent, Close}
 use Rattle.cycle.proofs.Dating.{FirstDated, phase-mid}
 use Rattle.cycle.proofs.Events.{stateOf, ledgerWith, withState, pageWith, pageTaken, pageLost, act-lose, act-drop, act-take, act-store, act-fall}
 use Rattle.runs.proofs.Tools.{put-same, put-other}
@@ -113,8 +113,8 @@ module _ {L : Limits} {P : ℕ} (setting : Setting L P) (w : Board) (play : Play
     -- not after the receiver's next phase
     pub not-ahead : m .phase ≤ suc (ledger .phase b)
     not-ahead =
-        let q = all-mid (λ (u : Dated). u .phase ≤ ledger .phase (u .item .from)) (c .pre) (c .post) (record { phase = m .phase; item = record { from = a; to = b; load = c .one .item .load } })
-          (subst (All (λ (u : Dated). u .phase ≤ ledger .phase (u .item .from))) (whole (c .one .item .load) refl) (sim .win .sent)) .0 in
+        let q = all-mid (Sent (ledger .phase)) (c .pre) (c .post) (record { phase = m .phase; item = record { from = a; to = b; load = c .one .item .load } })
+          (subst (All (Sent (ledger .phase))) (whole (c .one .item .load) refl) (sim .win .sent)) .0 in
         omega (arith, within-one (tree setting) (fieldLimit L) ledger reached a b ha hb)
 
     -- the item is off, and nothing else
@@ -220,8 +220,8 @@ module _ {L : Limits} {P : ℕ} (setting : Setting L P) (w : Board) (play : Play
 
       pub not-behind₂ : ledger .phase b ≤ suc (m .phase)
       not-behind₂ =
-          all-mid (λ (u : Dated). (s : ℕ) → report-step (u .item .load) ≡ some s → ledger .phase (u .item .to) ≤ suc (u .phase)) (c .pre) (c .post) (record { phase = m .phase; item = record { from = a; to = b; load = report s x } })
-          (subst (All (λ (u : Dated). (s : ℕ) → report-step (u .item .load) ≡ some s → ledger .phase (u .item .to) ≤ suc (u .phase))) (whole (report s x) ln) (sim .win .window)) .0 s refl
+          all-mid (Close (ledger .phase)) (c .pre) (c .post) (record { phase = m .phase; item = record { from = a; to = b; load = report s x } })
+          (subst (All (Close (ledger .phase))) (whole (report s x) ln) (sim .win .window)) .0 s refl
 
       pub diff-is : difference (F .phase) (w .nodes b .phase) ≡ (m .phase % 256 + 256 - ledger .phase b % 256) % 256
       diff-is = ap (λ x. (x + 256 - w .nodes b .phase) % 256) (y .phase) ∙ ap (λ x. (m .phase % 256 + 256 - x) % 256) (hold setting w play b hb .phase ∙ ap (λ n. n % 256) (sim .counts b))
