@@ -1,4 +1,5 @@
--- Where what every node has stored is what its partner would write now, the own sums of a node are the sums over its run; and
+-- Where what every node has stored is what its partner would write now, the own sums of a node are the sums over its
+-- run; and
 -- where all work is taken, what one run has sent to its sibling the sibling has taken.
 use mathlib.Core.Path.{_≡_, refl, sym, _∙_}
 use mathlib.Core.Option.{Option, none, some}
@@ -54,14 +55,18 @@ module _ {P p : ℕ} (tree : Tree P p) where
       → ((i : ℕ) → i < k → Exact tal f i (tree .awaited i a) (g i)) → ownSums (tal a) g k f ≡ runSum (λ y. tal y f) k a
   own-exact tal f a g h zero l e = rw (tree .low-zero a h, tree .size-zero a h, add-zero) (omega arith)
   own-exact tal f a g h (suc k) l e =
-      go (tree .awaited k a) (g k) refl (e k (omega arith)) (own-exact tal f a g h k (omega arith) (λ i q. e i (omega arith)))
+      go (tree .awaited k a) (g k) refl (e k (omega arith))
+      (own-exact tal f a g h k (omega arith) (λ i q. e i (omega arith)))
     where
-      go : (o : Option ℕ) (s : Option Entries) → tree .awaited k a ≡ o → Exact tal f k o s → ownSums (tal a) g k f ≡ runSum (λ y. tal y f) k a
+      go : (o : Option ℕ) (s : Option Entries) → tree .awaited k a ≡ o → Exact tal f k o s
+          → ownSums (tal a) g k f ≡ runSum (λ y. tal y f) k a
           → ownSums (tal a) g k f + entryOf s f ≡ runSum (λ y. tal y f) (suc k) a
       go none none q x ih = let al = tree .alone k a (omega arith) h q in rw (al .0, al .1) (omega arith)
       go none (some z) q x ih = absurd x
       go (some w) none q x ih = absurd x
-      go (some w) (some z) q x ih = let m = meet-sum (tree .low) (tree .size) k a w (λ y. tal y f) (tree .meet k a w (omega arith) h q) in omega arith
+      go (some w) (some z) q x ih =
+          let m = meet-sum (tree .low) (tree .size) k a w (λ y. tal y f) (tree .meet k a w (omega arith) h q) in
+          omega arith
 
   -- ---- across: what one run has sent to its sibling, the sibling has taken
 
@@ -79,7 +84,8 @@ module _ {P p : ℕ} (tree : Tree P p) where
   other k b w y (Meet.right i j l) h = omega arith
   other k b w y (Meet.left i j l) h = omega arith
 
-  pub back : (k b w : ℕ) → Meet (tree .low) (tree .size) k b w → SameRun (suc k) b w → Meet (tree .low) (tree .size) k w b
+  pub back : (k b w : ℕ) → Meet (tree .low) (tree .size) k b w → SameRun (suc k) b w
+      → Meet (tree .low) (tree .size) k w b
   back k b w (Meet.right i j l) s = Meet.left i (s .1 ∙ j) (s .2 ∙ l)
   back k b w (Meet.left i j l) s = Meet.right i (s .1 ∙ j) (s .2 ∙ l)
 
@@ -98,10 +104,13 @@ module _ {P p : ℕ} (tree : Tree P p) where
   pub across : (m : ℕ → ℕ → ℕ) (s t : ℕ → ℕ → ℕ)
       → ((y : ℕ) → y < P → (k : ℕ) → k ≤ p → runSum (m y) k y ≡ sum (s y) 0 k)
       → ((z : ℕ) → z < P → (k : ℕ) → k ≤ p → runSum (λ y. m y z) k z ≡ sum (t z) 0 k)
-      → (k b w : ℕ) → k < p → b < P → w < P → Meet (tree .low) (tree .size) k b w → runSum (λ y. s y k) k b ≡ runSum (λ z. t z k) k w
+      → (k b w : ℕ) → k < p → b < P → w < P → Meet (tree .low) (tree .size) k b w
+      → runSum (λ y. s y k) k b ≡ runSum (λ z. t z k) k w
   across m s t sp tp k b w l hb hw mt =
       sym (sum-ext (λ y. runSum (m y) k w) (λ y. s y k) (tree .low k b) (tree .size k b)
       (λ y i j. shell k b w y (m y) (s y) l hb mt (i, j) (sp y (tree .same k b y hb (i, j) .0))))
       ∙ sum-swap m (tree .low k b) (tree .size k b) (tree .low k w) (tree .size k w)
       ∙ sum-ext (λ z. runSum (λ y. m y z) k b) (λ z. t z k) (tree .low k w) (tree .size k w)
-      (λ z i j. shell k w b z (λ y. m y z) (t z) l hw (back k b w mt (tree .same (suc k) b w hb (other k b w w mt (tree .self k w hw)))) (i, j) (tp z (tree .same k w z hw (i, j) .0)))
+      (λ z i j. shell k w b z (λ y. m y z) (t z) l hw
+      (back k b w mt (tree .same (suc k) b w hb (other k b w w mt (tree .self k w hw)))) (i, j)
+      (tp z (tree .same k w z hw (i, j) .0)))

@@ -1,4 +1,5 @@
--- The final lemma: a claim of a node for a total T, and that a phase is quiet where the claims of all nodes add up to T.
+-- The final lemma: a claim of a node for a total T, and that a phase is quiet where the claims of all nodes add up to
+-- T.
 use mathlib.Core.Path.{_≡_, refl}
 use mathlib.Core.Logic.{_≢_}
 use mathlib.Core.List.{List}
@@ -12,7 +13,8 @@ use Rattle.cycle.proofs.Sums.{sum, sum-tight, sum-count-take, count, Be
 abbrev pub firsts : List ℕ → ℕ → ℕ → ℕ
 firsts log T y = count y (take T log)
 
--- The claim of y for T. log: the senders of the phase in order; R: all that is taken; Q: y is idle in the phase or has left
+-- The claim of y for T. log: the senders of the phase in order; R: all that is taken; Q: y is idle in the phase or has
+-- left
 -- it; s: what y says to have sent.
 pub data Claim (log : List ℕ) (R : ℕ) (Q : Type 0) (y s T : ℕ) : Type 0 where
   over : firsts log T y < s → Claim log R Q y s T

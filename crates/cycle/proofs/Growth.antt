@@ -18,9 +18,12 @@ totalTaken P w = sum (w .taken) 0 P
 
 -- what one event does to a phase
 pub data Growth (P : ℕ) (w w′ : Course) : Type 0 where
-  same : w′ .senders ≡ w .senders → ((y : ℕ) → w′ .taken y ≡ w .taken y) → ((y : ℕ) → w .done y → w′ .done y) → Growth P w w′
-  sends : (z : ℕ) → z < P → w′ .senders ≡ snoc (w .senders) z → ((y : ℕ) → w′ .taken y ≡ w .taken y) → (w .done z → ⊥) → ((y : ℕ) → w .done y → w′ .done y) → Growth P w w′
-  takes-one : w′ .senders ≡ w .senders → ((y : ℕ) → w .taken y ≤ w′ .taken y) → totalTaken P w < length (w .senders) → Growth P w w′
+  same : w′ .senders ≡ w .senders → ((y : ℕ) → w′ .taken y ≡ w .taken y) → ((y : ℕ) → w .done y → w′ .done y)
+      → Growth P w w′
+  sends : (z : ℕ) → z < P → w′ .senders ≡ snoc (w .senders) z → ((y : ℕ) → w′ .taken y ≡ w .taken y) → (w .done z → ⊥)
+      → ((y : ℕ) → w .done y → w′ .done y) → Growth P w w′
+  takes-one : w′ .senders ≡ w .senders → ((y : ℕ) → w .taken y ≤ w′ .taken y) → totalTaken P w < length (w .senders)
+      → Growth P w w′
 
 abbrev pub Claims : ℕ → Course → ℕ → ℕ → ℕ → Type 0
 Claims P w y s T = Claim (w .senders) (totalTaken P w) (w .done y) y s T
@@ -30,7 +33,8 @@ got-grows P w w′ (same a b c) y = omega (arith, b y)
 got-grows P w w′ (sends z zP a b n c) y = omega (arith, b y)
 got-grows P w w′ (takes-one a b c) y = b y
 
-pub claim-keep : (P : ℕ) (w w′ : Course) (y s T : ℕ) → Growth P w w′ → T ≤ length (w .senders) → Claims P w y s T → Claims P w′ y s T
+pub claim-keep : (P : ℕ) (w w′ : Course) (y s T : ℕ) → Growth P w w′ → T ≤ length (w .senders) → Claims P w y s T
+    → Claims P w′ y s T
 claim-keep P w w′ y s T (same a b c) t (over h) = over (rw a h)
 claim-keep P w w′ y s T (same a b c) t (quiet e f g d) =
     quiet (rw a e) (rw a f) (sum-ext (w′ .taken) (w .taken) 0 P (λ i k l. b i) ∙ g) (c y d)
@@ -40,12 +44,14 @@ claim-keep P w w′ y s T (sends z zP a b n c) t (quiet e f g d) =
     later (rw (a, take-snoc T (w .senders) z t) e) (rw a (omega (arith, length-snoc (w .senders) z)))
     (λ q. n (subst (w .done) (sym (sym (getD-snoc-last (w .senders) z 0) ∙ (rw (f, ← a) q))) d))
 claim-keep P w w′ y s T (sends z zP a b n c) t (later e f g) =
-    later (rw (a, take-snoc T (w .senders) z t) e) (rw a (omega (arith, length-snoc (w .senders) z))) (rw (a, List·getD-append (w .senders) (z ∷ []) 0 T f) g)
+    later (rw (a, take-snoc T (w .senders) z t) e) (rw a (omega (arith, length-snoc (w .senders) z)))
+    (rw (a, List·getD-append (w .senders) (z ∷ []) 0 T f) g)
 claim-keep P w w′ y s T (takes-one a b c) t (over h) = over (rw a h)
 claim-keep P w w′ y s T (takes-one a b c) t (quiet e f g d) = absurd (omega arith)
 claim-keep P w w′ y s T (takes-one a b c) t (later e f g) = later (rw a e) (rw a f) (rw a g)
 
--- A number in a frame of pass 1 is at most what the run of its sender has taken; a frame of pass 2 is a sum of claims. The run
+-- A number in a frame of pass 1 is at most what the run of its sender has taken; a frame of pass 2 is a sum of claims.
+-- The run
 -- is the n nodes from low on.
 abbrev pub AtMost : Course → ℕ → ℕ → ℕ → Type 0
 AtMost w low n x = x ≤ sum (w .taken) low n
@@ -59,7 +65,8 @@ pub record Claimed (P : ℕ) (w : Course) (low n T x : ℕ) : Type 0 where
 pub at-most-keep : (P : ℕ) (w w′ : Course) (low n x : ℕ) → Growth P w w′ → AtMost w low n x → AtMost w′ low n x
 at-most-keep P w w′ low n x e h = omega (arith, sum-le (w .taken) (w′ .taken) low n (λ i a b. got-grows P w w′ e i))
 
-pub claimed-keep : (P : ℕ) (w w′ : Course) (low n T x : ℕ) → totalTaken P w ≤ length (w .senders) → Growth P w w′ → Claimed P w low n T x → Claimed P w′ low n T x
+pub claimed-keep : (P : ℕ) (w w′ : Course) (low n T x : ℕ) → totalTaken P w ≤ length (w .senders) → Growth P w w′
+    → Claimed P w low n T x → Claimed P w′ low n T x
 claimed-keep P w w′ low n T x r e h =
     record {
       in-reach = at-most-keep P w w′ 0 P T e (h .in-reach);

@@ -1,4 +1,5 @@
--- All phases: the ledger has a page for each phase, and with the items of that phase the page is a board of one phase. An event
+-- All phases: the ledger has a page for each phase, and with the items of that phase the page is a board of one phase.
+-- An event
 -- acts on one page. Safety and "no board sticks" of the ledger.
 use mathlib.Core.Path.{_≡_, refl, sym, ap, _∙_, subst}
 use mathlib.Core.Logic.{_≢_, _⊎_}
@@ -47,34 +48,65 @@ phase-append n [] ys = refl
 phase-append n (m ∷ ms) ys = go (phase-append n ms ys) (ℕ-discrete (m .phase) n)
   where
     go : ofPhase n (ms ++ ys) ≡ ofPhase n ms ++ ofPhase n ys → (d : Dec (m .phase ≡ n))
-        → pick {A = List Parcel} d (m .item ∷ ofPhase n (ms ++ ys)) (ofPhase n (ms ++ ys)) ≡ pick {A = List Parcel} d (m .item ∷ ofPhase n ms) (ofPhase n ms) ++ ofPhase n ys
+        → pick {A = List Parcel} d (m .item ∷ ofPhase n (ms ++ ys)) (ofPhase n (ms ++ ys)) ≡ pick {A = List Parcel} d
+        (m .item ∷ ofPhase n ms) (ofPhase n ms) ++ ofPhase n ys
     go ih (yes e) = ap (λ l. m .item ∷ l) ih
     go ih (no e) = ih
 
 abbrev pub boardOf : Page → List Parcel → PhaseBoard
-boardOf w is = record { nodes = w .nodes; items = is; senders = w .senders; sentBetween = w .sentBetween; takenBetween = w .takenBetween; lossy = w .lossy }
+boardOf w is =
+    record {
+      nodes = w .nodes;
+      items = is;
+      senders = w .senders;
+      sentBetween = w .sentBetween;
+      takenBetween = w .takenBetween;
+      lossy = w .lossy;
+    }
 
 abbrev pub phaseOf : Ledger → ℕ → PhaseBoard
 phaseOf b n = boardOf (b .pages n) (ofPhase n (b .items))
 
 abbrev pub opening : Ledger
-opening = record { phase = λ a. 0; pages = λ n. record { nodes = λ a. fresh; senders = []; sentBetween = λ y z. 0; takenBetween = λ y z. 0; lossy = false }; items = [] }
+opening =
+    record {
+      phase = λ a. 0;
+      pages =
+          λ n. record {
+            nodes = λ a. fresh;
+            senders = [];
+            sentBetween = λ y z. 0;
+            takenBetween = λ y z. 0;
+            lossy = false;
+          };
+      items = [];
+    }
 
 module _ {P p : ℕ} (tree : Tree P p) (limit : ℕ) where
   -- node a, in phase n, does or gets something of phase n
   pub data Step (b : Ledger) : Ledger → Type 0 where
     stay : Step b b
-    acts : (a : ℕ) (w : Page) (ms : List Dated) → a < P → Turn tree limit (phaseOf b (b .phase a)) (boardOf w (ofPhase (b .phase a) ms)) → ((m : ℕ) → m ≢ b .phase a → ofPhase m ms ≡ ofPhase m (b .items))
+    acts : (a : ℕ) (w : Page) (ms : List Dated) → a < P
+        → Turn tree limit (phaseOf b (b .phase a)) (boardOf w (ofPhase (b .phase a) ms))
+        → ((m : ℕ) → m ≢ b .phase a → ofPhase m ms ≡ ofPhase m (b .items))
         → ((y : ℕ) → y ≢ a → w .nodes y ≡ b .pages (b .phase a) .nodes y) → w .nodes a .step < p + p
         → Step b (record { phase = b .phase; pages = update (b .pages) (b .phase a) w; items = ms })
-    leaves : (a : ℕ) (w : Page) → a < P → Turn tree limit (phaseOf b (b .phase a)) (boardOf w (ofPhase (b .phase a) (b .items)))
+    leaves : (a : ℕ) (w : Page) → a < P
+        → Turn tree limit (phaseOf b (b .phase a)) (boardOf w (ofPhase (b .phase a) (b .items)))
         → ((y : ℕ) → y ≢ a → w .nodes y ≡ b .pages (b .phase a) .nodes y) → p + p ≤ w .nodes a .step
-        → Step b (record { phase = update (b .phase) a (suc (b .phase a)); pages = update (b .pages) (b .phase a) w; items = b .items })
+        → Step b (record {
+          phase = update (b .phase) a (suc (b .phase a));
+          pages = update (b .pages) (b .phase a) w;
+          items = b .items;
+        })
     -- a frame that comes late goes
-    late : (n : ℕ) (w : Page) (ms : List Dated) → Turn tree limit (phaseOf b n) (boardOf w (ofPhase n ms)) → ((m : ℕ) → m ≢ n → ofPhase m ms ≡ ofPhase m (b .items))
-        → ((y : ℕ) → w .nodes y ≡ b .pages n .nodes y) → Step b (record { phase = b .phase; pages = update (b .pages) n w; items = ms })
+    late : (n : ℕ) (w : Page) (ms : List Dated) → Turn tree limit (phaseOf b n) (boardOf w (ofPhase n ms))
+        → ((m : ℕ) → m ≢ n → ofPhase m ms ≡ ofPhase m (b .items))
+        → ((y : ℕ) → w .nodes y ≡ b .pages n .nodes y)
+        → Step b (record { phase = b .phase; pages = update (b .pages) n w; items = ms })
 
-  -- each page has the invariant of a phase; a node is fresh in the phases ahead, at a step in its own, and past the last step
+  -- each page has the invariant of a phase; a node is fresh in the phases ahead, at a step in its own, and past the
+  -- last step
   -- in those behind
   pub record Invariant (b : Ledger) : Type 0 where
     pub fit : (n : ℕ) → PhaseInvariant tree limit (phaseOf b n)
@@ -82,10 +114,13 @@ module _ {P p : ℕ} (tree : Tree P p) (limit : ℕ) where
     pub now : (y n : ℕ) → n ≡ b .phase y → b .pages n .nodes y .step < p + p
     pub past : (y n : ℕ) → n < b .phase y → p + p ≤ b .pages n .nodes y .step
 
-  fit-all : (b : Ledger) → Invariant b → (n : ℕ) (w : Page) (ms : List Dated) → Turn tree limit (phaseOf b n) (boardOf w (ofPhase n ms)) → ((m : ℕ) → m ≢ n → ofPhase m ms ≡ ofPhase m (b .items))
+  fit-all : (b : Ledger) → Invariant b → (n : ℕ) (w : Page) (ms : List Dated)
+      → Turn tree limit (phaseOf b n) (boardOf w (ofPhase n ms))
+      → ((m : ℕ) → m ≢ n → ofPhase m ms ≡ ofPhase m (b .items))
       → (m : ℕ) → PhaseInvariant tree limit (boardOf (update (b .pages) n w m) (ofPhase m ms))
   fit-all b i n w ms g o =
-      update-all (λ m w. PhaseInvariant tree limit (boardOf w (ofPhase m ms))) (b .pages) n w (phase-keeps tree limit (phaseOf b n) (boardOf w (ofPhase n ms)) g (i .fit n))
+      update-all (λ m w. PhaseInvariant tree limit (boardOf w (ofPhase m ms))) (b .pages) n w
+      (phase-keeps tree limit (phaseOf b n) (boardOf w (ofPhase n ms)) g (i .fit n))
       (λ m q. subst (λ is. PhaseInvariant tree limit (boardOf (b .pages m) is)) (sym (o m q)) (i .fit m))
 
   pub keeps : (b b′ : Ledger) → Step b b′ → Invariant b → Invariant b′
@@ -93,9 +128,16 @@ module _ {P p : ℕ} (tree : Tree P p) (limit : ℕ) where
   keeps b b′ (acts a w ms h g o s l) i =
       record {
         fit = fit-all b i n w ms g o;
-        ahead = λ y. update-all (λ m w. b .phase y < m → w .nodes y ≡ fresh) (b .pages) n w (λ k. s y (λ e. omega (arith, ap (b .phase) e)) ∙ i .ahead y n k) (λ m q k. i .ahead y m k);
-        now = λ y. update-all (λ m w. m ≡ b .phase y → w .nodes y .step < p + p) (b .pages) n w (λ e. here y e (ℕ-discrete y a)) (λ m q e. i .now y m e);
-        past = λ y. update-all (λ m w. m < b .phase y → p + p ≤ w .nodes y .step) (b .pages) n w (λ k. subst (λ v. p + p ≤ v .step) (sym (s y (λ e. omega (arith, ap (b .phase) e)))) (i .past y n k)) (λ m q k. i .past y m k);
+        ahead =
+            λ y. update-all (λ m w. b .phase y < m → w .nodes y ≡ fresh) (b .pages) n w
+            (λ k. s y (λ e. omega (arith, ap (b .phase) e)) ∙ i .ahead y n k) (λ m q k. i .ahead y m k);
+        now =
+            λ y. update-all (λ m w. m ≡ b .phase y → w .nodes y .step < p + p) (b .pages) n w
+            (λ e. here y e (ℕ-discrete y a)) (λ m q e. i .now y m e);
+        past =
+            λ y. update-all (λ m w. m < b .phase y → p + p ≤ w .nodes y .step) (b .pages) n w
+            (λ k. subst (λ v. p + p ≤ v .step) (sym (s y (λ e. omega (arith, ap (b .phase) e)))) (i .past y n k))
+            (λ m q k. i .past y m k);
       }
     where
       n : ℕ
@@ -108,14 +150,20 @@ module _ {P p : ℕ} (tree : Tree P p) (limit : ℕ) where
       record {
         fit = fit-all b i n w (b .items) g (λ m q. refl);
         ahead = update-all (λ y q. (m : ℕ) → q < m → update (b .pages) n w m .nodes y ≡ fresh) (b .phase) a (suc n)
-            (update-all (λ m u. suc n < m → u .nodes a ≡ fresh) (b .pages) n w (λ k. absurd (omega arith)) (λ m q k. i .ahead a m (omega arith)))
-            (λ y q. update-all (λ m u. b .phase y < m → u .nodes y ≡ fresh) (b .pages) n w (λ k. s y q ∙ i .ahead y n k) (λ m z k. i .ahead y m k));
+            (update-all (λ m u. suc n < m → u .nodes a ≡ fresh) (b .pages) n w (λ k. absurd (omega arith))
+            (λ m q k. i .ahead a m (omega arith)))
+            (λ y q. update-all (λ m u. b .phase y < m → u .nodes y ≡ fresh) (b .pages) n w (λ k. s y q ∙ i .ahead y n k)
+            (λ m z k. i .ahead y m k));
         now = update-all (λ y q. (m : ℕ) → m ≡ q → update (b .pages) n w m .nodes y .step < p + p) (b .phase) a (suc n)
-            (update-all (λ m u. m ≡ suc n → u .nodes a .step < p + p) (b .pages) n w (λ k. absurd (omega arith)) (λ m q k. subst (λ v. v .step < p + p) (sym (i .ahead a m (omega arith))) (omega arith)))
-            (λ y q. update-all (λ m u. m ≡ b .phase y → u .nodes y .step < p + p) (b .pages) n w (λ k. subst (λ v. v .step < p + p) (sym (s y q)) (i .now y n k)) (λ m z k. i .now y m k));
+            (update-all (λ m u. m ≡ suc n → u .nodes a .step < p + p) (b .pages) n w (λ k. absurd (omega arith))
+            (λ m q k. subst (λ v. v .step < p + p) (sym (i .ahead a m (omega arith))) (omega arith)))
+            (λ y q. update-all (λ m u. m ≡ b .phase y → u .nodes y .step < p + p) (b .pages) n w
+            (λ k. subst (λ v. v .step < p + p) (sym (s y q)) (i .now y n k)) (λ m z k. i .now y m k));
         past = update-all (λ y q. (m : ℕ) → m < q → p + p ≤ update (b .pages) n w m .nodes y .step) (b .phase) a (suc n)
-            (update-all (λ m u. m < suc n → p + p ≤ u .nodes a .step) (b .pages) n w (λ k. l) (λ m q k. i .past a m (omega arith)))
-            (λ y q. update-all (λ m u. m < b .phase y → p + p ≤ u .nodes y .step) (b .pages) n w (λ k. subst (λ v. p + p ≤ v .step) (sym (s y q)) (i .past y n k)) (λ m z k. i .past y m k));
+            (update-all (λ m u. m < suc n → p + p ≤ u .nodes a .step) (b .pages) n w (λ k. l)
+            (λ m q k. i .past a m (omega arith)))
+            (λ y q. update-all (λ m u. m < b .phase y → p + p ≤ u .nodes y .step) (b .pages) n w
+            (λ k. subst (λ v. p + p ≤ v .step) (sym (s y q)) (i .past y n k)) (λ m z k. i .past y m k));
       }
     where
       n : ℕ
@@ -123,9 +171,15 @@ module _ {P p : ℕ} (tree : Tree P p) (limit : ℕ) where
   keeps b b′ (late n w ms g o s) i =
       record {
         fit = fit-all b i n w ms g o;
-        ahead = λ y. update-all (λ m w. b .phase y < m → w .nodes y ≡ fresh) (b .pages) n w (λ k. s y ∙ i .ahead y n k) (λ m q k. i .ahead y m k);
-        now = λ y. update-all (λ m w. m ≡ b .phase y → w .nodes y .step < p + p) (b .pages) n w (λ e. subst (λ v. v .step < p + p) (sym (s y)) (i .now y n e)) (λ m q e. i .now y m e);
-        past = λ y. update-all (λ m w. m < b .phase y → p + p ≤ w .nodes y .step) (b .pages) n w (λ k. subst (λ v. p + p ≤ v .step) (sym (s y)) (i .past y n k)) (λ m q k. i .past y m k);
+        ahead =
+            λ y. update-all (λ m w. b .phase y < m → w .nodes y ≡ fresh) (b .pages) n w (λ k. s y ∙ i .ahead y n k)
+            (λ m q k. i .ahead y m k);
+        now =
+            λ y. update-all (λ m w. m ≡ b .phase y → w .nodes y .step < p + p) (b .pages) n w
+            (λ e. subst (λ v. v .step < p + p) (sym (s y)) (i .now y n e)) (λ m q e. i .now y m e);
+        past =
+            λ y. update-all (λ m w. m < b .phase y → p + p ≤ w .nodes y .step) (b .pages) n w
+            (λ k. subst (λ v. p + p ≤ v .step) (sym (s y)) (i .past y n k)) (λ m q k. i .past y m k);
       }
 
   pub data Reached : Ledger → Type 0 where
@@ -134,7 +188,12 @@ module _ {P p : ℕ} (tree : Tree P p) (limit : ℕ) where
 
   pub invariant : (b : Ledger) → Reached b → Invariant b
   invariant b first =
-      record { fit = λ n. start-ok tree limit; ahead = λ y n l. refl; now = λ y n e. omega arith; past = λ y n l. absurd (omega arith) }
+      record {
+        fit = λ n. start-ok tree limit;
+        ahead = λ y n l. refl;
+        now = λ y n e. omega arith;
+        past = λ y n l. absurd (omega arith);
+      }
   invariant b (next c b′ r s) = keeps c b′ s (invariant c r)
 
   -- ---- SAFETY
@@ -144,7 +203,9 @@ module _ {P p : ℕ} (tree : Tree P p) (limit : ℕ) where
     where
       go : Dec (b .phase y < n) → n ≤ b .phase y
       go (no l) = omega arith
-      go (yes l) = let f = ap (λ v. v .busy) (i .ahead y n l) in let z : _≡_ {A = Bool} true false = sym f ∙ e in let q : _≡_ {A = ℕ} 0 1 = cc in absurd (omega arith)
+      go (yes l) =
+          let f = ap (λ v. v .busy) (i .ahead y n l) in let z : _≡_ {A = Bool} true false = sym f ∙ e in
+          let q : _≡_ {A = ℕ} 0 1 = cc in absurd (omega arith)
 
   -- the phase is over: all taken, all idle, everybody there or past it
   pub record Over (b : Ledger) (n : ℕ) : Type 0 where
@@ -156,7 +217,11 @@ module _ {P p : ℕ} (tree : Tree P p) (limit : ℕ) where
   safe b r a n h l =
       let i = invariant b r in
       let q = i .fit n .quiet a h (i .past a n l) in
-      record { taken = q .all-taken ∙ sym (q .all-sent); idle = q .all-idle; reached = λ y k. idle-means b i y n (q .all-idle y k) }
+      record {
+        taken = q .all-taken ∙ sym (q .all-sent);
+        idle = q .all-idle;
+        reached = λ y k. idle-means b i y n (q .all-idle y k);
+      }
 
   -- the phases of two nodes are within one of one another
   pub within-one : (b : Ledger) → Reached b → (a c : ℕ) → a < P → c < P → b .phase a ≤ suc (b .phase c)
@@ -166,17 +231,23 @@ module _ {P p : ℕ} (tree : Tree P p) (limit : ℕ) where
       go (no l) = omega arith
       go (yes l) = absurd (omega (arith, safe b r a (suc (b .phase c)) h l .reached c k))
 
-  -- ---- NO BOARD STICKS: where nobody in the oldest phase is busy, has something of it under way to it, or would send, a step
+  -- ---- NO BOARD STICKS: where nobody in the oldest phase is busy, has something of it under way to it, or would send,
+  -- a step
   -- agrees
 
-  pub no-board-sticks : (b : Ledger) → Reached b → (u : ℕ) → u < P → b .pages (b .phase u) .lossy ≡ false → ((y : ℕ) → y < P → b .phase u ≤ b .phase y)
+  pub no-board-sticks : (b : Ledger) → Reached b → (u : ℕ) → u < P → b .pages (b .phase u) .lossy ≡ false
+      → ((y : ℕ) → y < P → b .phase u ≤ b .phase y)
       → ((a : ℕ) → a < P → b .phase a ≡ b .phase u → b .pages (b .phase u) .nodes a .busy ≡ false)
       → All (λ t. (t .to < P) × (b .phase u < b .phase (t .to))) (ofPhase (b .phase u) (b .items))
-      → ((a : ℕ) → a < P → b .phase a ≡ b .phase u → (b .pages (b .phase u) .nodes a .flag ≡ false) ⊎ Unheard tree a (b .pages (b .phase u) .nodes a .step))
-      → (a : ℕ) × ((a < P) × ((b .phase a ≡ b .phase u) × Agrees p limit (b .pages (b .phase u) .nodes a) (b .pages (b .phase u) .nodes a .step) (tree .awaited (dimOf p (b .pages (b .phase u) .nodes a .step)) a)))
+      → ((a : ℕ) → a < P → b .phase a ≡ b .phase u
+      → (b .pages (b .phase u) .nodes a .flag ≡ false) ⊎ Unheard tree a (b .pages (b .phase u) .nodes a .step))
+      → (a : ℕ) × ((a < P) × ((b .phase a ≡ b .phase u) × Agrees p limit (b .pages (b .phase u) .nodes a)
+      (b .pages (b .phase u) .nodes a .step) (tree .awaited (dimOf p (b .pages (b .phase u) .nodes a .step)) a)))
   no-board-sticks b r u hu whole old rest nothing nobody =
       let q = no-stick tree limit (phaseOf b n) (i .fit n) whole resting
-      (all-map (λ t. (t .to < P) × (n < b .phase (t .to))) (λ t. (t .to < P) × (p + p ≤ b .pages n .nodes (t .to) .step)) (λ t x. (x .0, i .past (t .to) n (x .1))) (ofPhase n (b .items)) nothing)
+      (all-map (λ t. (t .to < P) × (n < b .phase (t .to)))
+      (λ t. (t .to < P) × (p + p ≤ b .pages n .nodes (t .to) .step))
+      (λ t x. (x .0, i .past (t .to) n (x .1))) (ofPhase n (b .items)) nothing)
       (λ a h l. nobody a h (here a h l)) u hu (i .now u n refl) in
       (q .0, (q .1 .0, (here (q .0) (q .1 .0) (q .1 .1 .0), q .1 .1 .1)))
     where

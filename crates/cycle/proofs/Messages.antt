@@ -28,11 +28,13 @@ pub messages-append : (xs ys : List Parcel) → messages (xs ++ ys) ≡ messages
 messages-append [] ys = omega arith
 messages-append (i ∷ is) ys = let r = messages-append is ys in omega arith
 
-pub messages-on-append : (y z : ℕ) (xs ys : List Parcel) → messages-on y z (xs ++ ys) ≡ messages-on y z xs + messages-on y z ys
+pub messages-on-append : (y z : ℕ) (xs ys : List Parcel)
+    → messages-on y z (xs ++ ys) ≡ messages-on y z xs + messages-on y z ys
 messages-on-append y z [] ys = omega arith
 messages-on-append y z (i ∷ is) ys = let r = messages-on-append y z is ys in omega arith
 
-pub report-on : (y z : ℕ) (a c s : ℕ) (x : Entries) → pick (on-link y z (record { from = a; to = c; load = report s x })) (is-message (report s x)) 0 ≡ 0
+pub report-on : (y z : ℕ) (a c s : ℕ) (x : Entries)
+    → pick (on-link y z (record { from = a; to = c; load = report s x })) (is-message (report s x)) 0 ≡ 0
 report-on y z a c s x = go (on-link y z (record { from = a; to = c; load = report s x }))
   where
     go : (d : Dec (OnLink y z (record { from = a; to = c; load = report s x }))) → pick {A = ℕ} d 0 0 ≡ 0
@@ -48,21 +50,26 @@ messages-on-reports y z a s x [] = refl
 messages-on-reports y z a s x (r ∷ rs) = omega (arith, messages-on-reports y z a s x rs, report-on y z a r s x)
 
 -- one more from a to c
-pub more-hit : (m : ℕ → ℕ → ℕ) (a c y z : ℕ) → oneMore m a c y z ≡ m y z + pick (on-link y z (record { from = a; to = c; load = message })) 1 0
+pub more-hit : (m : ℕ → ℕ → ℕ) (a c y z : ℕ)
+    → oneMore m a c y z ≡ m y z + pick (on-link y z (record { from = a; to = c; load = message })) 1 0
 more-hit m a c y z = go (ℕ-discrete y a) (ℕ-discrete z c) (on-link y z (record { from = a; to = c; load = message }))
   where
-    go : (d : Dec (y ≡ a)) (e : Dec (z ≡ c)) (o : Dec (OnLink y z (record { from = a; to = c; load = message }))) → oneMore m a c y z ≡ m y z + pick {A = ℕ} o 1 0
-    go (yes d) (yes e) (yes o) = rw (d, e, update-same m a (update (m a) c (suc (m a c))), update-same (m a) c (suc (m a c))) (omega arith)
+    go : (d : Dec (y ≡ a)) (e : Dec (z ≡ c)) (o : Dec (OnLink y z (record { from = a; to = c; load = message })))
+        → oneMore m a c y z ≡ m y z + pick {A = ℕ} o 1 0
+    go (yes d) (yes e) (yes o) =
+        rw (d, e, update-same m a (update (m a) c (suc (m a c))), update-same (m a) c (suc (m a c))) (omega arith)
     go (yes d) (yes e) (no o) = absurd (o (sym d, sym e))
     go (yes d) (no e) (yes o) = absurd (e (sym (o .1)))
-    go (yes d) (no e) (no o) = rw (d, update-same m a (update (m a) c (suc (m a c))), update-other (m a) c (suc (m a c)) z e) (omega arith)
+    go (yes d) (no e) (no o) =
+        rw (d, update-same m a (update (m a) c (suc (m a c))), update-other (m a) c (suc (m a c)) z e) (omega arith)
     go (no d) e (yes o) = absurd (d (sym (o .0)))
     go (no d) e (no o) = rw (update-other m a (update (m a) c (suc (m a c))) y d) (omega arith)
 
 pub more-column : (m : ℕ → ℕ → ℕ) (a c y : ℕ) → oneMore m a c y c ≡ update (λ y. m y c) a (suc (m a c)) y
 more-column m a c y = go (ℕ-discrete y a)
   where
-    go : (d : Dec (y ≡ a)) → pick {A = ℕ → ℕ} d (update (m a) c (suc (m a c))) (m y) c ≡ pick {A = ℕ} d (suc (m a c)) (m y c)
+    go : (d : Dec (y ≡ a)) → pick {A = ℕ → ℕ} d (update (m a) c (suc (m a c))) (m y) c ≡ pick {A = ℕ} d (suc (m a c))
+        (m y c)
     go (yes d) = update-same (m a) c (suc (m a c))
     go (no d) = refl
 

@@ -1,4 +1,5 @@
--- One phase alone: a node that has not come to the phase yet is a fresh, busy one that does nothing, and one that has left it
+-- One phase alone: a node that has not come to the phase yet is a fresh, busy one that does nothing, and one that has
+-- left it
 -- is at step p + p. Steps are counted through: pass 1, dimension k is step k; pass 2, dimension k is step p + k.
 use mathlib.Core.Path.{_≡_}
 use mathlib.Core.Logic.{_⊎_}
@@ -32,7 +33,8 @@ pub record State : Type 0 where
   pub agreed : ℕ
   pub stored : ℕ → Option Entries
 
--- The nodes and the items under way. History: the senders in order, how much each has sent to each and taken from each, and
+-- The nodes and the items under way. History: the senders in order, how much each has sent to each and taken from each,
+-- and
 -- whether something was lost.
 pub record PhaseBoard : Type 0 where
   pub nodes : ℕ → State
@@ -51,7 +53,9 @@ confirming T x takenAll = T
 
 -- the frame that v would write for step s
 abbrev pub frameOf : ℕ → State → ℕ → Entries
-frameOf p v s = pick (decLt s p) (ownSums (v .tallies) (v .stored) s) (confirming (v .agreed) (ownSums (v .tallies) (λ i. v .stored (p + i)) (s - p) sentAll))
+frameOf p v s =
+    pick (decLt s p) (ownSums (v .tallies) (v .stored) s)
+    (confirming (v .agreed) (ownSums (v .tallies) (λ i. v .stored (p + i)) (s - p) sentAll))
 
 -- the dimension of a step
 abbrev pub dimOf : ℕ → ℕ → ℕ
@@ -83,11 +87,15 @@ above-ok s p takenAll h = tt
 pub data Agrees (p limit : ℕ) (v : State) (s : ℕ) : Option ℕ → Type 0 where
   alone : Agrees p limit v s none
   first : (w : ℕ) (x : Entries) → s < p → v .stored s ≡ some x
-      → ownSums (v .tallies) (v .stored) s (sentTo s) ≡ x (takenFrom s) → ownSums (v .tallies) (v .stored) s (takenFrom s) ≡ x (sentTo s)
+      → ownSums (v .tallies) (v .stored) s (sentTo s) ≡ x (takenFrom s)
+      → ownSums (v .tallies) (v .stored) s (takenFrom s) ≡ x (sentTo s)
       → ((f : Entry) → Above s p f → ownSums (v .tallies) (v .stored) s f + x f ≤ limit)
-      → (suc s ≡ p → ownSums (v .tallies) (v .stored) s sentAll + x sentAll ≡ ownSums (v .tallies) (v .stored) s takenAll + x takenAll) → Agrees p limit v s (some w)
-  second : (w : ℕ) (x : Entries) → p ≤ s → v .stored s ≡ some x → ownSums (v .tallies) (λ i. v .stored (p + i)) (s - p) sentAll + x sentAll ≤ limit → x takenAll ≡ v .agreed
-      → (suc s ≡ p + p → ownSums (v .tallies) (λ i. v .stored (p + i)) (s - p) sentAll + x sentAll ≡ v .agreed) → Agrees p limit v s (some w)
+      → (suc s ≡ p → ownSums (v .tallies) (v .stored) s sentAll + x sentAll ≡ ownSums (v .tallies)
+      (v .stored) s takenAll + x takenAll) → Agrees p limit v s (some w)
+  second : (w : ℕ) (x : Entries) → p ≤ s → v .stored s ≡ some x
+      → ownSums (v .tallies) (λ i. v .stored (p + i)) (s - p) sentAll + x sentAll ≤ limit → x takenAll ≡ v .agreed
+      → (suc s ≡ p + p → ownSums (v .tallies) (λ i. v .stored (p + i)) (s - p) sentAll + x sentAll ≡ v .agreed)
+      → Agrees p limit v s (some w)
 
 -- the same to each receiver
 abbrev pub posts : ℕ → Content → List ℕ → List Parcel
@@ -104,13 +112,30 @@ abbrev pub atStep : State → ℕ → Bool → ℕ → State
 atStep v s f T = record { busy = v .busy; tallies = v .tallies; step = s; flag = f; agreed = T; stored = v .stored }
 
 abbrev pub withStored : State → ℕ → Entries → State
-withStored v s x = record { busy = v .busy; tallies = v .tallies; step = v .step; flag = v .flag; agreed = v .agreed; stored = update (v .stored) s (some x) }
+withStored v s x =
+    record {
+      busy = v .busy;
+      tallies = v .tallies;
+      step = v .step;
+      flag = v .flag;
+      agreed = v .agreed;
+      stored = update (v .stored) s (some x);
+    }
 
 abbrev pub withTallies : State → Bool → Entries → State
-withTallies v b t = record { busy = b; tallies = t; step = v .step; flag = v .flag; agreed = v .agreed; stored = v .stored }
+withTallies v b t =
+    record { busy = b; tallies = t; step = v .step; flag = v .flag; agreed = v .agreed; stored = v .stored }
 
 abbrev pub changed : PhaseBoard → ℕ → State → List Parcel → List ℕ → (ℕ → ℕ → ℕ) → (ℕ → ℕ → ℕ) → PhaseBoard
-changed b a v is log sentBetween takenBetween = record { nodes = update (b .nodes) a v; items = is; senders = log; sentBetween = sentBetween; takenBetween = takenBetween; lossy = b .lossy }
+changed b a v is log sentBetween takenBetween =
+    record {
+      nodes = update (b .nodes) a v;
+      items = is;
+      senders = log;
+      sentBetween = sentBetween;
+      takenBetween = takenBetween;
+      lossy = b .lossy;
+    }
 
 abbrev pub placed : PhaseBoard → ℕ → State → List Parcel → PhaseBoard
 placed b a v is = changed b a v is (b .senders) (b .sentBetween) (b .takenBetween)
@@ -142,25 +167,47 @@ module _ {P p : ℕ} (tree : Tree P p) where
   -- an event of the phase
   pub data Turn (limit : ℕ) (b : PhaseBoard) : PhaseBoard → Type 0 where
     sends : (a c j : ℕ) → a < P → c < P → j < p → Shell a c j → b .nodes a .busy ≡ true → length (b .senders) < limit
-        → Turn limit b (changed b a (withTallies (b .nodes a) true (bumpSent (b .nodes a .tallies) j)) (b .items ++ posts a message (c ∷ [])) (snoc (b .senders) a) (oneMore (b .sentBetween) a c) (b .takenBetween))
-    rests : (a : ℕ) → a < P → Turn limit b (placed b a (withTallies (b .nodes a) false (b .nodes a .tallies)) (b .items))
-    takes : (xs ys : List Parcel) (a c j : ℕ) → a < P → c < P → j < p → Shell c a j → b .items ≡ xs ++ record { from = a; to = c; load = message } ∷ ys
+        → Turn limit b (changed b a (withTallies (b .nodes a) true (bumpSent (b .nodes a .tallies) j))
+        (b .items ++ posts a message (c ∷ [])) (snoc (b .senders) a) (oneMore (b .sentBetween) a c) (b .takenBetween))
+    rests : (a : ℕ) → a < P → Turn limit b
+        (placed b a (withTallies (b .nodes a) false (b .nodes a .tallies)) (b .items))
+    takes : (xs ys : List Parcel) (a c j : ℕ) → a < P → c < P → j < p → Shell c a j
+        → b .items ≡ xs ++ record { from = a; to = c; load = message } ∷ ys
         → b .nodes c .step < p + p
-        → Turn limit b (changed b c (atStep (withTallies (b .nodes c) true (bumpTaken (b .nodes c .tallies) j)) 0 true 0) (xs ++ ys) (b .senders) (b .sentBetween) (oneMore (b .takenBetween) a c))
-    stores : (xs ys : List Parcel) (a c s : ℕ) (x : Entries) → c < P → s < p + p → b .items ≡ xs ++ record { from = a; to = c; load = report s x } ∷ ys → First xs a c
-        → b .nodes c .step < p + p → tree .awaited (dimOf p s) c ≡ some a → b .nodes c .step ≤ s → Turn limit b (placed b c (withStored (b .nodes c) s x) (xs ++ ys))
-    falls : (xs ys : List Parcel) (a c s : ℕ) (x : Entries) (T : ℕ) → c < P → s < p + p → b .items ≡ xs ++ record { from = a; to = c; load = report s x } ∷ ys → First xs a c
-        → b .nodes c .step < p + p → tree .awaited (dimOf p s) c ≡ some a → s < b .nodes c .step → (p ≤ s → T ≡ b .nodes c .agreed)
+        → Turn limit b (changed b c (atStep
+        (withTallies (b .nodes c) true (bumpTaken (b .nodes c .tallies) j)) 0 true 0) (xs ++ ys) (b .senders)
+        (b .sentBetween) (oneMore (b .takenBetween) a c))
+    stores : (xs ys : List Parcel) (a c s : ℕ) (x : Entries) → c < P → s < p + p
+        → b .items ≡ xs ++ record { from = a; to = c; load = report s x } ∷ ys → First xs a c
+        → b .nodes c .step < p + p → tree .awaited (dimOf p s) c ≡ some a → b .nodes c .step ≤ s
+        → Turn limit b (placed b c (withStored (b .nodes c) s x) (xs ++ ys))
+    falls : (xs ys : List Parcel) (a c s : ℕ) (x : Entries) (T : ℕ) → c < P → s < p + p
+        → b .items ≡ xs ++ record { from = a; to = c; load = report s x } ∷ ys → First xs a c
+        → b .nodes c .step < p + p → tree .awaited (dimOf p s) c ≡ some a → s < b .nodes c .step
+        → (p ≤ s → T ≡ b .nodes c .agreed)
         → Turn limit b (placed b c (atStep (withStored (b .nodes c) s x) s false T) (xs ++ ys))
-    drops : (xs ys : List Parcel) (a c s : ℕ) (x : Entries) → c < P → b .items ≡ xs ++ record { from = a; to = c; load = report s x } ∷ ys
+    drops : (xs ys : List Parcel) (a c s : ℕ) (x : Entries) → c < P
+        → b .items ≡ xs ++ record { from = a; to = c; load = report s x } ∷ ys
         → p + p ≤ b .nodes c .step → Turn limit b (placed b c (b .nodes c) (xs ++ ys))
     puts : (a : ℕ) (rs : List ℕ) → a < P → b .nodes a .busy ≡ false → b .nodes a .step < p + p
-        → ((c : ℕ) → c < P → tree .awaited (dimOf p (b .nodes a .step)) c ≡ some a → (xs : List ℕ) × ((ys : List ℕ) × (rs ≡ xs ++ c ∷ ys)))
-        → Turn limit b (placed b a (atStep (b .nodes a) (b .nodes a .step) false (b .nodes a .agreed)) (b .items ++ posts a (report (b .nodes a .step) (frameOf p (b .nodes a) (b .nodes a .step))) rs))
-    waits : (a : ℕ) → a < P → b .nodes a .busy ≡ false → (b .nodes a .flag ≡ false) ⊎ Unheard a (b .nodes a .step) → Turn limit b (placed b a (atStep (b .nodes a) (b .nodes a .step) false (b .nodes a .agreed)) (b .items))
-    moves : (a T : ℕ) → a < P → b .nodes a .busy ≡ false → b .nodes a .step < p + p → (b .nodes a .flag ≡ false) ⊎ Unheard a (b .nodes a .step)
+        → ((c : ℕ) → c < P → tree .awaited (dimOf p (b .nodes a .step)) c ≡ some a
+        → (xs : List ℕ) × ((ys : List ℕ) × (rs ≡ xs ++ c ∷ ys)))
+        → Turn limit b (placed b a (atStep (b .nodes a) (b .nodes a .step) false (b .nodes a .agreed))
+        (b .items ++ posts a (report (b .nodes a .step) (frameOf p (b .nodes a) (b .nodes a .step))) rs))
+    waits : (a : ℕ) → a < P → b .nodes a .busy ≡ false → (b .nodes a .flag ≡ false) ⊎ Unheard a (b .nodes a .step)
+        → Turn limit b (placed b a (atStep (b .nodes a) (b .nodes a .step) false (b .nodes a .agreed)) (b .items))
+    moves : (a T : ℕ) → a < P → b .nodes a .busy ≡ false → b .nodes a .step < p + p
+        → (b .nodes a .flag ≡ false) ⊎ Unheard a (b .nodes a .step)
         → Agrees p limit (b .nodes a) (b .nodes a .step) (tree .awaited (dimOf p (b .nodes a .step)) a)
-        → (p ≤ b .nodes a .step → T ≡ b .nodes a .agreed) → (suc (b .nodes a .step) ≡ p → T ≡ ownSums (b .nodes a .tallies) (b .nodes a .stored) p takenAll)
+        → (p ≤ b .nodes a .step → T ≡ b .nodes a .agreed)
+        → (suc (b .nodes a .step) ≡ p → T ≡ ownSums (b .nodes a .tallies) (b .nodes a .stored) p takenAll)
         → Turn limit b (placed b a (atStep (b .nodes a) (suc (b .nodes a .step)) true T) (b .items))
     loses : (xs ys : List Parcel) (t : Parcel) → b .items ≡ xs ++ t ∷ ys
-        → Turn limit b (record { nodes = b .nodes; items = xs ++ ys; senders = b .senders; sentBetween = b .sentBetween; takenBetween = b .takenBetween; lossy = true })
+        → Turn limit b (record {
+          nodes = b .nodes;
+          items = xs ++ ys;
+          senders = b .senders;
+          sentBetween = b .sentBetween;
+          takenBetween = b .takenBetween;
+          lossy = true;
+        })

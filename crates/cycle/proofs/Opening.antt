@@ -16,7 +16,15 @@ abbrev pub fresh : State
 fresh = record { busy = true; tallies = λ f. 0; step = 0; flag = true; agreed = 0; stored = λ s. none }
 
 abbrev pub start : PhaseBoard
-start = record { nodes = λ a. fresh; items = []; senders = []; sentBetween = λ y z. 0; takenBetween = λ y z. 0; lossy = false }
+start =
+    record {
+      nodes = λ a. fresh;
+      items = [];
+      senders = [];
+      sentBetween = λ y z. 0;
+      takenBetween = λ y z. 0;
+      lossy = false;
+    }
 
 module _ {P p : ℕ} (tree : Tree P p) (limit : ℕ) where
   pub start-ok : PhaseInvariant tree limit start

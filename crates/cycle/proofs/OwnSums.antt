@@ -82,14 +82,18 @@ module _ {P p : ℕ} (tree : Tree P p) where
   first-sum-ok w a base st h b ok (suc k) l =
       go (tree .awaited k a) (st k) refl (ok k (omega arith)) (first-sum-ok w a base st h b ok k (omega arith))
     where
-      go : (o : Option ℕ) (s : Option ℕ) → tree .awaited k a ≡ o → FirstStored w k o s → firstSum base st k ≤ sum (w .taken) (tree .low k a) (tree .size k a)
+      go : (o : Option ℕ) (s : Option ℕ) → tree .awaited k a ≡ o → FirstStored w k o s
+          → firstSum base st k ≤ sum (w .taken) (tree .low k a) (tree .size k a)
           → firstSum base st k + firstNumber s ≤ sum (w .taken) (tree .low (suc k) a) (tree .size (suc k) a)
       go none none e t ih = let al = tree .alone k a (omega arith) h e in rw (al .0, al .1) (omega arith)
       go none (some x) e t ih = absurd t
-      go (some v) none e t ih = let m = meet-sum (tree .low) (tree .size) k a v (w .taken) (tree .meet k a v (omega arith) h e) in omega arith
-      go (some v) (some x) e t ih = let m = meet-sum (tree .low) (tree .size) k a v (w .taken) (tree .meet k a v (omega arith) h e) in omega arith
+      go (some v) none e t ih =
+          let m = meet-sum (tree .low) (tree .size) k a v (w .taken) (tree .meet k a v (omega arith) h e) in omega arith
+      go (some v) (some x) e t ih =
+          let m = meet-sum (tree .low) (tree .size) k a v (w .taken) (tree .meet k a v (omega arith) h e) in omega arith
 
-  alone-ok : (w : Course) (k a T x x′ : ℕ) → (tree .low (suc k) a ≡ tree .low k a) × (tree .size (suc k) a ≡ tree .size k a) → x ≡ x′
+  alone-ok : (w : Course) (k a T x x′ : ℕ)
+      → (tree .low (suc k) a ≡ tree .low k a) × (tree .size (suc k) a ≡ tree .size k a) → x ≡ x′
       → Claimed P w (tree .low k a) (tree .size k a) T x → Claimed P w (tree .low (suc k) a) (tree .size (suc k) a) T x′
   alone-ok w k a T x x′ al e h = rw (al .0, al .1, ← e) h
 
@@ -104,22 +108,30 @@ module _ {P p : ℕ} (tree : Tree P p) where
       adds′ : x + x′ ≡ sum s (tree .low (suc k) a) (tree .size (suc k) a)
       adds′ =
           let e = meet-sum (tree .low) (tree .size) k a v s m in
-          let f = sum-ext s (h′ .part) (tree .low k v) (tree .size k v) (λ i b c. patch-in (h′ .part) (tree .low k v) (tree .size k v) (h .part) i b c) in
-          let g = sum-ext s (h .part) (tree .low k a) (tree .size k a) (λ i b c. patch-out (h′ .part) (tree .low k v) (tree .size k v) (h .part) i (meet-apart (tree .low) (tree .size) k a v i m b c)) in
+          let f = sum-ext s (h′ .part) (tree .low k v) (tree .size k v)
+          (λ i b c. patch-in (h′ .part) (tree .low k v) (tree .size k v) (h .part) i b c) in
+          let g = sum-ext s (h .part) (tree .low k a) (tree .size k a)
+          (λ i b c. patch-out (h′ .part) (tree .low k v) (tree .size k v) (h .part) i
+          (meet-apart (tree .low) (tree .size) k a v i m b c)) in
           omega (arith, h .adds, h′ .adds)
 
-      claims′ : (y : ℕ) → tree .low (suc k) a ≤ y → y < tree .low (suc k) a + tree .size (suc k) a → Claims P w y (s y) T
+      claims′ : (y : ℕ) → tree .low (suc k) a ≤ y → y < tree .low (suc k) a + tree .size (suc k) a
+          → Claims P w y (s y) T
       claims′ y b c = go (inside (tree .low k v) (tree .size k v) y)
         where
           go : Dec ((tree .low k v ≤ y) × (y < tree .low k v + tree .size k v)) → Claims P w y (s y) T
-          go (yes q) = rw (patch-in (h′ .part) (tree .low k v) (tree .size k v) (h .part) y (q .0) (q .1)) (h′ .claims y (q .0) (q .1))
+          go (yes q) =
+              rw (patch-in (h′ .part) (tree .low k v) (tree .size k v) (h .part) y (q .0) (q .1))
+              (h′ .claims y (q .0) (q .1))
           go (no q) =
               let r = meet-in (tree .low) (tree .size) k a v y m b c q in
               rw (patch-out (h′ .part) (tree .low k v) (tree .size k v) (h .part) y q) (h .claims y (r .0) (r .1))
 
-  pub second-sum-ok : (w : Course) (a base T : ℕ) (st : ℕ → Option Confirmed) → a < P → base ≡ count a (w .senders) → T ≤ totalTaken P w → totalTaken P w ≤ length (w .senders) → w .done a
+  pub second-sum-ok : (w : Course) (a base T : ℕ) (st : ℕ → Option Confirmed) → a < P → base ≡ count a (w .senders)
+      → T ≤ totalTaken P w → totalTaken P w ≤ length (w .senders) → w .done a
       → ((k : ℕ) → k < p → SecondStored w k (tree .awaited k a) (st k))
-      → (k : ℕ) → k ≤ p → ((j : ℕ) → j < k → Agreed T (tree .awaited j a) (st j)) → Claimed P w (tree .low k a) (tree .size k a) T (secondSum base st k)
+      → (k : ℕ) → k ≤ p → ((j : ℕ) → j < k → Agreed T (tree .awaited j a) (st j))
+      → Claimed P w (tree .low k a) (tree .size k a) T (secondSum base st k)
   second-sum-ok w a base T st h b t r d ok zero l ag =
       record {
         in-reach = t;
@@ -133,11 +145,16 @@ module _ {P p : ℕ} (tree : Tree P p) where
           let e : y ≡ a = omega (arith, tree .low-zero a h, tree .size-zero a h) in
           rw (e, b) (claim-make (w .senders) (totalTaken P w) (w .done a) a T t r d)
   second-sum-ok w a base T st h b t r d ok (suc k) l ag =
-      go (tree .awaited k a) (st k) refl (ok k (omega arith)) (ag k (omega arith)) (second-sum-ok w a base T st h b t r d ok k (omega arith) (λ j q. ag j (omega arith)))
+      go (tree .awaited k a) (st k) refl (ok k (omega arith)) (ag k (omega arith))
+      (second-sum-ok w a base T st h b t r d ok k (omega arith) (λ j q. ag j (omega arith)))
     where
-      go : (o : Option ℕ) (s : Option Confirmed) → tree .awaited k a ≡ o → SecondStored w k o s → Agreed T o s → Claimed P w (tree .low k a) (tree .size k a) T (secondSum base st k)
+      go : (o : Option ℕ) (s : Option Confirmed) → tree .awaited k a ≡ o → SecondStored w k o s → Agreed T o s
+          → Claimed P w (tree .low k a) (tree .size k a) T (secondSum base st k)
           → Claimed P w (tree .low (suc k) a) (tree .size (suc k) a) T (secondSum base st k + secondNumber s)
-      go none none e q g ih = alone-ok w k a T (secondSum base st k) (secondSum base st k + 0) (tree .alone k a (omega arith) h e) (omega arith) ih
+      go none none e q g ih =
+          alone-ok w k a T (secondSum base st k) (secondSum base st k + 0) (tree .alone k a (omega arith) h e)
+          (omega arith) ih
       go none (some x) e q g ih = absurd q
       go (some v) none e q g ih = absurd g
-      go (some v) (some x) e q g ih = join-ok w k a v T (secondSum base st k) (x .issued) (tree .meet k a v (omega arith) h e) ih (rw g at q)
+      go (some v) (some x) e q g ih =
+          join-ok w k a v T (secondSum base st k) (x .issued) (tree .meet k a v (omega arith) h e) ih (rw g at q)

@@ -27,7 +27,8 @@ sizeOf P k a = size (runOf P k a)
 pub within : (r : Run) (a b : ℕ) → In r a → (r .low ≤ b) × (b < r .low + size r) → In r b
 within r a b i h = omega arith
 
-pub sides : (P k a b : ℕ) → a < P → b < P → Joined (runOf P k a) (runOf P k b) (runOf P (suc k) a) → Meet (lowOf P) (sizeOf P) k a b
+pub sides : (P k a b : ℕ) → a < P → b < P → Joined (runOf P k a) (runOf P k b) (runOf P (suc k) a)
+    → Meet (lowOf P) (sizeOf P) k a b
 sides P k a b ha hb (before e f) =
     let i = run-has P k a ha in
     let j = run-has P k b hb in

@@ -68,7 +68,8 @@ sum-zero low (suc n) = let r = sum-zero low n in omega arith
 pub sum-tight : (f g : ℕ → ℕ) (low n : ℕ) → ((i : ℕ) → low ≤ i → i < low + n → f i ≤ g i) → sum g low n ≤ sum f low n
     → (i : ℕ) → low ≤ i → i < low + n → g i ≡ f i
 sum-tight f g low zero h t i a b = absurd (omega arith)
-sum-tight f g low (suc n) h t i a b = go (λ t′ b′. sum-tight f g low n (λ j c d. h j c (omega arith)) t′ i a b′) (ℕ-discrete i (low + n))
+sum-tight f g low (suc n) h t i a b =
+    go (λ t′ b′. sum-tight f g low n (λ j c d. h j c (omega arith)) t′ i a b′) (ℕ-discrete i (low + n))
   where
     le-last : f (low + n) ≤ g (low + n)
     le-last = h (low + n) (omega arith) (omega arith)
@@ -88,7 +89,8 @@ pub sum-update : (f : ℕ → ℕ) (i v low n : ℕ) → low ≤ i → i < low +
 sum-update f i v low zero a b = absurd (omega arith)
 sum-update f i v low (suc n) a b = go (λ b′. sum-update f i v low n a b′) (ℕ-discrete i (low + n))
   where
-    go : (i < low + n → sum (update f i v) low n + f i ≡ sum f low n + v) → Dec (i ≡ low + n) → sum (update f i v) low (suc n) + f i ≡ sum f low (suc n) + v
+    go : (i < low + n → sum (update f i v) low n + f i ≡ sum f low n + v) → Dec (i ≡ low + n)
+        → sum (update f i v) low (suc n) + f i ≡ sum f low (suc n) + v
     go ih (yes e) =
         let o = sum-update-out f i v low n (inr (omega arith)) in
         let s : update f i v (low + n) ≡ v = rw (← e) (update-same f i v) in
@@ -156,7 +158,8 @@ pub getD-snoc-last : (l : List ℕ) (x d : ℕ) → getD (snoc l x) (length l) d
 getD-snoc-last l x d = getD-append-seam l x [] d
 
 -- a fact of every place of a changed function: at the place, and at the others
-pub update-all : {A : Type 0} (F : ℕ → A → Type 0) (f : ℕ → A) (i : ℕ) (v : A) → F i v → ((j : ℕ) → j ≢ i → F j (f j)) → (j : ℕ) → F j (update f i v j)
+pub update-all : {A : Type 0} (F : ℕ → A → Type 0) (f : ℕ → A) (i : ℕ) (v : A) → F i v → ((j : ℕ) → j ≢ i → F j (f j))
+    → (j : ℕ) → F j (update f i v j)
 update-all {A} F f i v at rest j = go (ℕ-discrete j i)
   where
     go : (d : Dec (j ≡ i)) → F j (pick d v (f j))

@@ -8,8 +8,10 @@ use Rattle.cycle.proofs.Sums.{sum, sum-split}
 
 -- the run of a in dimension k + 1 is that of a and that of w in dimension k, side by side
 pub data Meet (low size : ℕ → ℕ → ℕ) (k a w : ℕ) : Type 0 where
-  right : low k w ≡ low k a + size k a → low (suc k) a ≡ low k a → size (suc k) a ≡ size k a + size k w → Meet low size k a w
-  left : low k a ≡ low k w + size k w → low (suc k) a ≡ low k w → size (suc k) a ≡ size k w + size k a → Meet low size k a w
+  right : low k w ≡ low k a + size k a → low (suc k) a ≡ low k a → size (suc k) a ≡ size k a + size k w
+      → Meet low size k a w
+  left : low k a ≡ low k w + size k w → low (suc k) a ≡ low k w → size (suc k) a ≡ size k w + size k a
+      → Meet low size k a w
 
 pub record Tree (P p : ℕ) : Type 0 where
   pub low : ℕ → ℕ → ℕ
@@ -36,7 +38,8 @@ meet-sum low size k a w f (left i j l) =
     rw (j, l, i) (omega arith)
 
 -- who is in the joined run is in the one or the other, and not in both
-pub meet-in : (low size : ℕ → ℕ → ℕ) (k a w y : ℕ) → Meet low size k a w → low (suc k) a ≤ y → y < low (suc k) a + size (suc k) a
+pub meet-in : (low size : ℕ → ℕ → ℕ) (k a w y : ℕ) → Meet low size k a w → low (suc k) a ≤ y
+    → y < low (suc k) a + size (suc k) a
     → ((low k w ≤ y) × (y < low k w + size k w) → ⊥) → (low k a ≤ y) × (y < low k a + size k a)
 meet-in low size k a w y (right i j l) b c n = go (decLe (low k w) y)
   where

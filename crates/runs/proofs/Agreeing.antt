@@ -19,7 +19,8 @@ use Rattle.cycle.proofs.Ledger.{Ledger, Reached}
 use Rattle.cycle.proofs.Events.{stateOf}
 use Rattle.runs.proofs.Setting.{Setting, tree, dim-pos, awaited-is}
 use Rattle.node.proofs.Clauses.{Has, first-step, second-step}
-use Rattle.runs.proofs.View.{fieldOf, firstEntries, secondEntries, view, Alike, Like, slots-first, slots-second, own-is, issued-is, agree-like}
+use Rattle.runs.proofs.View.{fieldOf, firstEntries, secondEntries, view, Alike, Like, slots-first, slots-second}
+use Rattle.runs.proofs.View.{own-is, issued-is, agree-like}
 use Rattle.runs.proofs.Sim.{Holds}
 
 alike-sym : (p s : ℕ) (a b : Option Entries) → Alike p s a b → Alike p s b a
@@ -30,14 +31,22 @@ alike-sym p s (some x) (some y) h = λ f q. sym (h f q)
 
 pub like-sym : (p : ℕ) (v u : State) → Like p v u → Like p u v
 like-sym p v u h =
-    record { busy = sym (h .busy); tallies = λ f q. sym (h .tallies f q); step = sym (h .step); flag = sym (h .flag); agreed = sym (h .agreed); stored = λ s l. alike-sym p s (v .stored s) (u .stored s) (h .stored s l) }
+    record {
+      busy = sym (h .busy);
+      tallies = λ f q. sym (h .tallies f q);
+      step = sym (h .step);
+      flag = sym (h .flag);
+      agreed = sym (h .agreed);
+      stored = λ s l. alike-sym p s (v .stored s) (u .stored s) (h .stored s l);
+    }
 
 slot-yes : (t : Bool) (y x : Entries) → choose t (some y) none ≡ some x → (t ≡ true) × (y ≡ x)
 slot-yes true y x e = (refl, cc)
 slot-yes false y x e = let z : _≡_ {A = ℕ} 0 1 = cc in absurd (omega arith)
 
 -- a step that agrees in the proof agrees in the definitions
-agree-back-first : (L : Limits) (p : ℕ) (n : Node) (k : ℕ) (o : Option ℕ) → dims n ≡ p → awaited (n .nodes) k (n .number) ≡ o
+agree-back-first : (L : Limits) (p : ℕ) (n : Node) (k : ℕ) (o : Option ℕ) → dims n ≡ p
+    → awaited (n .nodes) k (n .number) ≡ o
     → k < p → Agrees p (fieldLimit L) (view p n) k o → agrees L n 1 k ≡ true
 agree-back-first L p n k o e q l Agrees.alone = first-step L n k (λ a. clash (sym (ap isNone q) ∙ a))
 agree-back-first L p n k o e q l (Agrees.second w x m g c3 c5 c6) = absurd (omega arith)
@@ -48,14 +57,24 @@ agree-back-first L p n k o e q l (Agrees.first w x m g c1 c2 c3 c4) =
       sent = own-is p n k (omega arith) (sentTo k) ∙ c1 ∙ sym (val (takenFrom k));
       taken = own-is p n k (omega arith) (takenFrom k) ∙ c2 ∙ sym (val (sentTo k));
       within = within;
-      last = λ z. omega (arith, own-is p n k (omega arith) sentAll, own-is p n k (omega arith) takenAll, val sentAll, val takenAll, c4 (z ∙ e));
+      last =
+          λ z. omega (
+            arith,
+            own-is p n k (omega arith) sentAll,
+            own-is p n k (omega arith) takenAll,
+            val sentAll,
+            val takenAll,
+            c4 (z ∙ e),
+          );
     })
   where
     s : (firstAt n k .present ≡ true) × (firstEntries (firstAt n k) ≡ x)
     s = slot-yes (firstAt n k .present) (firstEntries (firstAt n k)) x (sym (slots-first p n k l) ∙ g)
 
     val : (f : Entry) → number (firstAt n k) (fieldOf f) ≡ x f
-    val f = ap (λ (h : Entries). h f) (slot-yes (firstAt n k .present) (firstEntries (firstAt n k)) x (sym (slots-first p n k l) ∙ g) .1)
+    val f =
+        ap (λ (h : Entries). h f) (slot-yes (firstAt n k .present) (firstEntries (firstAt n k)) x
+        (sym (slots-first p n k l) ∙ g) .1)
 
     low : (f : Entry) → Above k p f → own n k (fieldOf f) + number (firstAt n k) (fieldOf f) ≤ fieldLimit L
     low f h = omega (arith, own-is p n k (omega arith) f, val f, c3 f h)
@@ -66,7 +85,8 @@ agree-back-first L p n k o e q l (Agrees.first w x m g c1 c2 c3 c4) =
     within allSent h = low sentAll tt
     within allTaken h = low takenAll tt
 
-agree-back-second : (L : Limits) (p : ℕ) (n : Node) (k : ℕ) (o : Option ℕ) → dims n ≡ p → awaited (n .nodes) k (n .number) ≡ o
+agree-back-second : (L : Limits) (p : ℕ) (n : Node) (k : ℕ) (o : Option ℕ) → dims n ≡ p
+    → awaited (n .nodes) k (n .number) ≡ o
     → k < p → Agrees p (fieldLimit L) (view p n) (p + k) o → agrees L n 2 k ≡ true
 agree-back-second L p n k o e q l Agrees.alone = second-step L n k (λ a. clash (sym (ap isNone q) ∙ a))
 agree-back-second L p n k o e q l (Agrees.first w x m g c1 c2 c3 c4) = absurd (omega arith)
@@ -83,7 +103,9 @@ agree-back-second L p n k o e q l (Agrees.second w x m g c3 c5 c6) =
     s = slot-yes (secondAt n k .present) (secondEntries (secondAt n k)) x (sym (slots-second p n k) ∙ g)
 
     val : (f : Entry) → secondEntries (secondAt n k) f ≡ x f
-    val f = ap (λ (h : Entries). h f) (slot-yes (secondAt n k .present) (secondEntries (secondAt n k)) x (sym (slots-second p n k) ∙ g) .1)
+    val f =
+        ap (λ (h : Entries). h f) (slot-yes (secondAt n k .present) (secondEntries (secondAt n k)) x
+        (sym (slots-second p n k) ∙ g) .1)
 
     z₀ : p + k - p ≡ k
     z₀ = omega arith
@@ -101,7 +123,8 @@ module _ {L : Limits} {P : ℕ} (setting : Setting L P) where
   abbrev T : Tree P (dimension P)
   T = tree setting
 
-  module _ (B : Ledger) (r : Reached (tree setting) (fieldLimit L) B) (a c : ℕ) (h : a < P) (n : Node) (o : Holds setting a c n (stateOf B a)) where
+  module _ (B : Ledger) (r : Reached (tree setting) (fieldLimit L) B) (a c : ℕ) (h : a < P) (n : Node)
+      (o : Holds setting a c n (stateOf B a)) where
     dims-is : dims n ≡ p
     dims-is = ap dimension (o .nodes)
 
@@ -109,12 +132,20 @@ module _ {L : Limits} {P : ℕ} (setting : Setting L P) where
     awaits k = rw (o .nodes, o .number) (awaited-is setting k a)
 
     -- a step that agrees in the proof agrees in the definitions
-    pub agrees-first : (k : ℕ) → k < dimension P → Agrees (dimension P) (fieldLimit L) (stateOf B a) k (tree setting .awaited (dimOf (dimension P) k) a) → agrees L n 1 k ≡ true
+    pub agrees-first : (k : ℕ) → k < dimension P
+        → Agrees (dimension P) (fieldLimit L) (stateOf B a) k (tree setting .awaited (dimOf (dimension P) k) a)
+        → agrees L n 1 k ≡ true
     agrees-first k l g =
         agree-back-first L p n k (T .awaited k a) dims-is (awaits k) l
-        (agree-like p (stateOf B a) (view p n) (like-sym p (view p n) (stateOf B a) (o .like)) (fieldLimit L) k (T .awaited k a) (omega arith) (subst (λ d. Agrees p (fieldLimit L) (stateOf B a) k (T .awaited d a)) (dim-first p k l) g))
+        (agree-like p (stateOf B a) (view p n) (like-sym p (view p n) (stateOf B a) (o .like)) (fieldLimit L) k
+        (T .awaited k a) (omega arith)
+        (subst (λ d. Agrees p (fieldLimit L) (stateOf B a) k (T .awaited d a)) (dim-first p k l) g))
 
-    pub agrees-second : (k : ℕ) → k < dimension P → Agrees (dimension P) (fieldLimit L) (stateOf B a) (dimension P + k) (tree setting .awaited (dimOf (dimension P) (dimension P + k)) a) → agrees L n 2 k ≡ true
+    pub agrees-second : (k : ℕ) → k < dimension P
+        → Agrees (dimension P) (fieldLimit L) (stateOf B a) (dimension P + k)
+        (tree setting .awaited (dimOf (dimension P) (dimension P + k)) a) → agrees L n 2 k ≡ true
     agrees-second k l g =
         agree-back-second L p n k (T .awaited k a) dims-is (awaits k) l
-        (agree-like p (stateOf B a) (view p n) (like-sym p (view p n) (stateOf B a) (o .like)) (fieldLimit L) (p + k) (T .awaited k a) (omega arith) (subst (λ d. Agrees p (fieldLimit L) (stateOf B a) (p + k) (T .awaited d a)) (dim-second p k) g))
+        (agree-like p (stateOf B a) (view p n) (like-sym p (view p n) (stateOf B a) (o .like)) (fieldLimit L) (p + k)
+        (T .awaited k a) (omega arith)
+        (subst (λ d. Agrees p (fieldLimit L) (stateOf B a) (p + k) (T .awaited d a)) (dim-second p k) g))

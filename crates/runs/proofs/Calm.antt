@@ -32,24 +32,30 @@ use Rattle.runs.proofs.Pairs.{Found, found}
 use Rattle.runs.proofs.Sim.{awaitedIn, awaited-below, Holds, Says}
 use Rattle.runs.proofs.Emit.{dim-step}
 use Rattle.runs.proofs.Played.{Played, Next, Mishap}
-use Rattle.runs.proofs.Delivering.{c, ha, hb, whole, not-ahead, message-of, not-behind, report-of, not-behind₂, diff-is}
+use Rattle.runs.proofs.Delivering.{c, ha, hb, whole, not-ahead, message-of, not-behind, report-of, not-behind₂}
+use Rattle.runs.proofs.Delivering.{diff-is}
 use Rattle.runs.proofs.Steps.{next}
 use Rattle.runs.proofs.Safety.{begun, begun-calm}
 use Rattle.runs.proofs.Clear.{take-clear, frame-clear}
 use Rattle.runs.proofs.Room.{taken-room}
 use Rattle.runs.proofs.Sound.{Fine, FineLoad, Accepted, AllFine, accepted-start, accepted-step, fine-step}
 
-two-cases : (x y : ℕ) → x ≤ suc y → y ≤ x → ((x % 256 + 256 - y % 256) % 256 ≡ 0) ⊎ ((x % 256 + 256 - y % 256) % 256 ≡ 1)
+two-cases : (x y : ℕ) → x ≤ suc y → y ≤ x
+    → ((x % 256 + 256 - y % 256) % 256 ≡ 0) ⊎ ((x % 256 + 256 - y % 256) % 256 ≡ 1)
 two-cases x y a b = go (ℕ-discrete x y)
   where
     go : Dec (x ≡ y) → ((x % 256 + 256 - y % 256) % 256 ≡ 0) ⊎ ((x % 256 + 256 - y % 256) % 256 ≡ 1)
     go (yes e) = inl (omega arith)
     go (no e) = inr (omega arith)
 
-three-cases : (x y : ℕ) → x ≤ suc y → y ≤ suc x → ((x % 256 + 256 - y % 256) % 256 ≡ 0) ⊎ (((x % 256 + 256 - y % 256) % 256 ≡ 1) ⊎ ((x % 256 + 256 - y % 256) % 256 ≡ 255))
+three-cases : (x y : ℕ) → x ≤ suc y → y ≤ suc x
+    → ((x % 256 + 256 - y % 256) % 256 ≡ 0)
+    ⊎ (((x % 256 + 256 - y % 256) % 256 ≡ 1) ⊎ ((x % 256 + 256 - y % 256) % 256 ≡ 255))
 three-cases x y a b = go (ℕ-discrete x y) (decLt x y)
   where
-    go : Dec (x ≡ y) → Dec (x < y) → ((x % 256 + 256 - y % 256) % 256 ≡ 0) ⊎ (((x % 256 + 256 - y % 256) % 256 ≡ 1) ⊎ ((x % 256 + 256 - y % 256) % 256 ≡ 255))
+    go : Dec (x ≡ y) → Dec (x < y)
+        → ((x % 256 + 256 - y % 256) % 256 ≡ 0)
+        ⊎ (((x % 256 + 256 - y % 256) % 256 ≡ 1) ⊎ ((x % 256 + 256 - y % 256) % 256 ≡ 255))
     go (yes e) d = inl (omega arith)
     go (no e) (yes d) = inr (inr (omega arith))
     go (no e) (no d) = inr (inl (omega arith))
@@ -83,48 +89,73 @@ module _ {L : Limits} {P : ℕ} (setting : Setting L P) where
 
       fine-bytes : (bs : List ℕ) → m .load ≡ frame bs → Read L (w .nodes b .nodes) bs (fieldsIn L (w .nodes b) bs)
       fine-bytes bs lf =
-          subst (λ N. Read L N bs (fieldsOf (dimension N) bs)) (sym (hold b lb .nodes)) (subst (FineLoad L P) lf (fine-parts .0 .1))
+          subst (λ N. Read L N bs (fieldsOf (dimension N) bs)) (sym (hold b lb .nodes))
+          (subst (FineLoad L P) lf (fine-parts .0 .1))
 
       -- ---- nothing is refused but for being early
 
       module _ (calm : (n : ℕ) → q .ledger .pages n .lossy ≡ false) where
         no-bad-take : (byte x : ℕ) → m .load ≡ work byte → take L (w .nodes b) a byte .answer ≡ refused x → x ≢ 7 → ⊥
         no-bad-take byte x lw ans ne =
-            ne (take-clear L (w .nodes b) a byte x (ok b lb) (omega (arith, la, hold b lb .nodes)) (λ z. apart (z ∙ hold b lb .number)) diffs space ans)
+            ne (take-clear L (w .nodes b) a byte x (ok b lb) (omega (arith, la, hold b lb .nodes))
+            (λ z. apart (z ∙ hold b lb .number)) diffs space ans)
           where
             j : (c setting w q a b m e .one .item .load ≡ message) × (byte ≡ m .phase % 256)
             j = message-of setting w q a b m e byte lw
+
             le1 : m .phase ≤ suc (q .ledger .phase b)
             le1 = not-ahead setting w q a b m e
+
             le2 : q .ledger .phase b ≤ m .phase
             le2 = not-behind setting w q a b m e byte lw (j .0) (j .1) b lb
+
             diff-eq : difference byte (w .nodes b .phase) ≡ (m .phase % 256 + 256 - q .ledger .phase b % 256) % 256
-            diff-eq = ap (λ z. (z + 256 - w .nodes b .phase) % 256) (j .1) ∙ ap (λ z. (m .phase % 256 + 256 - z) % 256) (hold b lb .phase ∙ ap (λ n. n % 256) (q .sim .counts b))
+            diff-eq =
+                ap (λ z. (z + 256 - w .nodes b .phase) % 256) (j .1)
+                ∙ ap (λ z. (m .phase % 256 + 256 - z) % 256) (hold b lb .phase ∙ ap (λ n. n % 256) (q .sim .counts b))
+
             diffs : (difference byte (w .nodes b .phase) ≡ 0) ⊎ (difference byte (w .nodes b .phase) ≡ 1)
             diffs = go (two-cases (m .phase) (q .ledger .phase b) le1 le2)
               where
-                go : ((m .phase % 256 + 256 - q .ledger .phase b % 256) % 256 ≡ 0) ⊎ ((m .phase % 256 + 256 - q .ledger .phase b % 256) % 256 ≡ 1) → (difference byte (w .nodes b .phase) ≡ 0) ⊎ (difference byte (w .nodes b .phase) ≡ 1)
+                go : ((m .phase % 256 + 256 - q .ledger .phase b % 256) % 256 ≡ 0)
+                    ⊎ ((m .phase % 256 + 256 - q .ledger .phase b % 256) % 256 ≡ 1)
+                    → (difference byte (w .nodes b .phase) ≡ 0) ⊎ (difference byte (w .nodes b .phase) ≡ 1)
                 go (inl z) = inl (diff-eq ∙ z)
                 go (inr z) = inr (diff-eq ∙ z)
+
             space : difference byte (w .nodes b .phase) ≡ 0 → tally (w .nodes b) allTaken < takenLimit L
             space z =
                 let ph : m .phase ≡ q .ledger .phase b = omega (arith, sym diff-eq ∙ z, le1, le2) in
                 let cc′ = c setting w q a b m e in
                 let wh = whole setting w q a b m e message (j .0) in
-                let r = taken-room (tree setting) (fieldLimit L) (L .sends) (phaseOf (q .ledger) (q .ledger .phase b)) (invariant (tree setting) (fieldLimit L) (q .ledger) (q .reached) .fit (q .ledger .phase b)) (calm (q .ledger .phase b)) (λ y h. q .sim .capped (q .ledger .phase b) y h) a b la lb apart
-                  (ofPhase (q .ledger .phase b) (cc′ .pre)) (ofPhase (q .ledger .phase b) (cc′ .post)) (ap (ofPhase (q .ledger .phase b)) wh ∙ phase-mid (q .ledger .phase b) (cc′ .pre) (cc′ .post) _ ph) in
-                let limit : (P - 1) * L .sends ≤ (L .nodes - 1) * L .sends = mul-le-mul-right (L .sends) (omega (arith, setting .few)) in
+                let r = taken-room (tree setting) (fieldLimit L) (L .sends) (phaseOf (q .ledger) (q .ledger .phase b))
+                (invariant (tree setting) (fieldLimit L) (q .ledger) (q .reached) .fit (q .ledger .phase b))
+                (calm (q .ledger .phase b)) (λ y h. q .sim .capped (q .ledger .phase b) y h) a b la lb apart
+                (ofPhase (q .ledger .phase b) (cc′ .pre)) (ofPhase (q .ledger .phase b) (cc′ .post))
+                (ap (ofPhase (q .ledger .phase b)) wh ∙ phase-mid (q .ledger .phase b) (cc′ .pre) (cc′ .post) _ ph) in
+                let limit : (P - 1) * L .sends ≤ (L .nodes - 1) * L .sends =
+                mul-le-mul-right (L .sends) (omega (arith, setting .few)) in
                 omega (arith, r, limit, hold b lb .like .tallies takenAll tt)
 
-        no-bad-frame : (bs : List ℕ) (x : ℕ) → m .load ≡ frame bs → frameIn L (w .nodes b) bs .answer ≡ refused x → x ≢ 7 → ⊥
+        no-bad-frame : (bs : List ℕ) (x : ℕ) → m .load ≡ frame bs → frameIn L (w .nodes b) bs .answer ≡ refused x
+            → x ≢ 7 → ⊥
         no-bad-frame bs x lf ans ne =
-            ne (frame-clear L (w .nodes b) bs (record { ok = ok b lb; read = fine-bytes bs lf; other = λ z. apart (sym from-a ∙ z ∙ hold b lb .number); awaits = awt }) x diffs ans)
+            ne (frame-clear L (w .nodes b) bs
+            (record {
+              ok = ok b lb;
+              read = fine-bytes bs lf;
+              other = λ z. apart (sym from-a ∙ z ∙ hold b lb .number);
+              awaits = awt;
+            }) x diffs ans)
           where
-            n : (t : ℕ) × ((x : Entries) × ((c setting w q a b m e .one .item .load ≡ report t x) × Says setting (m .from) (m .phase) (fieldsOf p bs) t x))
+            n : (t : ℕ) × ((x : Entries) × ((c setting w q a b m e .one .item .load ≡ report t x) × Says setting
+                (m .from) (m .phase) (fieldsOf p bs) t x))
             n = report-of setting w q a b m e bs lf
 
             y : Says setting (m .from) (m .phase) (fieldsIn L (w .nodes b) bs) (n .0) (n .1 .0)
-            y = subst (λ d. Says setting (m .from) (m .phase) (fieldsOf d bs) (n .0) (n .1 .0)) (sym (dims-is b lb)) (n .1 .1 .1)
+            y =
+                subst (λ d. Says setting (m .from) (m .phase) (fieldsOf d bs) (n .0) (n .1 .0)) (sym (dims-is b lb))
+                (n .1 .1 .1)
 
             from-a : fieldsIn L (w .nodes b) bs .sender ≡ a
             from-a = y .sender ∙ g .from-is
@@ -133,24 +164,41 @@ module _ {L : Limits} {P : ℕ} (setting : Setting L P) where
             parts =
                 all-mid (Partnered (awaitedIn setting)) (c setting w q a b m e .pre) (c setting w q a b m e .post)
                 (record { phase = m .phase; item = record { from = a; to = b; load = report (n .0) (n .1 .0) } })
-                (subst (All (Partnered (awaitedIn setting))) (whole setting w q a b m e (report (n .0) (n .1 .0)) (n .1 .1 .0)) (q .sim .win .partner)) .0 (n .0) refl
+                (subst (All (Partnered (awaitedIn setting)))
+                (whole setting w q a b m e (report (n .0) (n .1 .0)) (n .1 .1 .0)) (q .sim .win .partner)) .0
+                (n .0) refl
 
             dim-s : dimOf p (n .0) ≡ fieldsIn L (w .nodes b) bs .dim
-            dim-s = ap (dimOf p) (sym (y .step)) ∙ dim-step p (fieldsIn L (w .nodes b) bs .pass) (fieldsIn L (w .nodes b) bs .dim) (y .pass) (y .low)
+            dim-s =
+                ap (dimOf p) (sym (y .step)) ∙ dim-step p (fieldsIn L (w .nodes b) bs .pass)
+                (fieldsIn L (w .nodes b) bs .dim) (y .pass) (y .low)
 
             awaits-at : (k : ℕ) → awaited (w .nodes b .nodes) k (w .nodes b .number) ≡ (tree setting) .awaited k b
             awaits-at k = rw (hold b lb .nodes, hold b lb .number) (awaited-is setting k b)
 
-            awt : awaited (w .nodes b .nodes) (fieldsIn L (w .nodes b) bs .dim) (w .nodes b .number) ≡ some (fieldsIn L (w .nodes b) bs .sender)
-            awt = awaits-at (fieldsIn L (w .nodes b) bs .dim) ∙ ap (λ d. (tree setting) .awaited d b) (sym dim-s) ∙ awaited-below setting (n .0) b a parts .1 ∙ ap some (sym from-a)
+            awt : awaited (w .nodes b .nodes) (fieldsIn L (w .nodes b) bs .dim) (w .nodes b .number) ≡ some
+                (fieldsIn L (w .nodes b) bs .sender)
+            awt =
+                awaits-at (fieldsIn L (w .nodes b) bs .dim) ∙ ap (λ d. (tree setting) .awaited d b) (sym dim-s)
+                ∙ awaited-below setting (n .0) b a parts .1 ∙ ap some (sym from-a)
 
-            diff-eq : difference (fieldsIn L (w .nodes b) bs .phase) (w .nodes b .phase) ≡ (m .phase % 256 + 256 - q .ledger .phase b % 256) % 256
+            diff-eq : difference (fieldsIn L (w .nodes b) bs .phase)
+                (w .nodes b .phase) ≡ (m .phase % 256 + 256 - q .ledger .phase b % 256) % 256
             diff-eq = diff-is setting w q a b m e bs lf (n .0) (n .1 .0) (n .1 .1 .0) (n .1 .1 .1)
 
-            diffs : (difference (fieldsIn L (w .nodes b) bs .phase) (w .nodes b .phase) ≡ 0) ⊎ ((difference (fieldsIn L (w .nodes b) bs .phase) (w .nodes b .phase) ≡ 1) ⊎ (difference (fieldsIn L (w .nodes b) bs .phase) (w .nodes b .phase) ≡ 255))
-            diffs = go (three-cases (m .phase) (q .ledger .phase b) (not-ahead setting w q a b m e) (not-behind₂ setting w q a b m e bs lf (n .0) (n .1 .0) (n .1 .1 .0) (n .1 .1 .1)))
+            diffs : (difference (fieldsIn L (w .nodes b) bs .phase) (w .nodes b .phase) ≡ 0)
+                ⊎ ((difference (fieldsIn L (w .nodes b) bs .phase) (w .nodes b .phase) ≡ 1)
+                ⊎ (difference (fieldsIn L (w .nodes b) bs .phase) (w .nodes b .phase) ≡ 255))
+            diffs =
+                go (three-cases (m .phase) (q .ledger .phase b) (not-ahead setting w q a b m e)
+                (not-behind₂ setting w q a b m e bs lf (n .0) (n .1 .0) (n .1 .1 .0) (n .1 .1 .1)))
               where
-                go : ((m .phase % 256 + 256 - q .ledger .phase b % 256) % 256 ≡ 0) ⊎ (((m .phase % 256 + 256 - q .ledger .phase b % 256) % 256 ≡ 1) ⊎ ((m .phase % 256 + 256 - q .ledger .phase b % 256) % 256 ≡ 255)) → (difference (fieldsIn L (w .nodes b) bs .phase) (w .nodes b .phase) ≡ 0) ⊎ ((difference (fieldsIn L (w .nodes b) bs .phase) (w .nodes b .phase) ≡ 1) ⊎ (difference (fieldsIn L (w .nodes b) bs .phase) (w .nodes b .phase) ≡ 255))
+                go : ((m .phase % 256 + 256 - q .ledger .phase b % 256) % 256 ≡ 0)
+                    ⊎ (((m .phase % 256 + 256 - q .ledger .phase b % 256) % 256 ≡ 1)
+                    ⊎ ((m .phase % 256 + 256 - q .ledger .phase b % 256) % 256 ≡ 255))
+                    → (difference (fieldsIn L (w .nodes b) bs .phase) (w .nodes b .phase) ≡ 0)
+                    ⊎ ((difference (fieldsIn L (w .nodes b) bs .phase) (w .nodes b .phase) ≡ 1)
+                    ⊎ (difference (fieldsIn L (w .nodes b) bs .phase) (w .nodes b .phase) ≡ 255))
                 go (inl z) = inl (diff-eq ∙ z)
                 go (inr (inl z)) = inr (inl (diff-eq ∙ z))
                 go (inr (inr z)) = inr (inr (diff-eq ∙ z))

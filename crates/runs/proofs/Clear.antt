@@ -33,7 +33,13 @@ pub take-clear : (L : Limits) (n : Node) (a byte x : ℕ) → valid L n ≡ true
 unfolding take
 take-clear L n a byte x v l ne (inl d) r e =
     not-refused x
-    (sym (rw (v, lt-leb (n .nodes) a l, ne-eqb a (n .number) ne, timing-now byte (n .phase) d, lt-leb (takenLimit L) (tally n allTaken) (r d)) refl) ∙ e)
+    (sym (rw (
+      v,
+      lt-leb (n .nodes) a l,
+      ne-eqb a (n .number) ne,
+      timing-now byte (n .phase) d,
+      lt-leb (takenLimit L) (tally n allTaken) (r d),
+    ) refl) ∙ e)
 take-clear L n a byte x v l ne (inr d) r e =
     seven x (sym (rw (v, lt-leb (n .nodes) a l, ne-eqb a (n .number) ne, timing-early byte (n .phase) d) refl) ∙ e)
 
@@ -41,7 +47,8 @@ pub frame-clear : (L : Limits) (n : Node) (bs : List ℕ) → Comes L n bs → (
     → (away L n bs ≡ 0) ⊎ ((away L n bs ≡ 1) ⊎ (away L n bs ≡ 255)) → frameIn L n bs .answer ≡ refused x → x ≡ 7
 frame-clear L n bs c x df e = by df
   where
-    is : (t : Timing) → timing (fieldsIn L n bs .phase) (n .phase) ≡ t → byTiming n (fieldsIn L n bs) t .answer ≡ refused x
+    is : (t : Timing) → timing (fieldsIn L n bs .phase) (n .phase) ≡ t
+        → byTiming n (fieldsIn L n bs) t .answer ≡ refused x
     is t q =
         ap (λ t. byTiming n (fieldsIn L n bs) t .answer) (sym q)
         ∙ ap (λ (g : Given Outcome). g .answer) (sym (frame-comes L n bs c)) ∙ e

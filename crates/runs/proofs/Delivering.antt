@@ -23,23 +23,27 @@ use Rattle.node.specs.Answers.{Given, Outcome, done, refused}
 use Rattle.node.specs.Calls.{oneTaken, take, frameIn, stepNumber, firstOf, secondOf, stored, gotten}
 use Rattle.node.specs.declared.Node.{Node}
 use Rattle.runs.specs.Board.{put, Load, work, frame, Item, Board, delivers, oldest}
-use Rattle.runs.specs.Board.{without, gave, carries, offUnlessEarly, afterTake, afterFrame, delivered, deliveredOldest}
+use Rattle.runs.specs.Board.{without, gave, carries, offUnlessEarly, afterTake, afterFrame, delivered}
+use Rattle.runs.specs.Board.{deliveredOldest}
 use Rattle.cycle.proofs.Sums.{pick, update, update-all, update-same, update-other, sum, sum-ext, count}
 use Rattle.cycle.proofs.Lists.{All, all-mid}
 use Rattle.cycle.proofs.Exact.{takenAll, Entries}
-use Rattle.cycle.proofs.OnePhase.{message, report, State, dimOf, atStep, withStored, withTallies, bumpTaken, Content, OnLink, Shell}
+use Rattle.cycle.proofs.OnePhase.{message, report, State, dimOf, atStep, withStored, withTallies, bumpTaken, Content}
+use Rattle.cycle.proofs.OnePhase.{OnLink, Shell}
 use Rattle.cycle.proofs.Messages.{messages, messages-append}
 use Rattle.cycle.proofs.Ledger.{Dated, Page, Ledger, ofPhase, Step, Reached, invariant, safe, within-one}
 use Rattle.cycle.proofs.Window.{Window, Move, window-keeps, Sent, Close}
 use Rattle.cycle.proofs.Dating.{FirstDated, phase-mid}
-use Rattle.cycle.proofs.Events.{stateOf, ledgerWith, withState, pageWith, pageTaken, pageLost, act-lose, act-drop, act-take, act-store, act-fall}
+use Rattle.cycle.proofs.Events.{stateOf, ledgerWith, withState, pageWith, pageTaken, pageLost, act-lose, act-drop}
+use Rattle.cycle.proofs.Events.{act-take, act-store, act-fall}
 use Rattle.runs.proofs.Tools.{put-same, put-other}
 use Rattle.runs.proofs.Setting.{Setting, tree, dim-low, dim-pos, shell-ok, shell-lt}
 use Rattle.node.proofs.Clauses.{Has}
 use Rattle.node.proofs.Ways.{TakeWay, take-way, FrameWay, frame-way, frameOf as fieldsIn}
 use Rattle.runs.proofs.View.{fieldOf, view, Like, like-taken, like-at, like-first, like-second}
 use Rattle.runs.proofs.Pairs.{Pair, pair-append, Cut, cut, pair-all, Found, found}
-use Rattle.runs.proofs.Sim.{isSome, hasStored, seats, window-same, awaitedIn, Holds, Says, Loads, Carried, Sim, acted, stored-same, unmoved, carried}
+use Rattle.runs.proofs.Sim.{isSome, hasStored, seats, window-same, awaitedIn, Holds, Says, Loads, Carried, Sim}
+use Rattle.runs.proofs.Sim.{acted, stored-same, unmoved, carried}
 use Rattle.runs.proofs.Marks.{Named, Apart, Marks, marks-same, less-named, less-apart, log-same, marks-take}
 use Rattle.node.proofs.Valid.{step-first, step-second}
 use Rattle.runs.proofs.Emit.{dim-step, step-lt}
@@ -72,9 +76,11 @@ module _ {L : Limits} {P : ℕ} (setting : Setting L P) (w : Board) (play : Play
 
   -- ---- deliveries
 
-  msg-is : (u : Dated) (n a b : ℕ) → n ≡ u .phase → a ≡ u .item .from → b ≡ u .item .to → u ≡ record { phase = n; item = record { from = a; to = b; load = u .item .load } }
+  msg-is : (u : Dated) (n a b : ℕ) → n ≡ u .phase → a ≡ u .item .from → b ≡ u .item .to
+      → u ≡ record { phase = n; item = record { from = a; to = b; load = u .item .load } }
   msg-is u n a b x y z =
-      ap (λ n. record { phase = n; item = u .item }) (sym x) ∙ ap (λ a. record { phase = n; item = record { from = a; to = u .item .to; load = u .item .load } }) (sym y)
+      ap (λ n. record { phase = n; item = u .item }) (sym x)
+      ∙ ap (λ a. record { phase = n; item = record { from = a; to = u .item .to; load = u .item .load } }) (sym y)
       ∙ ap (λ b. record { phase = n; item = record { from = a; to = b; load = u .item .load } }) (sym z)
 
   module _ (a b : ℕ) (m : Item) (e : oldest a b (w .items) ≡ some m) where
@@ -82,7 +88,9 @@ module _ {L : Limits} {P : ℕ} (setting : Setting L P) (w : Board) (play : Play
     f = found a b (w .items) m e
 
     pub c : Cut (Carried setting) (f .pre) (f .post) m (ledger .items)
-    c = cut (Carried setting) (f .pre) (f .post) m (ledger .items) (subst (λ l. Pair (Carried setting) l (ledger .items)) (f .whole) (sim .items))
+    c =
+        cut (Carried setting) (f .pre) (f .post) m (ledger .items)
+        (subst (λ l. Pair (Carried setting) l (ledger .items)) (f .whole) (sim .items))
 
     pub ha : a < P
     ha = omega (arith, c .related .from-lt, f .from-is)
@@ -90,22 +98,31 @@ module _ {L : Limits} {P : ℕ} (setting : Setting L P) (w : Board) (play : Play
     pub hb : b < P
     hb = omega (arith, c .related .to-lt, f .to-is)
 
-    pub whole : (l : Content) → c .one .item .load ≡ l → ledger .items ≡ c .pre ++ record { phase = m .phase; item = record { from = a; to = b; load = l } } ∷ c .post
+    pub whole : (l : Content) → c .one .item .load ≡ l
+        → ledger .items ≡ c .pre ++ record { phase = m .phase; item = record { from = a; to = b; load = l } } ∷ c .post
     whole l q =
-        c .whole ∙ ap (λ u. c .pre ++ u ∷ c .post) (msg-is (c .one) (m .phase) a b (c .related .phase) (sym (f .from-is) ∙ c .related .from) (sym (f .to-is) ∙ c .related .to)
-          ∙ ap (λ l. record { phase = m .phase; item = record { from = a; to = b; load = l } }) q)
+        c .whole ∙ ap (λ u. c .pre ++ u ∷ c .post)
+        (msg-is (c .one) (m .phase) a b (c .related .phase) (sym (f .from-is) ∙ c .related .from)
+        (sym (f .to-is) ∙ c .related .to)
+        ∙ ap (λ l. record { phase = m .phase; item = record { from = a; to = b; load = l } }) q)
 
     first : FirstDated (c .pre) a b
-    first = pair-all (Carried setting) (λ k. (k .from ≡ a) × (k .to ≡ b) → ⊥) (λ u. OnLink a b (u .item) → ⊥) (λ x y z n o. n (z .from ∙ o .0, z .to ∙ o .1)) (f .pre) (c .pre) (c .before) (f .none-before)
+    first =
+        pair-all (Carried setting) (λ k. (k .from ≡ a) × (k .to ≡ b) → ⊥) (λ u. OnLink a b (u .item) → ⊥)
+        (λ x y z n o. n (z .from ∙ o .0, z .to ∙ o .1)) (f .pre) (c .pre) (c .before) (f .none-before)
 
     pairs : Pair (Carried setting) (f .pre ++ f .post) (c .pre ++ c .post)
     pairs = pair-append (Carried setting) (f .pre) (f .post) (c .pre) (c .post) (c .before) (c .after)
 
     off-win : Window (awaitedIn setting) (ledger .phase) (hasStored ledger) (c .pre ++ c .post)
-    off-win = window-keeps (awaitedIn setting) (ledger .phase) (hasStored ledger) (ledger .items) (ledger .phase) (hasStored ledger) (c .pre ++ c .post) (Move.off (c .pre) (c .post) (c .one) (c .whole)) (sim .win)
+    off-win =
+        window-keeps (awaitedIn setting) (ledger .phase) (hasStored ledger) (ledger .items) (ledger .phase)
+        (hasStored ledger) (c .pre ++ c .post) (Move.off (c .pre) (c .post) (c .one) (c .whole)) (sim .win)
 
     named-less : All (Named (w .untaken) (w .sends)) (f .pre ++ f .post)
-    named-less = less-named P (w .untaken) (w .sends) (f .pre) (f .post) m (subst (All (Named (w .untaken) (w .sends))) (f .whole) (marks .named))
+    named-less =
+        less-named P (w .untaken) (w .sends) (f .pre) (f .post) m
+        (subst (All (Named (w .untaken) (w .sends))) (f .whole) (marks .named))
 
     apart-less : Apart (f .pre ++ f .post)
     apart-less = less-apart P (f .pre) (f .post) m (subst Apart (f .whole) (marks .apart))
@@ -113,39 +130,66 @@ module _ {L : Limits} {P : ℕ} (setting : Setting L P) (w : Board) (play : Play
     -- not after the receiver's next phase
     pub not-ahead : m .phase ≤ suc (ledger .phase b)
     not-ahead =
-        let q = all-mid (Sent (ledger .phase)) (c .pre) (c .post) (record { phase = m .phase; item = record { from = a; to = b; load = c .one .item .load } })
-          (subst (All (Sent (ledger .phase))) (whole (c .one .item .load) refl) (sim .win .sent)) .0 in
+        let q = all-mid (Sent (ledger .phase)) (c .pre) (c .post)
+        (record { phase = m .phase; item = record { from = a; to = b; load = c .one .item .load } })
+        (subst (All (Sent (ledger .phase))) (whole (c .one .item .load) refl) (sim .win .sent)) .0 in
         omega (arith, within-one (tree setting) (fieldLimit L) ledger reached a b ha hb)
 
     -- the item is off, and nothing else
-    off-next : (u : Page) → Step (tree setting) (fieldLimit L) ledger (ledgerWith ledger (m .phase) u (c .pre ++ c .post)) → ((y : ℕ) → u .nodes y ≡ ledger .pages (m .phase) .nodes y) → u .senders ≡ ledger .pages (m .phase) .senders
-        → ((n : ℕ) → ledgerWith ledger (m .phase) u (c .pre ++ c .post) .pages n .lossy ≡ ledger .pages n .lossy) ⊎ Mishap setting w (delivers a b)
+    off-next : (u : Page) → Step (tree setting) (fieldLimit L) ledger
+        (ledgerWith ledger (m .phase) u (c .pre ++ c .post))
+        → ((y : ℕ) → u .nodes y ≡ ledger .pages (m .phase) .nodes y) → u .senders ≡ ledger .pages (m .phase) .senders
+        → ((n : ℕ) → ledgerWith ledger (m .phase) u (c .pre ++ c .post) .pages n .lossy ≡ ledger .pages n .lossy)
+        ⊎ Mishap setting w (delivers a b)
         → Next setting w play (delivers a b) (carries (gave w b (w .nodes b)) (f .pre ++ f .post))
     off-next u st nd lg ca =
-        record { played = record { ledger = ledgerWith ledger (m .phase) u (c .pre ++ c .post); reached = Reached.next ledger _ reached st;
-          sim = carried setting (gave w b (w .nodes b)) ledger (unmoved setting w ledger sim b) (f .pre ++ f .post) (c .pre ++ c .post) pairs (update (ledger .pages) (m .phase) u)
-            (λ n y. update-all (λ n w. w .nodes y ≡ ledger .pages n .nodes y) (ledger .pages) (m .phase) u (nd y) (λ n z. refl) n) off-win (w .untaken) (w .sends);
-          marks = marks-same P (w .untaken) (w .sends) (w .items) (f .pre ++ f .post) ledger (ledgerWith ledger (m .phase) u (c .pre ++ c .post)) marks named-less apart-less
-            (update-all (λ n w. sum (λ y. w .nodes y .tallies takenAll) 0 P ≡ sum (λ y. ledger .pages n .nodes y .tallies takenAll) 0 P) (ledger .pages) (m .phase) u (sum-ext (λ y. u .nodes y .tallies takenAll) (λ y. ledger .pages (m .phase) .nodes y .tallies takenAll) 0 P (λ y x z. ap (λ (nd : State). nd .tallies takenAll) (nd y))) (λ n z. refl))
-            (log-same P ledger (m .phase) u (c .pre ++ c .post) lg) };
-          calm = ca }
+        record {
+          played = record {
+            ledger = ledgerWith ledger (m .phase) u (c .pre ++ c .post);
+            reached = Reached.next ledger _ reached st;
+            sim =
+                carried setting (gave w b (w .nodes b)) ledger (unmoved setting w ledger sim b) (f .pre ++ f .post)
+                (c .pre ++ c .post) pairs (update (ledger .pages) (m .phase) u)
+                (λ n y. update-all (λ n w. w .nodes y ≡ ledger .pages n .nodes y) (ledger .pages) (m .phase) u (nd y)
+                (λ n z. refl) n) off-win (w .untaken) (w .sends);
+            marks =
+                marks-same P (w .untaken) (w .sends) (w .items) (f .pre ++ f .post) ledger
+                (ledgerWith ledger (m .phase) u (c .pre ++ c .post)) marks named-less apart-less
+                (update-all (λ n w. sum (λ y. w .nodes y .tallies takenAll) 0 P ≡ sum
+                (λ y. ledger .pages n .nodes y .tallies takenAll) 0 P) (ledger .pages) (m .phase) u
+                (sum-ext (λ y. u .nodes y .tallies takenAll)
+                (λ y. ledger .pages (m .phase) .nodes y .tallies takenAll) 0 P
+                (λ y x z. ap (λ (nd : State). nd .tallies takenAll) (nd y))) (λ n z. refl))
+                (log-same P ledger (m .phase) u (c .pre ++ c .post) lg);
+          };
+          calm = ca;
+        }
 
-    refused-next : (x : ℕ) → (x ≢ 7 → Mishap setting w (delivers a b)) → Next setting w play (delivers a b) (offUnlessEarly (gave w b (w .nodes b)) a b x)
+    refused-next : (x : ℕ) → (x ≢ 7 → Mishap setting w (delivers a b))
+        → Next setting w play (delivers a b) (offUnlessEarly (gave w b (w .nodes b)) a b x)
     refused-next x bad =
-        cases (Next setting w play (delivers a b)) (eqb x 7) (gave w b (w .nodes b)) (carries (gave w b (w .nodes b)) (without a b (w .items))) (λ q. held setting w play (delivers a b) b)
+        cases (Next setting w play (delivers a b)) (eqb x 7) (gave w b (w .nodes b))
+        (carries (gave w b (w .nodes b)) (without a b (w .items))) (λ q. held setting w play (delivers a b) b)
         (λ q. subst (λ l. Next setting w play (delivers a b) (carries (gave w b (w .nodes b)) l)) (sym (f .rest))
-          (off-next (pageLost (ledger .pages (m .phase))) (act-lose (tree setting) (fieldLimit L) ledger reached (c .pre) (c .post) (m .phase) a b (c .one .item .load) (whole (c .one .item .load) refl)) (λ y. refl) refl (inr (bad (eqb-false x 7 q)))))
+        (off-next (pageLost (ledger .pages (m .phase)))
+        (act-lose (tree setting) (fieldLimit L) ledger reached (c .pre) (c .post) (m .phase) a b (c .one .item .load)
+        (whole (c .one .item .load) refl)) (λ y. refl) refl (inr (bad (eqb-false x 7 q)))))
 
     -- ---- a work message
 
     pub message-of : (byte : ℕ) → m .load ≡ work byte → (c .one .item .load ≡ message) × (byte ≡ m .phase % 256)
-    message-of byte q = go (c .one .item .load) refl (subst (λ l. Loads setting (m .from) (m .phase) l (c .one .item .load)) q (c .related .load))
+    message-of byte q =
+        go (c .one .item .load) refl (subst
+        (λ l. Loads setting (m .from) (m .phase) l (c .one .item .load)) q (c .related .load))
       where
-        go : (l : Content) → c .one .item .load ≡ l → Loads setting (m .from) (m .phase) (work byte) (c .one .item .load) → (c .one .item .load ≡ message) × (byte ≡ m .phase % 256)
+        go : (l : Content) → c .one .item .load ≡ l
+            → Loads setting (m .from) (m .phase) (work byte) (c .one .item .load)
+            → (c .one .item .load ≡ message) × (byte ≡ m .phase % 256)
         go message z h = (z, subst (Loads setting (m .from) (m .phase) (work byte)) z h)
         go (report s x) z h = absurd (subst (Loads setting (m .from) (m .phase) (work byte)) z h)
 
-    module _ (byte : ℕ) (lw : m .load ≡ work byte) (lj : c .one .item .load ≡ message) (by : byte ≡ m .phase % 256) where
+    module _ (byte : ℕ) (lw : m .load ≡ work byte) (lj : c .one .item .load ≡ message)
+        (by : byte ≡ m .phase % 256) where
       -- while it is under way nobody has left its phase
       pub not-behind : (y : ℕ) → y < P → ledger .phase y ≤ m .phase
       not-behind y hy = go (decLt (m .phase) (ledger .phase y))
@@ -155,62 +199,138 @@ module _ {L : Limits} {P : ℕ} (setting : Setting L P) (w : Board) (play : Play
           go (yes l) =
               let o = safe (tree setting) (fieldLimit L) ledger reached y (m .phase) hy l in
               let q = invariant (tree setting) (fieldLimit L) ledger reached .fit (m .phase) .covers in
-              let z : messages (ofPhase (m .phase) (ledger .items)) ≡ messages (ofPhase (m .phase) (c .pre) ++ record { from = a; to = b; load = message } ∷ ofPhase (m .phase) (c .post)) = ap messages (ap (ofPhase (m .phase)) (whole message lj) ∙ phase-mid (m .phase) (c .pre) (c .post) _ refl) in
-              absurd (omega (arith, o .taken, q, z, messages-append (ofPhase (m .phase) (c .pre)) (record { from = a; to = b; load = message } ∷ ofPhase (m .phase) (c .post))))
+              let z : messages (ofPhase (m .phase) (ledger .items)) ≡ messages
+              (ofPhase (m .phase) (c .pre) ++ record { from = a; to = b; load = message } ∷ ofPhase (m .phase)
+              (c .post)) = ap messages (ap (ofPhase (m .phase)) (whole message lj)
+              ∙ phase-mid (m .phase) (c .pre) (c .post) _ refl) in
+              absurd (omega (
+                arith,
+                o .taken,
+                q,
+                z,
+                messages-append (ofPhase (m .phase) (c .pre))
+                    (record { from = a; to = b; load = message } ∷ ofPhase (m .phase) (c .post)),
+              ))
 
       pub same-phase : difference byte (w .nodes b .phase) ≡ 0 → m .phase ≡ ledger .phase b
       same-phase q =
           diff-now (m .phase) (ledger .phase b) not-ahead (omega (arith, not-behind b hb))
-          (ap (λ x. (x + 256 - ledger .phase b % 256) % 256) (sym by) ∙ ap (λ x. (byte + 256 - x) % 256) (sym (hold setting w play b hb .phase ∙ ap (λ n. n % 256) (sim .counts b))) ∙ q)
+          (ap (λ x. (x + 256 - ledger .phase b % 256) % 256) (sym by)
+          ∙ ap (λ x. (byte + 256 - x) % 256) (sym (hold setting w play b hb .phase ∙ ap (λ n. n % 256) (sim .counts b)))
+          ∙ q)
 
-      take-next : (q : Given Outcome) → take L (w .nodes b) a byte ≡ q → TakeWay L (w .nodes b) a byte q → Next setting w play (delivers a b) (afterTake (gave w b (q .node)) a b m (q .answer))
-      take-next q eq (TakeWay.refused x s) = refused-next x (λ z. Mishap.badTake a b m byte x e lw (ap (λ (q : Given Outcome). q .answer) eq) z)
+      take-next : (q : Given Outcome) → take L (w .nodes b) a byte ≡ q → TakeWay L (w .nodes b) a byte q
+          → Next setting w play (delivers a b) (afterTake (gave w b (q .node)) a b m (q .answer))
+      take-next q eq (TakeWay.refused x s) =
+          refused-next x (λ z. Mishap.badTake a b m byte x e lw (ap (λ (q : Given Outcome). q .answer) eq) z)
       take-next q eq (TakeWay.done va a1 a2 df cap) =
-          subst (λ l. Next setting w play (delivers a b) (record { nodes = put (w .nodes) b n′; items = l; count = w .count; busy = put (w .busy) b true; untaken = put (w .untaken) (m .name) none; sends = w .sends })) (sym (f .rest))
-          (record { played = record { ledger = ledgerWith ledger (ledger .phase b) u ms; reached = Reached.next ledger _ reached (act-take (tree setting) (fieldLimit L) ledger reached (c .pre) (c .post) (m .phase) a b j (whole message lj) ph ha hb jp shell);
-            sim = acted setting w ledger sim b hb u v refl n′ ok′ (sim .capped (ledger .phase b) b hb) (f .pre ++ f .post) ms pairs
-              (window-same (awaitedIn setting) (ledger .phase) (hasStored ledger) (hasStored (ledgerWith ledger (ledger .phase b) u ms)) ms (stored-same setting w ledger sim b hb u v refl n′ ok′ (sim .capped (ledger .phase b) b hb) ms (λ s. refl)) off-win)
-              (put (w .busy) b true) (sym (put-same (w .busy) b true)) (λ y z. put-other (w .busy) b true y z) (put (w .untaken) (m .name) none) (w .sends);
-            marks = marks-take P (w .untaken) (w .sends) (f .pre) (f .post) m ledger (subst (λ l. Marks P (w .untaken) (w .sends) l ledger) (f .whole) marks) (byte, lw) a b v ms hb ph refl };
-            calm = inl (lossy-same ledger (ledger .phase b) u ms refl) })
+          subst (λ l. Next setting w play (delivers a b)
+          (record {
+            nodes = put (w .nodes) b n′;
+            items = l;
+            count = w .count;
+            busy = put (w .busy) b true;
+            untaken = put (w .untaken) (m .name) none;
+            sends = w .sends;
+          })) (sym (f .rest))
+          (record {
+            played = record {
+              ledger = ledgerWith ledger (ledger .phase b) u ms;
+              reached = Reached.next ledger _ reached
+                  (act-take (tree setting) (fieldLimit L) ledger reached (c .pre) (c .post) (m .phase) a b j
+                  (whole message lj) ph ha hb jp shell);
+              sim =
+                  acted setting w ledger sim b hb u v refl n′ ok′ (sim .capped (ledger .phase b) b hb)
+                  (f .pre ++ f .post) ms pairs
+                  (window-same (awaitedIn setting) (ledger .phase) (hasStored ledger)
+                  (hasStored (ledgerWith ledger (ledger .phase b) u ms)) ms
+                  (stored-same setting w ledger sim b hb u v refl n′ ok′ (sim .capped (ledger .phase b) b hb) ms
+                  (λ s. refl)) off-win)
+                  (put (w .busy) b true) (sym (put-same (w .busy) b true))
+                  (λ y z. put-other (w .busy) b true y z) (put (w .untaken) (m .name) none) (w .sends);
+              marks =
+                  marks-take P (w .untaken) (w .sends) (f .pre) (f .post) m ledger
+                  (subst (λ l. Marks P (w .untaken) (w .sends) l ledger) (f .whole) marks)
+                  (byte, lw) a b v ms hb ph refl;
+            };
+            calm = inl (lossy-same ledger (ledger .phase b) u ms refl);
+          })
         where
           o : Holds setting b (w .count b) (w .nodes b) (stateOf ledger b)
           o = hold setting w play b hb
+
           j : ℕ
           j = distance (w .nodes b .nodes) (w .nodes b .number) a
+
           n′ : Node
-          n′ = at (withBusy (oneTaken (w .nodes b) (distance (w .nodes b .nodes) (w .nodes b .number) a)) true) 1 0 true 0
+          n′ =
+              at (withBusy (oneTaken (w .nodes b) (distance (w .nodes b .nodes) (w .nodes b .number) a)) true) 1 0 true
+              0
+
           v : State
-          v = atStep (withTallies (stateOf ledger b) true (bumpTaken (stateOf ledger b .tallies) (distance (w .nodes b .nodes) (w .nodes b .number) a))) 0 true 0
+          v =
+              atStep (withTallies (stateOf ledger b) true
+              (bumpTaken (stateOf ledger b .tallies) (distance (w .nodes b .nodes) (w .nodes b .number) a))) 0 true 0
+
           u : Page
-          u = pageTaken (ledger .pages (ledger .phase b)) a b (atStep (withTallies (stateOf ledger b) true (bumpTaken (stateOf ledger b .tallies) (distance (w .nodes b .nodes) (w .nodes b .number) a))) 0 true 0)
+          u =
+              pageTaken (ledger .pages (ledger .phase b)) a b
+              (atStep (withTallies (stateOf ledger b) true
+              (bumpTaken (stateOf ledger b .tallies) (distance (w .nodes b .nodes) (w .nodes b .number) a))) 0 true 0)
+
           ms : List Dated
           ms = c .pre ++ c .post
+
           ph : m .phase ≡ ledger .phase b
           ph = same-phase df
+
           ne : b ≢ a
           ne z = a2 (sym z ∙ sym (hold setting w play b hb .number))
+
           j-is : distance P b a ≡ distance (w .nodes b .nodes) (w .nodes b .number) a
           j-is = rw (hold setting w play b hb .nodes, hold setting w play b hb .number) refl
+
           shell : Shell (tree setting) b a (distance (w .nodes b .nodes) (w .nodes b .number) a)
           shell = subst (Shell (tree setting) b a) j-is (shell-ok setting b a hb ha ne)
+
           jp : distance (w .nodes b .nodes) (w .nodes b .number) a < p
           jp = omega (arith, j-is, shell-lt setting b a hb ha ne)
+
           ok′ : Holds setting b (w .count b) n′ v
           ok′ =
-              record { nodes = o .nodes; number = o .number; phase = o .phase; pass = inl refl; low = Z; sents = o .sents; takens = length-set (w .nodes b .taken) j _ ∙ o .takens; firsts = o .firsts; seconds = o .seconds;
-                like = like-taken p (w .nodes b) (stateOf ledger b) (dims-is setting w play b hb) (o .like) j jp (omega (arith, o .takens, jp, dim-low setting)) }
+              record {
+                nodes = o .nodes;
+                number = o .number;
+                phase = o .phase;
+                pass = inl refl;
+                low = Z;
+                sents = o .sents;
+                takens = length-set (w .nodes b .taken) j _
+                    ∙ o .takens;
+                firsts = o .firsts;
+                seconds = o .seconds;
+                like =
+                    like-taken p (w .nodes b) (stateOf ledger b) (dims-is setting w play b hb) (o .like) j jp
+                    (omega (arith, o .takens, jp, dim-low setting));
+              }
 
     -- ---- a frame
 
-    pub report-of : (bs : List ℕ) → m .load ≡ frame bs → (s : ℕ) × ((x : Entries) × ((c .one .item .load ≡ report s x) × Says setting (m .from) (m .phase) (fieldsOf p bs) s x))
-    report-of bs q = go (c .one .item .load) refl (subst (λ l. Loads setting (m .from) (m .phase) l (c .one .item .load)) q (c .related .load))
+    pub report-of : (bs : List ℕ) → m .load ≡ frame bs
+        → (s : ℕ) × ((x : Entries) × ((c .one .item .load ≡ report s x) × Says setting (m .from) (m .phase)
+        (fieldsOf p bs) s x))
+    report-of bs q =
+        go (c .one .item .load) refl (subst
+        (λ l. Loads setting (m .from) (m .phase) l (c .one .item .load)) q (c .related .load))
       where
-        go : (l : Content) → c .one .item .load ≡ l → Loads setting (m .from) (m .phase) (frame bs) (c .one .item .load) → (s : ℕ) × ((x : Entries) × ((c .one .item .load ≡ report s x) × Says setting (m .from) (m .phase) (fieldsOf p bs) s x))
+        go : (l : Content) → c .one .item .load ≡ l → Loads setting (m .from) (m .phase) (frame bs) (c .one .item .load)
+            → (s : ℕ) × ((x : Entries) × ((c .one .item .load ≡ report s x) × Says setting (m .from) (m .phase)
+            (fieldsOf p bs) s x))
         go message z h = absurd (subst (Loads setting (m .from) (m .phase) (frame bs)) z h)
         go (report s x) z h = (s, (x, (z, subst (Loads setting (m .from) (m .phase) (frame bs)) z h)))
 
-    module _ (bs : List ℕ) (lf : m .load ≡ frame bs) (s : ℕ) (x : Entries) (ln : c .one .item .load ≡ report s x) (y₀ : Says setting (m .from) (m .phase) (fieldsOf p bs) s x) where
+    module _ (bs : List ℕ) (lf : m .load ≡ frame bs) (s : ℕ) (x : Entries) (ln : c .one .item .load ≡ report s x)
+        (y₀ : Says setting (m .from) (m .phase) (fieldsOf p bs) s x) where
       -- the fields that the receiver reads
       abbrev F : Frame
       F = fieldsIn L (w .nodes b) bs
@@ -220,11 +340,15 @@ module _ {L : Limits} {P : ℕ} (setting : Setting L P) (w : Board) (play : Play
 
       pub not-behind₂ : ledger .phase b ≤ suc (m .phase)
       not-behind₂ =
-          all-mid (Close (ledger .phase)) (c .pre) (c .post) (record { phase = m .phase; item = record { from = a; to = b; load = report s x } })
+          all-mid (Close (ledger .phase)) (c .pre) (c .post)
+          (record { phase = m .phase; item = record { from = a; to = b; load = report s x } })
           (subst (All (Close (ledger .phase))) (whole (report s x) ln) (sim .win .window)) .0 s refl
 
       pub diff-is : difference (F .phase) (w .nodes b .phase) ≡ (m .phase % 256 + 256 - ledger .phase b % 256) % 256
-      diff-is = ap (λ x. (x + 256 - w .nodes b .phase) % 256) (y .phase) ∙ ap (λ x. (m .phase % 256 + 256 - x) % 256) (hold setting w play b hb .phase ∙ ap (λ n. n % 256) (sim .counts b))
+      diff-is =
+          ap (λ x. (x + 256 - w .nodes b .phase) % 256) (y .phase)
+          ∙ ap (λ x. (m .phase % 256 + 256 - x) % 256)
+          (hold setting w play b hb .phase ∙ ap (λ n. n % 256) (sim .counts b))
 
       s-lt : s < p + p
       s-lt = subst (λ t. t < p + p) (y .step) (step-lt p (F .pass) (F .dim) (y .pass) (y .low))
@@ -238,99 +362,235 @@ module _ {L : Limits} {P : ℕ} (setting : Setting L P) (w : Board) (play : Play
         where
           n : Node
           n = w .nodes b
+
           o : Holds setting b (w .count b) (w .nodes b) (stateOf ledger b)
           o = hold setting w play b hb
-          by : (F .pass ≡ 1) ⊎ (F .pass ≡ 2) → Holds setting b (w .count b) (stored (w .nodes b) F) (withStored (stateOf ledger b) s x)
+
+          by : (F .pass ≡ 1) ⊎ (F .pass ≡ 2)
+              → Holds setting b (w .count b) (stored (w .nodes b) F) (withStored (stateOf ledger b) s x)
           by (inl q) =
-              subst (λ n. Holds setting b (w .count b) n (withStored (stateOf ledger b) s x)) (sym (choose-yes (withFirst n (set (n .first) (F .dim) (firstOf F))) (withSecond n (set (n .second) (F .dim) (secondOf F))) (eq-eqb (F .pass) 1 q)))
-              (record { nodes = o .nodes; number = o .number; phase = o .phase; pass = o .pass; low = o .low; sents = o .sents; takens = o .takens; firsts = length-set (n .first) (F .dim) _ ∙ o .firsts; seconds = o .seconds;
-                like = subst (λ d. Like p (view p (withFirst n (set (n .first) (F .dim) (firstOf F)))) (withStored (stateOf ledger b) s x)) (sym (dims-is setting w play b hb))
-                  (subst (λ t. Like p (view p (withFirst n (set (n .first) (F .dim) (firstOf F)))) (withStored (stateOf ledger b) t x)) at-is
-                    (like-first p n (stateOf ledger b) (dims-is setting w play b hb) (o .like) (F .dim) (firstOf F) x (y .low) (omega (arith, o .firsts, y .low, dim-low setting)) refl (λ f h. y .first q f (subst (λ t. Has p t (fieldOf f)) at-is h)))) })
+              subst (λ n. Holds setting b (w .count b) n (withStored (stateOf ledger b) s x))
+              (sym (choose-yes (withFirst n (set (n .first) (F .dim) (firstOf F)))
+              (withSecond n (set (n .second) (F .dim) (secondOf F))) (eq-eqb (F .pass) 1 q)))
+              (record {
+                nodes = o .nodes;
+                number = o .number;
+                phase = o .phase;
+                pass = o .pass;
+                low = o .low;
+                sents = o .sents;
+                takens = o .takens;
+                firsts = length-set (n .first) (F .dim) _
+                    ∙ o .firsts;
+                seconds = o .seconds;
+                like =
+                    subst (λ d. Like p (view p (withFirst n (set (n .first) (F .dim) (firstOf F))))
+                    (withStored (stateOf ledger b) s x)) (sym (dims-is setting w play b hb))
+                    (subst (λ t. Like p (view p (withFirst n (set (n .first) (F .dim) (firstOf F))))
+                    (withStored (stateOf ledger b) t x)) at-is
+                    (like-first p n (stateOf ledger b) (dims-is setting w play b hb) (o .like) (F .dim) (firstOf F) x
+                    (y .low) (omega (arith, o .firsts, y .low, dim-low setting)) refl
+                    (λ f h. y .first q f (subst (λ t. Has p t (fieldOf f)) at-is h))));
+              })
             where
               at-is : F .dim ≡ s
               at-is = sym (step-first p (F .pass) (F .dim) q) ∙ y .step
           by (inr q) =
-              subst (λ n. Holds setting b (w .count b) n (withStored (stateOf ledger b) s x)) (sym (choose-no (withFirst n (set (n .first) (F .dim) (firstOf F))) (withSecond n (set (n .second) (F .dim) (secondOf F))) (ne-eqb (F .pass) 1 (λ z. omega arith))))
-              (record { nodes = o .nodes; number = o .number; phase = o .phase; pass = o .pass; low = o .low; sents = o .sents; takens = o .takens; firsts = o .firsts; seconds = length-set (n .second) (F .dim) _ ∙ o .seconds;
-                like = subst (λ t. Like p (view p (withSecond n (set (n .second) (F .dim) (secondOf F)))) (withStored (stateOf ledger b) t x)) at-is
-                    (like-second p n (stateOf ledger b) (dims-is setting w play b hb) (o .like) (F .dim) (secondOf F) x (y .low) (omega (arith, o .seconds, y .low, dim-low setting)) refl (λ f h. y .second q f (subst (λ t. Has p t (fieldOf f)) at-is h))) })
+              subst (λ n. Holds setting b (w .count b) n (withStored (stateOf ledger b) s x))
+              (sym (choose-no (withFirst n (set (n .first) (F .dim) (firstOf F)))
+              (withSecond n (set (n .second) (F .dim) (secondOf F))) (ne-eqb (F .pass) 1 (λ z. omega arith))))
+              (record {
+                nodes = o .nodes;
+                number = o .number;
+                phase = o .phase;
+                pass = o .pass;
+                low = o .low;
+                sents = o .sents;
+                takens = o .takens;
+                firsts = o .firsts;
+                seconds = length-set (n .second) (F .dim) _
+                    ∙ o .seconds;
+                like =
+                    subst (λ t. Like p (view p (withSecond n (set (n .second) (F .dim) (secondOf F))))
+                    (withStored (stateOf ledger b) t x)) at-is
+                    (like-second p n (stateOf ledger b) (dims-is setting w play b hb) (o .like) (F .dim) (secondOf F) x
+                    (y .low) (omega (arith, o .seconds, y .low, dim-low setting)) refl
+                    (λ f h. y .second q f (subst (λ t. Has p t (fieldOf f)) at-is h)));
+              })
             where
               at-is : p + F .dim ≡ s
               at-is = sym (step-second p (F .pass) (F .dim) q) ∙ y .step
 
       -- after a store, whatever else the position does
-      stored-next : (v : State) (n : Node) → v .tallies ≡ stateOf ledger b .tallies → v .stored ≡ update (stateOf ledger b .stored) s (some x) → n .busy ≡ w .nodes b .busy → m .phase ≡ ledger .phase b → (tree setting) .awaited (dimOf p s) b ≡ some a
-          → Step (tree setting) (fieldLimit L) ledger (withState ledger b v (c .pre ++ c .post)) → Holds setting b (w .count b) n v
-          → Next setting w play (delivers a b) (record { nodes = put (w .nodes) b n; items = f .pre ++ f .post; count = w .count; busy = w .busy; untaken = w .untaken; sends = w .sends })
+      stored-next : (v : State) (n : Node) → v .tallies ≡ stateOf ledger b .tallies
+          → v .stored ≡ update (stateOf ledger b .stored) s (some x) → n .busy ≡ w .nodes b .busy
+          → m .phase ≡ ledger .phase b → (tree setting) .awaited (dimOf p s) b ≡ some a
+          → Step (tree setting) (fieldLimit L) ledger (withState ledger b v (c .pre ++ c .post))
+          → Holds setting b (w .count b) n v
+          → Next setting w play (delivers a b)
+          (record {
+            nodes = put (w .nodes) b n;
+            items = f .pre ++ f .post;
+            count = w .count;
+            busy = w .busy;
+            untaken = w .untaken;
+            sends = w .sends;
+          })
       stored-next v n tv sv nb ph awt st ok′ =
           turned-to setting w play (delivers a b) b hb v n (c .pre ++ c .post) tv st ok′ (f .pre ++ f .post) pairs
-          (window-same (awaitedIn setting) (ledger .phase) (update (hasStored ledger) b (update (hasStored ledger b) s true)) (hasStored (withState ledger b v (c .pre ++ c .post))) (c .pre ++ c .post)
-            (seats ledger b (pageWith (ledger .pages (ledger .phase b)) b v) (c .pre ++ c .post) v refl (λ z nd. (t : ℕ) → isSome (nd .stored t) ≡ update (hasStored ledger) b (update (hasStored ledger b) s true) z t)
-              (λ t. ap (λ (g : ℕ → Option Entries). isSome (g t)) sv ∙ here t (ℕ-discrete t s) ∙ sym (ap (λ (g : ℕ → Bool). g t) (update-same (hasStored ledger) b (update (hasStored ledger b) s true))))
-              (λ z q t. sym (ap (λ (g : ℕ → Bool). g t) (update-other (hasStored ledger) b (update (hasStored ledger b) s true) z q))))
-            (window-keeps (awaitedIn setting) (ledger .phase) (hasStored ledger) (ledger .items) (ledger .phase) (update (hasStored ledger) b (update (hasStored ledger b) s true)) (c .pre ++ c .post) (Move.store (c .pre) (c .post) (record { phase = m .phase; item = record { from = a; to = b; load = report s x } }) s (whole (report s x) ln) first refl ph) (sim .win)))
+          (window-same (awaitedIn setting) (ledger .phase)
+          (update (hasStored ledger) b (update (hasStored ledger b) s true))
+          (hasStored (withState ledger b v (c .pre ++ c .post))) (c .pre ++ c .post)
+          (seats ledger b (pageWith (ledger .pages (ledger .phase b)) b v) (c .pre ++ c .post) v refl
+          (λ z nd. (t : ℕ) → isSome (nd .stored t) ≡ update (hasStored ledger) b
+          (update (hasStored ledger b) s true) z t)
+          (λ t. ap (λ (g : ℕ → Option Entries). isSome (g t)) sv ∙ here t (ℕ-discrete t s)
+          ∙ sym (ap (λ (g : ℕ → Bool). g t)
+          (update-same (hasStored ledger) b (update (hasStored ledger b) s true))))
+          (λ z q t. sym (ap (λ (g : ℕ → Bool). g t)
+          (update-other (hasStored ledger) b (update (hasStored ledger b) s true) z q))))
+          (window-keeps (awaitedIn setting) (ledger .phase) (hasStored ledger) (ledger .items) (ledger .phase)
+          (update (hasStored ledger) b (update (hasStored ledger b) s true)) (c .pre ++ c .post)
+          (Move.store (c .pre) (c .post)
+          (record { phase = m .phase; item = record { from = a; to = b; load = report s x } }) s
+          (whole (report s x) ln) first refl ph) (sim .win)))
           (w .busy) (nb ∙ sim .busy b hb) (λ z q. refl) named-less apart-less
         where
-          here : (t : ℕ) (d : Dec (t ≡ s)) → isSome (pick {A = Option Entries} d (some x) (stateOf ledger b .stored t)) ≡ pick {A = Bool} d true (hasStored ledger b t)
+          here : (t : ℕ) (d : Dec (t ≡ s))
+              → isSome (pick {A = Option Entries} d (some x) (stateOf ledger b .stored t)) ≡ pick {A = Bool} d true
+              (hasStored ledger b t)
           here t (yes d) = refl
           here t (no d) = refl
 
-      frame-next : (q : Given Outcome) → frameIn L (w .nodes b) bs ≡ q → FrameWay L (w .nodes b) bs q → Next setting w play (delivers a b) (afterFrame (gave w b (q .node)) a b (q .answer))
+      frame-next : (q : Given Outcome) → frameIn L (w .nodes b) bs ≡ q → FrameWay L (w .nodes b) bs q
+          → Next setting w play (delivers a b) (afterFrame (gave w b (q .node)) a b (q .answer))
       unfolding gotten
-      frame-next q eq (FrameWay.refused x s) = refused-next x (λ z. Mishap.badFrame a b m bs x e lf (ap (λ (q : Given Outcome). q .answer) eq) z)
-      frame-next q eq (FrameWay.early co d) = refused-next 7 (λ z. Mishap.badFrame a b m bs 7 e lf (ap (λ (q : Given Outcome). q .answer) eq) z)
-      frame-next q eq (FrameWay.foreign co d u v) = refused-next 8 (λ z. Mishap.badFrame a b m bs 8 e lf (ap (λ (q : Given Outcome). q .answer) eq) z)
+      frame-next q eq (FrameWay.refused x s) =
+          refused-next x (λ z. Mishap.badFrame a b m bs x e lf (ap (λ (q : Given Outcome). q .answer) eq) z)
+      frame-next q eq (FrameWay.early co d) =
+          refused-next 7 (λ z. Mishap.badFrame a b m bs 7 e lf (ap (λ (q : Given Outcome). q .answer) eq) z)
+      frame-next q eq (FrameWay.foreign co d u v) =
+          refused-next 8 (λ z. Mishap.badFrame a b m bs 8 e lf (ap (λ (q : Given Outcome). q .answer) eq) z)
       frame-next q eq (FrameWay.late co d) =
           subst (λ l. Next setting w play (delivers a b) (carries (gave w b (w .nodes b)) l)) (sym (f .rest))
           (off-next (pageWith (ledger .pages (m .phase)) b (ledger .pages (m .phase) .nodes b))
-            (act-drop (tree setting) (fieldLimit L) ledger reached (c .pre) (c .post) (m .phase) a b s x (whole (report s x) ln) hb (diff-late (m .phase) (ledger .phase b) not-ahead not-behind₂ (sym diff-is ∙ d)))
-            (update-all (λ z nd. nd ≡ ledger .pages (m .phase) .nodes z) (ledger .pages (m .phase) .nodes) b (ledger .pages (m .phase) .nodes b) refl (λ z q. refl)) refl
-            (inl (lossy-same ledger (m .phase) (pageWith (ledger .pages (m .phase)) b (ledger .pages (m .phase) .nodes b)) (c .pre ++ c .post) refl)))
+          (act-drop (tree setting) (fieldLimit L) ledger reached (c .pre) (c .post) (m .phase) a b s x
+          (whole (report s x) ln) hb (diff-late (m .phase) (ledger .phase b) not-ahead not-behind₂ (sym diff-is ∙ d)))
+          (update-all (λ z nd. nd ≡ ledger .pages (m .phase) .nodes z) (ledger .pages (m .phase) .nodes) b
+          (ledger .pages (m .phase) .nodes b) refl (λ z q. refl)) refl
+          (inl (lossy-same ledger (m .phase)
+          (pageWith (ledger .pages (m .phase)) b (ledger .pages (m .phase) .nodes b)) (c .pre ++ c .post) refl)))
       frame-next q eq (FrameWay.done co d) =
-          subst (λ l. Next setting w play (delivers a b) (record { nodes = put (w .nodes) b (gotten n F); items = l; count = w .count; busy = w .busy; untaken = w .untaken; sends = w .sends })) (sym (f .rest))
-          (cases (λ n. Next setting w play (delivers a b) (record { nodes = put (w .nodes) b n; items = f .pre ++ f .post; count = w .count; busy = w .busy; untaken = w .untaken; sends = w .sends }))
-            (ltb (stepNumber (dims n) (F .pass) (F .dim)) (stepNumber (dims n) (n .pass) (n .dim))) (at (stored n F) (F .pass) (F .dim) false t) (stored n F)
-            (λ l. stored-next (atStep (withStored (stateOf ledger b) s x) s false t) (at (stored n F) (F .pass) (F .dim) false t) refl refl busy-is ph aws
-              (act-fall (tree setting) (fieldLimit L) ledger reached (c .pre) (c .post) (m .phase) a b s x (whole (report s x) ln) first ph hb s-lt aws t (omega (arith, ltb-true (stepNumber (dims n) (F .pass) (F .dim)) (stepNumber (dims n) (n .pass) (n .dim)) l, steps)) t-is)
-              (fallen hold-stored))
-            (λ l. stored-next (withStored (stateOf ledger b) s x) (stored n F) refl refl busy-is ph aws
-              (act-store (tree setting) (fieldLimit L) ledger reached (c .pre) (c .post) (m .phase) a b s x (whole (report s x) ln) first ph hb s-lt aws (omega (arith, ltb-false (stepNumber (dims n) (F .pass) (F .dim)) (stepNumber (dims n) (n .pass) (n .dim)) l, steps))) hold-stored))
+          subst (λ l. Next setting w play (delivers a b)
+          (record {
+            nodes = put (w .nodes) b (gotten n F);
+            items = l;
+            count = w .count;
+            busy = w .busy;
+            untaken = w .untaken;
+            sends = w .sends;
+          })) (sym (f .rest))
+          (cases (λ n. Next setting w play (delivers a b)
+          (record {
+            nodes = put (w .nodes) b n;
+            items = f .pre ++ f .post;
+            count = w .count;
+            busy = w .busy;
+            untaken = w .untaken;
+            sends = w .sends;
+          }))
+          (ltb (stepNumber (dims n) (F .pass) (F .dim)) (stepNumber (dims n) (n .pass) (n .dim)))
+          (at (stored n F) (F .pass) (F .dim) false t) (stored n F)
+          (λ l. stored-next (atStep (withStored (stateOf ledger b) s x) s false t)
+          (at (stored n F) (F .pass) (F .dim) false t) refl refl busy-is ph aws
+          (act-fall (tree setting) (fieldLimit L) ledger reached (c .pre) (c .post) (m .phase) a b s x
+          (whole (report s x) ln) first ph hb s-lt aws t
+          (omega (
+            arith,
+            ltb-true (stepNumber (dims n) (F .pass) (F .dim))
+                (stepNumber (dims n) (n .pass) (n .dim)) l,
+            steps,
+          )) t-is)
+          (fallen hold-stored))
+          (λ l. stored-next (withStored (stateOf ledger b) s x) (stored n F) refl refl busy-is ph aws
+          (act-store (tree setting) (fieldLimit L) ledger reached (c .pre) (c .post) (m .phase) a b s x
+          (whole (report s x) ln) first ph hb s-lt aws
+          (omega (
+            arith,
+            ltb-false (stepNumber (dims n) (F .pass) (F .dim))
+                (stepNumber (dims n) (n .pass) (n .dim)) l,
+            steps,
+          ))) hold-stored))
         where
           n : Node
           n = w .nodes b
+
           t : ℕ
           t = choose (eqb (F .pass) 1) 0 (w .nodes b .agreed)
+
           ph : m .phase ≡ ledger .phase b
           ph = diff-now (m .phase) (ledger .phase b) not-ahead not-behind₂ (sym diff-is ∙ d)
+
           aws : (tree setting) .awaited (dimOf p s) b ≡ some a
           aws =
               let z = awaits-at setting w play b hb (F .dim) in
               ap (λ d. (tree setting) .awaited d b) dim-s ∙ sym z ∙ co .awaits ∙ ap some (y .sender ∙ f .from-is)
-          steps : (stepNumber (dims (w .nodes b)) (F .pass) (F .dim) ≡ s) × (stepNumber (dims (w .nodes b)) (w .nodes b .pass) (w .nodes b .dim) ≡ stateOf ledger b .step)
-          steps = (ap (λ d. stepNumber d (F .pass) (F .dim)) (dims-is setting w play b hb) ∙ y .step, ap (λ d. stepNumber d (w .nodes b .pass) (w .nodes b .dim)) (dims-is setting w play b hb) ∙ hold setting w play b hb .like .step)
+
+          steps : (stepNumber (dims (w .nodes b)) (F .pass) (F .dim) ≡ s)
+              × (stepNumber (dims (w .nodes b)) (w .nodes b .pass) (w .nodes b .dim) ≡ stateOf ledger b .step)
+          steps = (
+            ap (λ d. stepNumber d (F .pass) (F .dim)) (dims-is setting w play b hb)
+                ∙ y .step,
+            ap (λ d. stepNumber d (w .nodes b .pass) (w .nodes b .dim)) (dims-is setting w play b hb)
+                ∙ hold setting w play b hb .like .step,
+          )
+
           t-is : p ≤ s → choose (eqb (F .pass) 1) 0 (w .nodes b .agreed) ≡ stateOf ledger b .agreed
           t-is l = by (y .pass)
             where
-              by : (F .pass ≡ 1) ⊎ (F .pass ≡ 2) → choose (eqb (F .pass) 1) 0 (w .nodes b .agreed) ≡ stateOf ledger b .agreed
+              by : (F .pass ≡ 1) ⊎ (F .pass ≡ 2)
+                  → choose (eqb (F .pass) 1) 0 (w .nodes b .agreed) ≡ stateOf ledger b .agreed
               by (inl q) = absurd (omega (arith, step-first p (F .pass) (F .dim) q, y .step, y .low))
-              by (inr q) = choose-no 0 (w .nodes b .agreed) (ne-eqb (F .pass) 1 (λ z. omega arith)) ∙ hold setting w play b hb .like .agreed
+              by (inr q) =
+                  choose-no 0 (w .nodes b .agreed) (ne-eqb (F .pass) 1 (λ z. omega arith))
+                  ∙ hold setting w play b hb .like .agreed
+
           busy-is : stored (w .nodes b) F .busy ≡ w .nodes b .busy
           busy-is = cases (λ (n : Node). n .busy ≡ w .nodes b .busy) (eqb (F .pass) 1) _ _ (λ q. refl) (λ q. refl)
-          fallen : Holds setting b (w .count b) (stored (w .nodes b) F) (withStored (stateOf ledger b) s x) → Holds setting b (w .count b) (at (stored (w .nodes b) F) (F .pass) (F .dim) false (choose (eqb (F .pass) 1) 0 (w .nodes b .agreed))) (atStep (withStored (stateOf ledger b) s x) s false (choose (eqb (F .pass) 1) 0 (w .nodes b .agreed)))
-          fallen o =
-              record { nodes = o .nodes; number = o .number; phase = o .phase; pass = y .pass; low = y .low; sents = o .sents; takens = o .takens; firsts = o .firsts; seconds = o .seconds;
-                like = like-at p (stored (w .nodes b) F) (withStored (stateOf ledger b) s x) (ap dimension (o .nodes)) (o .like) (F .pass) (F .dim) false (choose (eqb (F .pass) 1) 0 (w .nodes b .agreed)) s (y .step) }
 
-    deliver-next : (l : Load) (l′ : Content) → m .load ≡ l → c .one .item .load ≡ l′ → Loads setting (m .from) (m .phase) l l′ → Next setting w play (delivers a b) (delivered L P w a b m l)
-    deliver-next (work byte) message q q′ h = take-next byte q q′ h (take L (w .nodes b) a byte) refl (take-way L (w .nodes b) a byte)
+          fallen : Holds setting b (w .count b) (stored (w .nodes b) F) (withStored (stateOf ledger b) s x)
+              → Holds setting b (w .count b)
+              (at (stored (w .nodes b) F) (F .pass) (F .dim) false (choose (eqb (F .pass) 1) 0 (w .nodes b .agreed)))
+              (atStep (withStored (stateOf ledger b) s x) s false (choose (eqb (F .pass) 1) 0 (w .nodes b .agreed)))
+          fallen o =
+              record {
+                nodes = o .nodes;
+                number = o .number;
+                phase = o .phase;
+                pass = y .pass;
+                low = y .low;
+                sents = o .sents;
+                takens = o .takens;
+                firsts = o .firsts;
+                seconds = o .seconds;
+                like =
+                    like-at p (stored (w .nodes b) F) (withStored (stateOf ledger b) s x) (ap dimension (o .nodes))
+                    (o .like) (F .pass) (F .dim) false (choose (eqb (F .pass) 1) 0 (w .nodes b .agreed)) s (y .step);
+              }
+
+    deliver-next : (l : Load) (l′ : Content) → m .load ≡ l → c .one .item .load ≡ l′
+        → Loads setting (m .from) (m .phase) l l′ → Next setting w play (delivers a b) (delivered L P w a b m l)
+    deliver-next (work byte) message q q′ h =
+        take-next byte q q′ h (take L (w .nodes b) a byte) refl (take-way L (w .nodes b) a byte)
     deliver-next (work byte) (report s x) q q′ h = absurd h
     deliver-next (frame bs) message q q′ h = absurd h
-    deliver-next (frame bs) (report s x) q q′ h = frame-next bs q s x q′ h (frameIn L (w .nodes b) bs) refl (frame-way L (w .nodes b) bs)
+    deliver-next (frame bs) (report s x) q q′ h =
+        frame-next bs q s x q′ h (frameIn L (w .nodes b) bs) refl (frame-way L (w .nodes b) bs)
 
     pub delivery : Next setting w play (delivers a b) (delivered L P w a b m (m .load))
     delivery = deliver-next (m .load) (c .one .item .load) refl refl (c .related .load)
 
-  pub oldest-next : (a b : ℕ) (o : Option Item) → oldest a b (w .items) ≡ o → Next setting w play (delivers a b) (deliveredOldest L P w a b o)
+  pub oldest-next : (a b : ℕ) (o : Option Item) → oldest a b (w .items) ≡ o
+      → Next setting w play (delivers a b) (deliveredOldest L P w a b o)
   oldest-next a b none e = stay setting w play (delivers a b)
   oldest-next a b (some m) e = delivery a b m e

@@ -56,12 +56,16 @@ module _ {L : Limits} {P : ℕ} (setting : Setting L P) where
     first-shows : (f : Field) → Has (dims n) (n .dim) f → number (firstOf (firstFrame n)) f ≡ own n (n .dim) f
     first-shows (sentIn m) s =
         let z : 0 + m ≡ m = omega arith in
-        ap (λ (x : Sent). x .0) (getD-list 0 width (λ m. sentNumber (choose (hasShell (dims n) (n .dim) m) (own n (n .dim) (sentIn m)) 0)) m (sentNumber 0) (omega (arith, wide)))
+        ap (λ (x : Sent). x .0) (getD-list 0 width
+        (λ m. sentNumber (choose (hasShell (dims n) (n .dim) m) (own n (n .dim) (sentIn m)) 0)) m (sentNumber 0)
+        (omega (arith, wide)))
         ∙ ap (λ m. choose (hasShell (dims n) (n .dim) m) (own n (n .dim) (sentIn m)) 0) z
         ∙ choose-yes _ _ (both-make (le-leb _ _ (s .0)) (lt-ltb _ _ (s .1)))
     first-shows (takenIn m) s =
         let z : 0 + m ≡ m = omega arith in
-        ap (λ (x : Taken). x .0) (getD-list 0 width (λ m. takenNumber (choose (hasShell (dims n) (n .dim) m) (own n (n .dim) (takenIn m)) 0)) m (takenNumber 0) (omega (arith, wide)))
+        ap (λ (x : Taken). x .0) (getD-list 0 width
+        (λ m. takenNumber (choose (hasShell (dims n) (n .dim) m) (own n (n .dim) (takenIn m)) 0)) m (takenNumber 0)
+        (omega (arith, wide)))
         ∙ ap (λ m. choose (hasShell (dims n) (n .dim) m) (own n (n .dim) (takenIn m)) 0) z
         ∙ choose-yes _ _ (both-make (le-leb _ _ (s .0)) (lt-ltb _ _ (s .1)))
     first-shows allSent s = refl
@@ -70,14 +74,20 @@ module _ {L : Limits} {P : ℕ} (setting : Setting L P) where
     first-case : n .pass ≡ 1 → Says setting a c (firstFrame n) (u .step) (frameOf p u (u .step))
     first-case e =
         record {
-          pass = inl refl; low = h .low; step = at-is; phase = h .phase; sender = h .number;
-          first = λ q. says; second = λ q. absurd (omega (arith, q));
+          pass = inl refl;
+          low = h .low;
+          step = at-is;
+          phase = h .phase;
+          sender = h .number;
+          first = λ q. says;
+          second = λ q. absurd (omega (arith, q));
         }
       where
         at-is : n .dim ≡ u .step
         at-is = sym (step-first p (n .pass) (n .dim) e) ∙ h .like .step
 
-        says : (f : Entry) → Has p (u .step) (fieldOf f) → firstEntries (firstOf (firstFrame n)) f ≡ frameOf p u (u .step) f
+        says : (f : Entry) → Has p (u .step) (fieldOf f)
+            → firstEntries (firstOf (firstFrame n)) f ≡ frameOf p u (u .step) f
         says f s =
             let s1 : Has p (n .dim) (fieldOf f) = subst (λ t. Has p t (fieldOf f)) (sym at-is) s in
             let s2 : Has (dims n) (n .dim) (fieldOf f) = subst (λ q. Has q (n .dim) (fieldOf f)) (sym dims-is) s1 in
@@ -89,8 +99,13 @@ module _ {L : Limits} {P : ℕ} (setting : Setting L P) where
     second-case : n .pass ≡ 2 → Says setting a c (secondFrame n) (u .step) (frameOf p u (u .step))
     second-case e =
         record {
-          pass = inr refl; low = h .low; step = at-is; phase = h .phase; sender = h .number;
-          first = λ q. absurd (omega (arith, q)); second = λ q. says;
+          pass = inr refl;
+          low = h .low;
+          step = at-is;
+          phase = h .phase;
+          sender = h .number;
+          first = λ q. absurd (omega (arith, q));
+          second = λ q. says;
         }
       where
         at-is : p + n .dim ≡ u .step
@@ -99,10 +114,12 @@ module _ {L : Limits} {P : ℕ} (setting : Setting L P) where
         own2 : ownIssued n (n .dim) ≡ ownSums (u .tallies) (λ i. u .stored (p + i)) (n .dim) sentAll
         own2 = issued-is p n (n .dim) ∙ own2-like p (view p n) u (h .like) (n .dim) (omega (arith, h .low))
 
-        frame-is : (f : Entry) → confirming (u .agreed) (ownSums (u .tallies) (λ i. u .stored (p + i)) (n .dim) sentAll) f ≡ frameOf p u (u .step) f
+        frame-is : (f : Entry) → confirming (u .agreed)
+            (ownSums (u .tallies) (λ i. u .stored (p + i)) (n .dim) sentAll) f ≡ frameOf p u (u .step) f
         frame-is f = ap (λ g. g f) (sym (frame-second p u (n .dim))) ∙ ap (λ t. frameOf p u t f) at-is
 
-        says : (f : Entry) → Has p (u .step) (fieldOf f) → secondEntries (secondOf (secondFrame n)) f ≡ frameOf p u (u .step) f
+        says : (f : Entry) → Has p (u .step) (fieldOf f)
+            → secondEntries (secondOf (secondFrame n)) f ≡ frameOf p u (u .step) f
         says (sentTo j) s = absurd (omega (arith, at-is))
         says (takenFrom j) s = absurd (omega (arith, at-is))
         says sentAll s = own2 ∙ frame-is sentAll
@@ -125,7 +142,8 @@ module _ {L : Limits} {P : ℕ} (setting : Setting L P) where
     pub emitted-read : Read L P (frameBytes (dims n) (frameDue n)) (fieldsOf p (frameBytes (dims n) (frameDue n)))
     emitted-read =
         let r = read-due in
-        subst (λ N. Read L N (frameBytes (dims n) (frameDue n)) (fieldsOf (dimension N) (frameBytes (dims n) (frameDue n)))) (h .nodes)
+        subst (λ N. Read L N (frameBytes (dims n) (frameDue n))
+        (fieldsOf (dimension N) (frameBytes (dims n) (frameDue n)))) (h .nodes)
         (subst (Read L (n .nodes) (frameBytes (dims n) (frameDue n))) (r .fields) r)
 
     pub emitted : Says setting a c (fieldsOf p (frameBytes (dims n) (frameDue n))) (u .step) (frameOf p u (u .step))

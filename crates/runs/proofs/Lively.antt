@@ -41,11 +41,13 @@ use Rattle.runs.proofs.Calm.{Calm, calm-run}
 
 -- ---- looking for one
 
-search-below : (G : ℕ → Type 0) → ((a : ℕ) → Dec (G a)) → (n : ℕ) → ((a : ℕ) × ((a < n) × G a)) ⊎ ((a : ℕ) → a < n → G a → ⊥)
+search-below : (G : ℕ → Type 0) → ((a : ℕ) → Dec (G a)) → (n : ℕ)
+    → ((a : ℕ) × ((a < n) × G a)) ⊎ ((a : ℕ) → a < n → G a → ⊥)
 search-below G d zero = inr (λ a l g. omega arith)
 search-below G d (suc n) = go (search-below G d n) (d n)
   where
-    go : ((a : ℕ) × ((a < n) × G a)) ⊎ ((a : ℕ) → a < n → G a → ⊥) → Dec (G n) → ((a : ℕ) × ((a < suc n) × G a)) ⊎ ((a : ℕ) → a < suc n → G a → ⊥)
+    go : ((a : ℕ) × ((a < n) × G a)) ⊎ ((a : ℕ) → a < n → G a → ⊥) → Dec (G n)
+        → ((a : ℕ) × ((a < suc n) × G a)) ⊎ ((a : ℕ) → a < suc n → G a → ⊥)
     go (inl r) e = inl (r .0, (omega (arith, r .1 .0), r .1 .1))
     go (inr f) (yes g) = inl (n, (omega arith, g))
     go (inr f) (no h) = inr (λ a l g. at a l g (ℕ-discrete a n))
@@ -54,11 +56,13 @@ search-below G d (suc n) = go (search-below G d n) (d n)
         at a l g (yes z) = h (subst G z g)
         at a l g (no z) = f a (omega arith) g
 
-search-list : (G : Item → Type 0) → ((m : Item) → Dec (G m)) → (l : List Item) → ((m : Item) × (List·Memᴰ m l × G m)) ⊎ All (λ m. G m → ⊥) l
+search-list : (G : Item → Type 0) → ((m : Item) → Dec (G m)) → (l : List Item)
+    → ((m : Item) × (List·Memᴰ m l × G m)) ⊎ All (λ m. G m → ⊥) l
 search-list G d [] = inr tt
 search-list G d (m ∷ l) = go (search-list G d l) (d m)
   where
-    go : ((m : Item) × (List·Memᴰ m l × G m)) ⊎ All (λ m. G m → ⊥) l → Dec (G m) → ((x : Item) × (List·Memᴰ x (m ∷ l) × G x)) ⊎ All (λ m. G m → ⊥) (m ∷ l)
+    go : ((m : Item) × (List·Memᴰ m l × G m)) ⊎ All (λ m. G m → ⊥) l → Dec (G m)
+        → ((x : Item) × (List·Memᴰ x (m ∷ l) × G x)) ⊎ All (λ m. G m → ⊥) (m ∷ l)
     go r (yes g) = inl (m, (List·Memᴰ·head refl, g))
     go (inl r) (no h) = inl (r .0, (List·Memᴰ·tail (r .1 .0), r .1 .1))
     go (inr f) (no h) = inr (h, f)
@@ -99,11 +103,13 @@ none-due L n h = go (n .flag) refl (receiversDue n) refl
     go true f [] e = inr e
     go false f to e = inl f
 
-phase-all : (n : ℕ) (G : Parcel → Type 0) (ms : List Dated) → All (λ m. m .phase ≡ n → G (m .item)) ms → All G (ofPhase n ms)
+phase-all : (n : ℕ) (G : Parcel → Type 0) (ms : List Dated) → All (λ m. m .phase ≡ n → G (m .item)) ms
+    → All G (ofPhase n ms)
 phase-all n G [] h = tt
 phase-all n G (m ∷ ms) h = go (ℕ-discrete (m .phase) n) (phase-all n G ms (h .1))
   where
-    go : (d : Dec (m .phase ≡ n)) → All G (ofPhase n ms) → All G (pick {A = List Parcel} d (m .item ∷ ofPhase n ms) (ofPhase n ms))
+    go : (d : Dec (m .phase ≡ n)) → All G (ofPhase n ms)
+        → All G (pick {A = List Parcel} d (m .item ∷ ofPhase n ms) (ofPhase n ms))
     go (yes e) r = (h .0 e, r)
     go (no e) r = r
 
@@ -124,7 +130,8 @@ module _ (L : Limits) (P : ℕ) where
   send-goes : (n : Node) (len : ℕ) → valid L n ≡ true → n .busy ≡ false → Due n → lengthDue n ≤ len
       → Goes L P (barrier L n len .answer)
   send-goes n len v b (due first rest f e) l =
-      subst (λ (y : Given Barrier). Goes L P (y .answer)) (sym (call-sends L n len first rest v b f e l)) (Goes.sending _ _)
+      subst (λ (y : Given Barrier). Goes L P (y .answer)) (sym (call-sends L n len first rest v b f e l))
+      (Goes.sending _ _)
 
   -- none is due, and the step agrees
   move-goes : (n : Node) (len : ℕ) → valid L n ≡ true → n .busy ≡ false → NoneDue L n
@@ -135,7 +142,8 @@ module _ (L : Limits) (P : ℕ) where
   longest : (p pass k : ℕ) → (pass ≡ 1) ⊎ (pass ≡ 2) → frameLength p pass k ≤ frameLength p 1 0
   unfolding frameLength
   longest p pass k (inl e) = let z = choose-yes (4 + 8 * (p - k) + 8) 12 (eq-eqb pass 1 e) in omega arith
-  longest p pass k (inr e) = let z = choose-no (4 + 8 * (p - k) + 8) 12 (ne-eqb pass 1 (λ q. omega arith)) in omega arith
+  longest p pass k (inr e) =
+      let z = choose-no (4 + 8 * (p - k) + 8) 12 (ne-eqb pass 1 (λ q. omega arith)) in omega arith
 
 module _ {L : Limits} {P : ℕ} (setting : Setting L P) where
   abbrev p : ℕ
@@ -181,83 +189,134 @@ module _ {L : Limits} {P : ℕ} (setting : Setting L P) where
     from-old : (a : ℕ) → w .count a ≡ w .count u → (y : ℕ) → y < P → w .count a ≤ w .count y
     from-old a e y h = omega (arith, old y h)
 
-    idle-of : ((a : ℕ) → a < P → (w .count a ≡ w .count u) × (w .busy a ≡ true) → ⊥) → (a : ℕ) → a < P → w .count a ≡ w .count u → w .nodes a .busy ≡ false
+    idle-of : ((a : ℕ) → a < P → (w .count a ≡ w .count u) × (w .busy a ≡ true) → ⊥) → (a : ℕ) → a < P
+        → w .count a ≡ w .count u → w .nodes a .busy ≡ false
     idle-of f a h e = i .busy a h ∙ false-is (w .busy a) (λ q. f a h (e, q))
 
-    mute-now : ((a : ℕ) → a < P → (w .count a ≡ w .count u) × (Due (w .nodes a)) → ⊥) → (a : ℕ) → a < P → w .count a ≡ w .count u → NoneDue L (w .nodes a)
+    mute-now : ((a : ℕ) → a < P → (w .count a ≡ w .count u) × (Due (w .nodes a)) → ⊥) → (a : ℕ) → a < P
+        → w .count a ≡ w .count u → NoneDue L (w .nodes a)
     mute-now f a h e = none-due L (w .nodes a) (λ q. f a h (e, q))
 
-    stuck : ((a : ℕ) → a < P → (w .count a ≡ w .count u) × (w .busy a ≡ true) → ⊥) → All (λ m. (m .phase ≡ w .count u) × (w .count (m .to) ≡ w .count u) → ⊥) (w .items)
+    stuck : ((a : ℕ) → a < P → (w .count a ≡ w .count u) × (w .busy a ≡ true) → ⊥)
+        → All (λ m. (m .phase ≡ w .count u) × (w .count (m .to) ≡ w .count u) → ⊥) (w .items)
         → ((a : ℕ) → a < P → (w .count a ≡ w .count u) × (Due (w .nodes a)) → ⊥)
-        → (a : ℕ) × ((a < P) × ((w .count a ≡ w .count u) × (agrees L (w .nodes a) (w .nodes a .pass) (w .nodes a .dim) ≡ true)))
+        → (a : ℕ) × ((a < P) × ((w .count a ≡ w .count u)
+        × (agrees L (w .nodes a) (w .nodes a .pass) (w .nodes a .dim) ≡ true)))
     stuck f1 f2 f3 =
-        let r = no-board-sticks T (fieldLimit L) (s .played .ledger) (s .played .reached) u hu (s .calm (s .played .ledger .phase u)) (λ y h. omega (arith, old y h, i .counts u, i .counts y)) rest under isNone in
+        let r = no-board-sticks T (fieldLimit L) (s .played .ledger) (s .played .reached) u hu
+        (s .calm (s .played .ledger .phase u))
+        (λ y h. omega (arith, old y h, i .counts u, i .counts y)) rest under isNone in
         (r .0, (r .1 .0, (back (r .0) (r .1 .1 .0), agrees-of (r .0) (r .1 .0) (r .1 .1 .0) (r .1 .1 .1))))
       where
         back : (a : ℕ) → s .played .ledger .phase a ≡ s .played .ledger .phase u → w .count a ≡ w .count u
         back a e = i .counts a ∙ e ∙ sym (i .counts u)
-        rest : (a : ℕ) → a < P → s .played .ledger .phase a ≡ s .played .ledger .phase u → s .played .ledger .pages (s .played .ledger .phase u) .nodes a .busy ≡ false
-        rest a h e = subst (λ n. s .played .ledger .pages n .nodes a .busy ≡ false) e (sym (i .node a h .like .busy) ∙ idle-of f1 a h (back a e))
+
+        rest : (a : ℕ) → a < P → s .played .ledger .phase a ≡ s .played .ledger .phase u
+            → s .played .ledger .pages (s .played .ledger .phase u) .nodes a .busy ≡ false
+        rest a h e =
+            subst (λ n. s .played .ledger .pages n .nodes a .busy ≡ false) e
+            (sym (i .node a h .like .busy) ∙ idle-of f1 a h (back a e))
+
         isNone : (a : ℕ) → a < P → s .played .ledger .phase a ≡ s .played .ledger .phase u
-            → (s .played .ledger .pages (s .played .ledger .phase u) .nodes a .flag ≡ false) ⊎ Unheard T a (s .played .ledger .pages (s .played .ledger .phase u) .nodes a .step)
+            → (s .played .ledger .pages (s .played .ledger .phase u) .nodes a .flag ≡ false) ⊎ Unheard T a
+            (s .played .ledger .pages (s .played .ledger .phase u) .nodes a .step)
         isNone a h e =
-            subst (λ n. (s .played .ledger .pages n .nodes a .flag ≡ false) ⊎ Unheard T a (s .played .ledger .pages n .nodes a .step)) e
+            subst (λ n. (s .played .ledger .pages n .nodes a .flag ≡ false) ⊎ Unheard T a
+            (s .played .ledger .pages n .nodes a .step)) e
             (mute-of setting w (s .played) a h (mute-now f3 a h (back a e)))
-        under : All (λ t. (t .to < P) × (s .played .ledger .phase u < s .played .ledger .phase (t .to))) (ofPhase (s .played .ledger .phase u) (s .played .ledger .items))
+
+        under : All (λ t. (t .to < P) × (s .played .ledger .phase u < s .played .ledger .phase (t .to)))
+            (ofPhase (s .played .ledger .phase u) (s .played .ledger .items))
         under =
-            phase-all (s .played .ledger .phase u) (λ t. (t .to < P) × (s .played .ledger .phase u < s .played .ledger .phase (t .to))) (s .played .ledger .items)
-            (pair-all (Carried setting) (λ m. (m .phase ≡ w .count u) × (w .count (m .to) ≡ w .count u) → ⊥) (λ m. m .phase ≡ s .played .ledger .phase u → (m .item .to < P) × (s .played .ledger .phase u < s .played .ledger .phase (m .item .to)))
-              (λ m t c f e. one m t c f e) (w .items) (s .played .ledger .items) (i .items) f2)
+            phase-all (s .played .ledger .phase u)
+            (λ t. (t .to < P) × (s .played .ledger .phase u < s .played .ledger .phase (t .to)))
+            (s .played .ledger .items)
+            (pair-all (Carried setting) (λ m. (m .phase ≡ w .count u) × (w .count (m .to) ≡ w .count u) → ⊥)
+            (λ m. m .phase ≡ s .played .ledger .phase u
+            → (m .item .to < P) × (s .played .ledger .phase u < s .played .ledger .phase (m .item .to)))
+            (λ m t c f e. one m t c f e) (w .items) (s .played .ledger .items) (i .items) f2)
           where
-            one : (m : Item) (t : Dated) → Carried setting m t → ((m .phase ≡ w .count u) × (w .count (m .to) ≡ w .count u) → ⊥) → t .phase ≡ s .played .ledger .phase u → (t .item .to < P) × (s .played .ledger .phase u < s .played .ledger .phase (t .item .to))
+            one : (m : Item) (t : Dated) → Carried setting m t
+                → ((m .phase ≡ w .count u) × (w .count (m .to) ≡ w .count u) → ⊥)
+                → t .phase ≡ s .played .ledger .phase u
+                → (t .item .to < P) × (s .played .ledger .phase u < s .played .ledger .phase (t .item .to))
             one m t c f e =
                 let d : m .to < P = c .to-lt in
-                let z : w .count (m .to) ≡ s .played .ledger .phase (t .item .to) = i .counts (m .to) ∙ ap (s .played .ledger .phase) (c .to) in
+                let z : w .count (m .to) ≡ s .played .ledger .phase (t .item .to) = i .counts (m .to)
+                ∙ ap (s .played .ledger .phase) (c .to) in
                 let ne : w .count (m .to) ≢ w .count u = λ y. f (c .phase ∙ e ∙ sym (i .counts u), y) in
                 (omega (arith, c .to), omega (arith, old (m .to) d, i .counts u, z, ne))
+
         agrees-of : (a : ℕ) → a < P → s .played .ledger .phase a ≡ s .played .ledger .phase u
-            → Agrees p (fieldLimit L) (s .played .ledger .pages (s .played .ledger .phase u) .nodes a) (s .played .ledger .pages (s .played .ledger .phase u) .nodes a .step) (T .awaited (dimOf p (s .played .ledger .pages (s .played .ledger .phase u) .nodes a .step)) a)
+            → Agrees p (fieldLimit L) (s .played .ledger .pages (s .played .ledger .phase u) .nodes a)
+            (s .played .ledger .pages (s .played .ledger .phase u) .nodes a .step)
+            (T .awaited (dimOf p (s .played .ledger .pages (s .played .ledger .phase u) .nodes a .step)) a)
             → agrees L (w .nodes a) (w .nodes a .pass) (w .nodes a .dim) ≡ true
         agrees-of a h e g =
-            by (i .node a h .pass) (subst (λ n. Agrees p (fieldLimit L) (s .played .ledger .pages n .nodes a) (s .played .ledger .pages n .nodes a .step) (T .awaited (dimOf p (s .played .ledger .pages n .nodes a .step)) a)) (sym e) g)
+            by (i .node a h .pass) (subst (λ n. Agrees p (fieldLimit L) (s .played .ledger .pages n .nodes a)
+            (s .played .ledger .pages n .nodes a .step)
+            (T .awaited (dimOf p (s .played .ledger .pages n .nodes a .step)) a)) (sym e) g)
           where
-            by : (w .nodes a .pass ≡ 1) ⊎ (w .nodes a .pass ≡ 2) → Agrees p (fieldLimit L) (stateOf (s .played .ledger) a) (stateOf (s .played .ledger) a .step) (T .awaited (dimOf p (stateOf (s .played .ledger) a .step)) a) → agrees L (w .nodes a) (w .nodes a .pass) (w .nodes a .dim) ≡ true
+            by : (w .nodes a .pass ≡ 1) ⊎ (w .nodes a .pass ≡ 2)
+                → Agrees p (fieldLimit L) (stateOf (s .played .ledger) a) (stateOf (s .played .ledger) a .step)
+                (T .awaited (dimOf p (stateOf (s .played .ledger) a .step)) a)
+                → agrees L (w .nodes a) (w .nodes a .pass) (w .nodes a .dim) ≡ true
             by (inl q) g =
-                let at-is : stateOf (s .played .ledger) a .step ≡ w .nodes a .dim = sym (i .node a h .like .step) ∙ step-first p (w .nodes a .pass) (w .nodes a .dim) q in
+                let at-is : stateOf (s .played .ledger) a .step ≡ w .nodes a .dim = sym (i .node a h .like .step)
+                ∙ step-first p (w .nodes a .pass) (w .nodes a .dim) q in
                 subst (λ x. agrees L (w .nodes a) x (w .nodes a .dim) ≡ true) (sym q)
-                (agrees-first setting (s .played .ledger) (s .played .reached) a (w .count a) h (w .nodes a) (i .node a h) (w .nodes a .dim) (i .node a h .low)
-                  (subst (λ t. Agrees p (fieldLimit L) (stateOf (s .played .ledger) a) t (T .awaited (dimOf p t) a)) at-is g))
+                (agrees-first setting (s .played .ledger) (s .played .reached) a (w .count a) h (w .nodes a)
+                (i .node a h) (w .nodes a .dim) (i .node a h .low)
+                (subst (λ t. Agrees p (fieldLimit L) (stateOf (s .played .ledger) a) t (T .awaited (dimOf p t) a))
+                at-is g))
             by (inr q) g =
-                let at-is : stateOf (s .played .ledger) a .step ≡ p + w .nodes a .dim = sym (i .node a h .like .step) ∙ step-second p (w .nodes a .pass) (w .nodes a .dim) q in
+                let at-is : stateOf (s .played .ledger) a .step ≡ p + w .nodes a .dim = sym (i .node a h .like .step)
+                ∙ step-second p (w .nodes a .pass) (w .nodes a .dim) q in
                 subst (λ x. agrees L (w .nodes a) x (w .nodes a .dim) ≡ true) (sym q)
-                (agrees-second setting (s .played .ledger) (s .played .reached) a (w .count a) h (w .nodes a) (i .node a h) (w .nodes a .dim) (i .node a h .low)
-                  (subst (λ t. Agrees p (fieldLimit L) (stateOf (s .played .ledger) a) t (T .awaited (dimOf p t) a)) at-is g))
+                (agrees-second setting (s .played .ledger) (s .played .reached) a (w .count a) h (w .nodes a)
+                (i .node a h) (w .nodes a .dim) (i .node a h .low)
+                (subst (λ t. Agrees p (fieldLimit L) (stateOf (s .played .ledger) a) t (T .awaited (dimOf p t) a))
+                at-is g))
 
     pub lives-now : Lives L P w
     lives-now =
-        go (search-below (λ a. (w .count a ≡ w .count u) × (w .busy a ≡ true)) (λ a. both-dec (ℕ-discrete (w .count a) (w .count u)) (true-dec (w .busy a))) P)
-          (search-list (λ m. (m .phase ≡ w .count u) × (w .count (m .to) ≡ w .count u)) (λ m. both-dec (ℕ-discrete (m .phase) (w .count u)) (ℕ-discrete (w .count (m .to)) (w .count u))) (w .items))
-          (search-below (λ a. (w .count a ≡ w .count u) × (Due (w .nodes a))) (λ a. both-dec (ℕ-discrete (w .count a) (w .count u)) (due? (w .nodes a))) P)
+        go (search-below (λ a. (w .count a ≡ w .count u) × (w .busy a ≡ true))
+        (λ a. both-dec (ℕ-discrete (w .count a) (w .count u)) (true-dec (w .busy a))) P)
+        (search-list (λ m. (m .phase ≡ w .count u) × (w .count (m .to) ≡ w .count u))
+        (λ m. both-dec (ℕ-discrete (m .phase) (w .count u)) (ℕ-discrete (w .count (m .to)) (w .count u))) (w .items))
+        (search-below (λ a. (w .count a ≡ w .count u) × (Due (w .nodes a)))
+        (λ a. both-dec (ℕ-discrete (w .count a) (w .count u)) (due? (w .nodes a))) P)
       where
-        frame-le : (a : ℕ) → a < P → (len : ℕ) → frameLength (dimension P) 1 0 ≤ len → frameLength (dims (w .nodes a)) (w .nodes a .pass) (w .nodes a .dim) ≤ len
+        frame-le : (a : ℕ) → a < P → (len : ℕ) → frameLength (dimension P) 1 0 ≤ len
+            → frameLength (dims (w .nodes a)) (w .nodes a .pass) (w .nodes a .dim) ≤ len
         frame-le a h len l =
-            let z : frameLength (dims (w .nodes a)) (w .nodes a .pass) (w .nodes a .dim) ≡ frameLength p (w .nodes a .pass) (w .nodes a .dim) = ap (λ d. frameLength d (w .nodes a .pass) (w .nodes a .dim)) (ap dimension (i .node a h .nodes)) in
+            let z : frameLength (dims (w .nodes a)) (w .nodes a .pass) (w .nodes a .dim) ≡ frameLength p
+            (w .nodes a .pass) (w .nodes a .dim) =
+            ap (λ d. frameLength d (w .nodes a .pass) (w .nodes a .dim)) (ap dimension (i .node a h .nodes)) in
             omega (arith, z, longest L P p (w .nodes a .pass) (w .nodes a .dim) (i .node a h .pass))
-        go : ((a : ℕ) × ((a < P) × ((w .count a ≡ w .count u) × (w .busy a ≡ true)))) ⊎ ((a : ℕ) → a < P → (w .count a ≡ w .count u) × (w .busy a ≡ true) → ⊥)
-            → ((m : Item) × (List·Memᴰ m (w .items) × ((m .phase ≡ w .count u) × (w .count (m .to) ≡ w .count u)))) ⊎ All (λ m. (m .phase ≡ w .count u) × (w .count (m .to) ≡ w .count u) → ⊥) (w .items)
+
+        go : ((a : ℕ) × ((a < P) × ((w .count a ≡ w .count u) × (w .busy a ≡ true))))
+            ⊎ ((a : ℕ) → a < P → (w .count a ≡ w .count u) × (w .busy a ≡ true) → ⊥)
+            → ((m : Item) × (List·Memᴰ m (w .items) × ((m .phase ≡ w .count u) × (w .count (m .to) ≡ w .count u))))
+            ⊎ All (λ m. (m .phase ≡ w .count u) × (w .count (m .to) ≡ w .count u) → ⊥) (w .items)
             → ((a : ℕ) × ((a < P) × ((w .count a ≡ w .count u) × (Due (w .nodes a)))))
-              ⊎ ((a : ℕ) → a < P → (w .count a ≡ w .count u) × (Due (w .nodes a)) → ⊥)
+            ⊎ ((a : ℕ) → a < P → (w .count a ≡ w .count u) × (Due (w .nodes a)) → ⊥)
             → Lives L P w
         go (inl r) f2 f3 = Lives.busy (r .0) (r .1 .0, from-old (r .0) (r .1 .1 .0)) (r .1 .1 .1)
         go (inr f1) (inl r) f3 =
-            Lives.underWay (r .0 .to) (to-lt (w .items) (s .played .ledger .items) (i .items) (r .0) (r .1 .0), from-old (r .0 .to) (r .1 .1 .1)) (r .0) (r .1 .0) refl (r .1 .1 .0 ∙ sym (r .1 .1 .1))
+            Lives.underWay (r .0 .to) (
+              to-lt (w .items) (s .played .ledger .items) (i .items) (r .0) (r .1 .0),
+              from-old (r .0 .to) (r .1 .1 .1),
+            ) (r .0) (r .1 .0) refl (r .1 .1 .0 ∙ sym (r .1 .1 .1))
         go (inr f1) (inr f2) (inl r) =
             Lives.goes (r .0) (r .1 .0, from-old (r .0) (r .1 .1 .0))
-            (λ len l. send-goes L P (w .nodes (r .0)) len (ok (r .0) (r .1 .0)) (idle-of f1 (r .0) (r .1 .0) (r .1 .1 .0)) (r .1 .1 .1) (frame-le (r .0) (r .1 .0) len l))
+            (λ len l. send-goes L P (w .nodes (r .0)) len (ok (r .0) (r .1 .0))
+            (idle-of f1 (r .0) (r .1 .0) (r .1 .1 .0)) (r .1 .1 .1) (frame-le (r .0) (r .1 .0) len l))
         go (inr f1) (inr f2) (inr f3) =
             let r = stuck f1 f2 f3 in
             Lives.goes (r .0) (r .1 .0, from-old (r .0) (r .1 .1 .0))
-            (λ len l. move-goes L P (w .nodes (r .0)) len (ok (r .0) (r .1 .0)) (idle-of f1 (r .0) (r .1 .0) (r .1 .1 .0)) (mute-now f3 (r .0) (r .1 .0) (r .1 .1 .0)) (r .1 .1 .1))
+            (λ len l. move-goes L P (w .nodes (r .0)) len (ok (r .0) (r .1 .0))
+            (idle-of f1 (r .0) (r .1 .0) (r .1 .1 .0)) (mute-now f3 (r .0) (r .1 .0) (r .1 .1 .0)) (r .1 .1 .1))
 
   pub every-run-lives : (es : List Event) → NoLoss es → Lives L P (run L P es)
   every-run-lives es l = lives-now (run L P es) (calm-run setting es l)

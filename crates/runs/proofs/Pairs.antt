@@ -36,13 +36,23 @@ module _ {A B : Type 0} (R : A → B → Type 0) where
 
   pub cut : (xs zs : List A) (x : A) (ms : List B) → Pair (xs ++ x ∷ zs) ms → Cut xs zs x ms
   cut [] zs x [] h = absurd h
-  cut [] zs x (m ∷ ms) h = record { pre = []; post = ms; one = m; whole = refl; related = h .0; before = tt; after = h .1 }
+  cut [] zs x (m ∷ ms) h =
+      record { pre = []; post = ms; one = m; whole = refl; related = h .0; before = tt; after = h .1 }
   cut (y ∷ xs) zs x [] h = absurd h
   cut (y ∷ xs) zs x (m ∷ ms) h =
       let r = cut xs zs x ms (h .1) in
-      record { pre = m ∷ r .pre; post = r .post; one = r .one; whole = ap (λ l. m ∷ l) (r .whole); related = r .related; before = (h .0, r .before); after = r .after }
+      record {
+        pre = m ∷ r .pre;
+        post = r .post;
+        one = r .one;
+        whole = ap (λ l. m ∷ l) (r .whole);
+        related = r .related;
+        before = (h .0, r .before);
+        after = r .after;
+      }
 
-  pub pair-all : (F : A → Type 0) (G : B → Type 0) → ((x : A) (y : B) → R x y → F x → G y) → (xs : List A) (ys : List B) → Pair xs ys → All F xs → All G ys
+  pub pair-all : (F : A → Type 0) (G : B → Type 0) → ((x : A) (y : B) → R x y → F x → G y) → (xs : List A) (ys : List B)
+      → Pair xs ys → All F xs → All G ys
   pair-all F G f [] [] h k = tt
   pair-all F G f [] (y ∷ ys) h k = absurd h
   pair-all F G f (x ∷ xs) [] h k = absurd h
@@ -63,16 +73,32 @@ pub found : (a b : ℕ) (is : List Item) (m : Item) → oldest a b is ≡ some m
 found a b [] m e = let z : _≡_ {A = ℕ} 0 1 = cc in absurd (omega arith)
 found a b (k ∷ is) m e = go (onLink a b k) refl (λ q. found a b is m q) e
   where
-    go : (t : Bool) → onLink a b k ≡ t → (oldest a b is ≡ some m → Found a b is m) → choose t (some k) (oldest a b is) ≡ some m → Found a b (k ∷ is) m
+    go : (t : Bool) → onLink a b k ≡ t → (oldest a b is ≡ some m → Found a b is m)
+        → choose t (some k) (oldest a b is) ≡ some m → Found a b (k ∷ is) m
     go true o r q =
         let z : k ≡ m = cc in
         let l = both-true (eqb (k .from) a) (eqb (k .to) b) o in
         subst (Found a b (k ∷ is)) z
-          (record { pre = []; post = is; whole = refl; rest = ap (λ t. choose t is (k ∷ without a b is)) o; from-is = eqb-true (k .from) a (l .0); to-is = eqb-true (k .to) b (l .1); none-before = tt })
+        (record {
+          pre = [];
+          post = is;
+          whole = refl;
+          rest = ap (λ t. choose t is (k ∷ without a b is)) o;
+          from-is = eqb-true (k .from) a (l .0);
+          to-is = eqb-true (k .to) b (l .1);
+          none-before = tt;
+        })
     go false o r q =
         let f = r q in
-        record { pre = k ∷ f .pre; post = f .post; whole = ap (λ l. k ∷ l) (f .whole); rest = ap (λ t. choose t is (k ∷ without a b is)) o ∙ ap (λ l. k ∷ l) (f .rest);
-          from-is = f .from-is; to-is = f .to-is; none-before = ((λ s. off s), f .none-before) }
+        record {
+          pre = k ∷ f .pre;
+          post = f .post;
+          whole = ap (λ l. k ∷ l) (f .whole);
+          rest = ap (λ t. choose t is (k ∷ without a b is)) o ∙ ap (λ l. k ∷ l) (f .rest);
+          from-is = f .from-is;
+          to-is = f .to-is;
+          none-before = ((λ s. off s), f .none-before);
+        }
       where
         off : (k .from ≡ a) × (k .to ≡ b) → ⊥
         off s = clash (sym (both-make (eq-eqb (k .from) a (s .0)) (eq-eqb (k .to) b (s .1))) ∙ o)

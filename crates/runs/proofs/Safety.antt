@@ -16,14 +16,17 @@ use Rattle.node.specs.Answers.{Given, Outcome, done, refused, Barrier, waits, l
 use Rattle.node.specs.Calls.{send, take, idle, frameIn}
 use Rattle.node.specs.Barrier.{barrier}
 use Rattle.node.specs.declared.Node.{Node}
-use Rattle.runs.specs.Board.{put, Load, work, frame, Item, Board, Event, sends, idles, calls, delivers, loses, start, oldest}
-use Rattle.runs.specs.Board.{without, gave, carries, afterSend, afterIdle, afterCall, offUnlessEarly, afterTake, afterFrame, delivered, deliveredOldest, step, after, run}
+use Rattle.runs.specs.Board.{put, Load, work, frame, Item, Board, Event, sends, idles, calls, delivers, loses}
+use Rattle.runs.specs.Board.{start, oldest}
+use Rattle.runs.specs.Board.{without, gave, carries, afterSend, afterIdle, afterCall, offUnlessEarly, afterTake}
+use Rattle.runs.specs.Board.{afterFrame, delivered, deliveredOldest, step, after, run}
 use Rattle.runs.specs.Claim.{SendDone, TakeDone, takes, Leaves, Safe}
 use Rattle.cycle.proofs.Sums.{sum-zero}
 use Rattle.cycle.proofs.Ledger.{Ledger, opening, Reached, safe, Over}
 use Rattle.runs.proofs.Tools.{put-same, put-other}
 use Rattle.runs.proofs.Setting.{Setting, tree, dim-low, dim-pos}
-use Rattle.node.proofs.Ways.{SendWay, send-way, TakeWay, take-way, IdleWay, idle-way, FrameWay, frame-way, CallWay, call-way}
+use Rattle.node.proofs.Ways.{SendWay, send-way, TakeWay, take-way, IdleWay, idle-way, FrameWay, frame-way, CallWay}
+use Rattle.node.proofs.Ways.{call-way}
 use Rattle.runs.proofs.View.{like-fresh}
 use Rattle.runs.proofs.Sim.{Sim}
 use Rattle.runs.proofs.Marks.{none-left}
@@ -44,13 +47,39 @@ module _ {L : Limits} {P : ℕ} (setting : Setting L P) where
 
   pub begun : Played setting (start P)
   begun =
-      record { ledger = opening; reached = Reached.first;
-        sim = record { counts = λ y. refl;
-          node = λ y q. record { nodes = refl; number = refl; phase = refl; pass = inl refl; low = dim-pos setting; sents = refl; takens = refl; firsts = refl; seconds = refl; like = like-fresh (dimension P) P y 0 refl (dim-low setting) };
-          busy = λ y q. refl; items = tt;
-          win = record { order = tt; sent = tt; heard = λ c a s k q. tt; behind = λ c a s k q. zero-le; partner = tt; window = tt };
-          capped = λ n y q. zero-le };
-        marks = record { tidy = λ i q. refl; sums = λ n. omega (arith, sum-zero 0 P); named = tt; apart = tt } }
+      record {
+        ledger = opening;
+        reached = Reached.first;
+        sim = record {
+          counts = λ y. refl;
+          node =
+              λ y q. record {
+                nodes = refl;
+                number = refl;
+                phase = refl;
+                pass = inl refl;
+                low = dim-pos setting;
+                sents = refl;
+                takens = refl;
+                firsts = refl;
+                seconds = refl;
+                like = like-fresh (dimension P) P y 0 refl (dim-low setting);
+              };
+          busy = λ y q. refl;
+          items = tt;
+          win =
+              record {
+                order = tt;
+                sent = tt;
+                heard = λ c a s k q. tt;
+                behind = λ c a s k q. zero-le;
+                partner = tt;
+                window = tt;
+              };
+          capped = λ n y q. zero-le;
+        };
+        marks = record { tidy = λ i q. refl; sums = λ n. omega (arith, sum-zero 0 P); named = tt; apart = tt };
+      }
 
   pub begun-calm : (n : ℕ) → begun .ledger .pages n .lossy ≡ false
   unfolding begun
@@ -96,7 +125,8 @@ module _ {L : Limits} {P : ℕ} (setting : Setting L P) where
       gone-on : w′ .count a ≡ suc (w .count a) → Change e a w′
       took : TakeDone L P w a (w .count a) e → Change e a w′
 
-    sent-change : (x b a : ℕ) (y : Given Outcome) → SendWay L (w .nodes x) b y → Change (sends x b) a (afterSend (gave w x (y .node)) x b (y .answer))
+    sent-change : (x b a : ℕ) (y : Given Outcome) → SendWay L (w .nodes x) b y
+        → Change (sends x b) a (afterSend (gave w x (y .node)) x b (y .answer))
     sent-change x b a y (SendWay.refused n s) = same refl
     sent-change x b a y (SendWay.done v b1 b2 bu cap) = same refl
 
@@ -107,7 +137,8 @@ module _ {L : Limits} {P : ℕ} (setting : Setting L P) where
         by (yes z) = rests (ap (put (w .busy) x false) z ∙ put-same (w .busy) x false)
         by (no z) = same (put-other (w .busy) x false a z)
 
-    idle-change : (x a : ℕ) (y : Given Outcome) → IdleWay L (w .nodes x) y → Change (idles x) a (afterIdle (gave w x (y .node)) x (y .answer))
+    idle-change : (x a : ℕ) (y : Given Outcome) → IdleWay L (w .nodes x) y
+        → Change (idles x) a (afterIdle (gave w x (y .node)) x (y .answer))
     idle-change x a y (IdleWay.refused n s) = same refl
     idle-change x a y (IdleWay.done v) = rest-change x a _
 
@@ -115,10 +146,13 @@ module _ {L : Limits} {P : ℕ} (setting : Setting L P) where
     leaving-change x len a n = by (ℕ-discrete a x)
       where
         by : Dec (a ≡ x) → Change (calls x len) a (afterCall (gave w x n) x (w .nodes x) left)
-        by (yes z) = gone-on (ap (put (w .count) x (suc (w .count x))) z ∙ put-same (w .count) x (suc (w .count x)) ∙ ap (λ y. suc (w .count y)) (sym z))
+        by (yes z) =
+            gone-on (ap (put (w .count) x (suc (w .count x))) z ∙ put-same (w .count) x (suc (w .count x))
+            ∙ ap (λ y. suc (w .count y)) (sym z))
         by (no z) = same (put-other (w .busy) x true a z)
 
-    call-change : (x len a : ℕ) (y : Given Barrier) → CallWay L (w .nodes x) len y → Change (calls x len) a (afterCall (gave w x (y .node)) x (w .nodes x) (y .answer))
+    call-change : (x len a : ℕ) (y : Given Barrier) → CallWay L (w .nodes x) len y
+        → Change (calls x len) a (afterCall (gave w x (y .node)) x (w .nodes x) (y .answer))
     call-change x len a y (CallWay.refused n s) = same refl
     call-change x len a y (CallWay.sends first rest v b fl e ro) = same refl
     call-change x len a y (CallWay.waits v b m z g) = same refl
@@ -128,54 +162,72 @@ module _ {L : Limits} {P : ℕ} (setting : Setting L P) where
     call-change x len a y (CallWay.single v b d) = leaving-change x len a _
 
     off-change : (x b a n : ℕ) (m : Node) → Change (delivers x b) a (offUnlessEarly (gave w b m) x b n)
-    off-change x b a n m = cases (Change (delivers x b) a) (eqb n 7) (gave w b m) (carries (gave w b m) (without x b (w .items))) (λ z. same refl) (λ z. same refl)
+    off-change x b a n m =
+        cases (Change (delivers x b) a) (eqb n 7) (gave w b m) (carries (gave w b m) (without x b (w .items)))
+        (λ z. same refl) (λ z. same refl)
 
     -- a message whose take is done is of the receiver's phase, and nobody has left that
-    take-phase : (x b : ℕ) (m : Item) (byte : ℕ) (y : Given Outcome) → oldest x b (w .items) ≡ some m → m .load ≡ work byte → TakeWay L (w .nodes b) x byte y → y .answer ≡ done
+    take-phase : (x b : ℕ) (m : Item) (byte : ℕ) (y : Given Outcome) → oldest x b (w .items) ≡ some m
+        → m .load ≡ work byte → TakeWay L (w .nodes b) x byte y → y .answer ≡ done
         → (m .phase ≡ w .count b) × ((z : ℕ) → z < P → w .count z ≤ m .phase)
     take-phase x b m byte y old lw (TakeWay.refused n s) e = done-not-refused n e
     take-phase x b m byte y old lw (TakeWay.done v a1 a2 df cap) e =
-        let j = message-of setting w q x b m old byte lw in
-        (same-phase setting w q x b m old byte lw (j .0) (j .1) df ∙ sym (i .counts b),
-          λ z h. omega (arith, not-behind setting w q x b m old byte lw (j .0) (j .1) z h, i .counts z))
+        let j = message-of setting w q x b m old byte lw in (
+          same-phase setting w q x b m old byte lw (j .0) (j .1) df ∙ sym (i .counts b),
+          λ z h. omega (arith, not-behind setting w q x b m old byte lw (j .0) (j .1) z h, i .counts z),
+        )
 
-    awoken : (x b a : ℕ) (m : Item) (n : Node) → TakeDone L P w b (w .count b) (delivers x b) → Change (delivers x b) a (afterTake (gave w b n) x b m done)
+    awoken : (x b a : ℕ) (m : Item) (n : Node) → TakeDone L P w b (w .count b) (delivers x b)
+        → Change (delivers x b) a (afterTake (gave w b n) x b m done)
     awoken x b a m n t = by (ℕ-discrete a b)
       where
         by : Dec (a ≡ b) → Change (delivers x b) a (afterTake (gave w b n) x b m done)
         by (yes z) = took (subst (λ a. TakeDone L P w a (w .count a) (delivers x b)) (sym z) t)
         by (no z) = same (put-other (w .busy) b true a z)
 
-    take-change : (x b a : ℕ) (m : Item) (byte : ℕ) (y : Given Outcome) → oldest x b (w .items) ≡ some m → m .load ≡ work byte → take L (w .nodes b) x byte ≡ y → TakeWay L (w .nodes b) x byte y
+    take-change : (x b a : ℕ) (m : Item) (byte : ℕ) (y : Given Outcome) → oldest x b (w .items) ≡ some m
+        → m .load ≡ work byte → take L (w .nodes b) x byte ≡ y → TakeWay L (w .nodes b) x byte y
         → Change (delivers x b) a (afterTake (gave w b (y .node)) x b m (y .answer))
     take-change x b a m byte y old lw eq (TakeWay.refused n s) = off-change x b a n (w .nodes b)
     take-change x b a m byte y old lw eq (TakeWay.done v a1 a2 df ca) =
-        awoken x b a m _ (TakeDone.takes x m byte old lw (take-phase x b m byte (take L (w .nodes b) x byte) old lw (take-way L (w .nodes b) x byte) (ap (λ (y : Given Outcome). y .answer) eq) .0) (ap (λ (y : Given Outcome). y .answer) eq))
+        awoken x b a m _ (TakeDone.takes x m byte old lw
+        (take-phase x b m byte (take L (w .nodes b) x byte) old lw (take-way L (w .nodes b) x byte)
+        (ap (λ (y : Given Outcome). y .answer) eq) .0) (ap (λ (y : Given Outcome). y .answer) eq))
 
-    frame-change : (x b a : ℕ) (bs : List ℕ) (y : Given Outcome) → FrameWay L (w .nodes b) bs y → Change (delivers x b) a (afterFrame (gave w b (y .node)) x b (y .answer))
+    frame-change : (x b a : ℕ) (bs : List ℕ) (y : Given Outcome) → FrameWay L (w .nodes b) bs y
+        → Change (delivers x b) a (afterFrame (gave w b (y .node)) x b (y .answer))
     frame-change x b a bs y (FrameWay.refused n s) = off-change x b a n (w .nodes b)
     frame-change x b a bs y (FrameWay.early co d) = off-change x b a 7 (w .nodes b)
     frame-change x b a bs y (FrameWay.foreign co d u v) = off-change x b a 8 (w .nodes b)
     frame-change x b a bs y (FrameWay.late co d) = same refl
     frame-change x b a bs y (FrameWay.done co d) = same refl
 
-    deliver-change : (x b a : ℕ) (o : Option Item) → oldest x b (w .items) ≡ o → Change (delivers x b) a (deliveredOldest L P w x b o)
+    deliver-change : (x b a : ℕ) (o : Option Item) → oldest x b (w .items) ≡ o
+        → Change (delivers x b) a (deliveredOldest L P w x b o)
     deliver-change x b a none e = same refl
     deliver-change x b a (some m) e = by (m .load) refl
       where
         by : (l : Load) → m .load ≡ l → Change (delivers x b) a (delivered L P w x b m l)
-        by (work byte) lw = take-change x b a m byte (take L (w .nodes b) x byte) e lw refl (take-way L (w .nodes b) x byte)
+        by (work byte) lw =
+            take-change x b a m byte (take L (w .nodes b) x byte) e lw refl (take-way L (w .nodes b) x byte)
         by (frame bs) lf = frame-change x b a bs (frameIn L (w .nodes b) bs) (frame-way L (w .nodes b) bs)
 
     change : (e : Event) (a : ℕ) → Change e a (step L P w e)
     unfolding step
-    change (sends x b) a = cases (Change (sends x b) a) (ltb x P) _ _ (λ z. sent-change x b a (send L (w .nodes x) b) (send-way L (w .nodes x) b)) (λ z. same refl)
-    change (idles x) a = cases (Change (idles x) a) (ltb x P) _ _ (λ z. idle-change x a (idle L (w .nodes x)) (idle-way L (w .nodes x))) (λ z. same refl)
-    change (calls x len) a = cases (Change (calls x len) a) (ltb x P) _ _ (λ z. call-change x len a (barrier L (w .nodes x) len) (call-way L (w .nodes x) len)) (λ z. same refl)
+    change (sends x b) a =
+        cases (Change (sends x b) a) (ltb x P) _ _
+        (λ z. sent-change x b a (send L (w .nodes x) b) (send-way L (w .nodes x) b)) (λ z. same refl)
+    change (idles x) a =
+        cases (Change (idles x) a) (ltb x P) _ _ (λ z. idle-change x a (idle L (w .nodes x)) (idle-way L (w .nodes x)))
+        (λ z. same refl)
+    change (calls x len) a =
+        cases (Change (calls x len) a) (ltb x P) _ _
+        (λ z. call-change x len a (barrier L (w .nodes x) len) (call-way L (w .nodes x) len)) (λ z. same refl)
     change (delivers x b) a = deliver-change x b a (oldest x b (w .items)) refl
     change (loses j) a = same refl
 
-    wakes : (e : Event) (a : ℕ) → a < P → w .busy a ≡ false → step L P w e .busy a ≡ true → step L P w e .count a ≡ w .count a → TakeDone L P w a (w .count a) e
+    wakes : (e : Event) (a : ℕ) → a < P → w .busy a ≡ false → step L P w e .busy a ≡ true
+        → step L P w e .count a ≡ w .count a → TakeDone L P w a (w .count a) e
     wakes e a h b b′ n = by (change e a)
       where
         by : Change e a (step L P w e) → TakeDone L P w a (w .count a) e
@@ -199,26 +251,52 @@ module _ {L : Limits} {P : ℕ} (setting : Setting L P) where
     gone a len h y (CallWay.second v b m z g d k) e = let z : _≡_ {A = ℕ} 0 1 = cc in absurd (omega arith)
     gone a len h y (CallWay.single v b d) e = absurd (omega (arith, ap dimension (i .node a h .nodes), dim-pos setting))
     gone a len h y (CallWay.leaves v b m z g d k) e =
-        record { taken = none-left P (w .untaken) (w .sends) (w .items) (nx .played .ledger) (nx .played .marks) (w .count a) (o .taken); idle = λ x hx z. idles′ x hx z (ℕ-discrete x a); reached = λ x hx. reach x hx (ℕ-discrete x a) }
+        record {
+          taken = none-left P (w .untaken) (w .sends) (w .items) (nx .played .ledger) (nx .played .marks)
+              (w .count a) (o .taken);
+          idle = λ x hx z. idles′ x hx z (ℕ-discrete x a);
+          reached = λ x hx. reach x hx (ℕ-discrete x a);
+        }
       where
         two : (w .nodes a .pass ≡ 1) ⊎ (w .nodes a .pass ≡ 2) → w .nodes a .pass ≡ 2
         two (inl z) = absurd (k z)
         two (inr z) = z
+
         n′ : Node
         n′ = freshIn (w .nodes a .nodes) (w .nodes a .number) ((w .nodes a .phase + 1) % 256)
-        nx : Next setting w q (calls a len) (record { nodes = put (w .nodes) a (freshIn (w .nodes a .nodes) (w .nodes a .number) ((w .nodes a .phase + 1) % 256)); items = w .items; count = put (w .count) a (suc (w .count a)); busy = put (w .busy) a true; untaken = w .untaken; sends = w .sends })
-        nx = leave-next setting w q a h len b m g (omega (arith, ap dimension (i .node a h .nodes), i .node a h .low, d)) (two (i .node a h .pass))
+
+        nx : Next setting w q (calls a len)
+            (record {
+              nodes = put (w .nodes) a
+                  (freshIn (w .nodes a .nodes) (w .nodes a .number) ((w .nodes a .phase + 1) % 256));
+              items = w .items;
+              count = put (w .count) a (suc (w .count a));
+              busy = put (w .busy) a true;
+              untaken = w .untaken;
+              sends = w .sends;
+            })
+        nx =
+            leave-next setting w q a h len b m g (omega (arith, ap dimension (i .node a h .nodes), i .node a h .low, d))
+            (two (i .node a h .pass))
+
         up : nx .played .ledger .phase a ≡ suc (w .count a)
         up = sym (nx .played .sim .counts a) ∙ put-same (w .count) a (suc (w .count a))
+
         o : Over (tree setting) (fieldLimit L) (nx .played .ledger) (w .count a)
-        o = safe (tree setting) (fieldLimit L) (nx .played .ledger) (nx .played .reached) a (w .count a) h (omega (arith, up))
+        o =
+            safe (tree setting) (fieldLimit L) (nx .played .ledger) (nx .played .reached) a (w .count a) h
+            (omega (arith, up))
+
         stays : (x : ℕ) → x ≢ a → nx .played .ledger .phase x ≡ w .count x
         stays x z = sym (nx .played .sim .counts x) ∙ put-other (w .count) a (suc (w .count a)) x z
+
         idles′ : (x : ℕ) → x < P → w .count x ≡ w .count a → Dec (x ≡ a) → w .busy x ≡ false
         idles′ x hx z (yes s) = sym (i .busy x hx) ∙ ap (λ x. w .nodes x .busy) s ∙ b
         idles′ x hx z (no s) =
-            sym (i .busy x hx) ∙ sym (ap (λ (n : Node). n .busy) (put-other (w .nodes) a n′ x s)) ∙ nx .played .sim .node x hx .like .busy
+            sym (i .busy x hx) ∙ sym (ap (λ (n : Node). n .busy) (put-other (w .nodes) a n′ x s))
+            ∙ nx .played .sim .node x hx .like .busy
             ∙ subst (λ n. nx .played .ledger .pages n .nodes x .busy ≡ false) (sym z ∙ sym (stays x s)) (o .idle x hx)
+
         reach : (x : ℕ) → x < P → Dec (x ≡ a) → w .count a ≤ w .count x
         reach x hx (yes s) = let z : w .count x ≡ w .count a = ap (w .count) s in omega arith
         reach x hx (no s) = omega (arith, o .reached x hx, stays x s)
@@ -227,7 +305,12 @@ module _ {L : Limits} {P : ℕ} (setting : Setting L P) where
     gone-at a len h e = gone a len h (barrier L (w .nodes a) len) (call-way L (w .nodes a) len) e
 
     left-take : (a : ℕ) → a < P → (n : ℕ) → n < w .count a → (b : ℕ) (e : Event) → TakeDone L P w b n e → ⊥
-    left-take a h n l b e (TakeDone.takes x m byte old lw ph d) = omega (arith, take-phase x b m byte (take L (w .nodes b) x byte) old lw (take-way L (w .nodes b) x byte) d .1 a h)
+    left-take a h n l b e (TakeDone.takes x m byte old lw ph d) =
+        omega (
+          arith,
+          take-phase x b m byte (take L (w .nodes b) x byte) old lw
+              (take-way L (w .nodes b) x byte) d .1 a h,
+        )
 
     pub is-safe : Safe L P w
     is-safe =
@@ -239,7 +322,8 @@ module _ {L : Limits} {P : ℕ} (setting : Setting L P) where
           leavesIdle = λ a len h e. gone-at a len h e .idle;
           leavesReached = λ a len h e. gone-at a len h e .reached;
           leftSend = λ a h n l b x hx e d. clash (sym (node-busy b x d) ∙ left-idle a n b h l hx e);
-          leftTake = left-take }
+          leftTake = left-take;
+        }
 
   -- FOR EVERY RUN, of two nodes and more
   pub every-run-safe : (es : List Event) → Safe L P (run L P es)

@@ -48,65 +48,164 @@ module _ {L : Limits} {P : ℕ} (setting : Setting L P) (w : Board) (play : Play
 
   -- ---- idle
 
-  pub idle-next : (a : ℕ) → a < P → (q : Given Outcome) → IdleWay L (w .nodes a) q → Next setting w play (idles a) (afterIdle (gave w a (q .node)) a (q .answer))
+  pub idle-next : (a : ℕ) → a < P → (q : Given Outcome) → IdleWay L (w .nodes a) q
+      → Next setting w play (idles a) (afterIdle (gave w a (q .node)) a (q .answer))
   idle-next a h q (IdleWay.refused x s) = held setting w play (idles a) a
   idle-next a h q (IdleWay.done v) =
       let o = hold setting w play a h in
-      turns-still setting w play (idles a) a h (withTallies (stateOf ledger a) false (stateOf ledger a .tallies)) (withBusy (w .nodes a) false) refl refl (act-rest (tree setting) (fieldLimit L) ledger reached a h)
-      (record { nodes = o .nodes; number = o .number; phase = o .phase; pass = o .pass; low = o .low; sents = o .sents; takens = o .takens; firsts = o .firsts; seconds = o .seconds;
-        like = like-idle p (w .nodes a) (stateOf ledger a) (dims-is setting w play a h) (o .like) })
+      turns-still setting w play (idles a) a h (withTallies (stateOf ledger a) false (stateOf ledger a .tallies))
+      (withBusy (w .nodes a) false) refl refl (act-rest (tree setting) (fieldLimit L) ledger reached a h)
+      (record {
+        nodes = o .nodes;
+        number = o .number;
+        phase = o .phase;
+        pass = o .pass;
+        low = o .low;
+        sents = o .sents;
+        takens = o .takens;
+        firsts = o .firsts;
+        seconds = o .seconds;
+        like = like-idle p (w .nodes a) (stateOf ledger a) (dims-is setting w play a h) (o .like);
+      })
       (put (w .busy) a false) (sym (put-same (w .busy) a false)) (λ y z. put-other (w .busy) a false y z)
 
   -- ---- send
 
-  log-room : (a : ℕ) → a < P → stateOf ledger a .tallies sentAll < L .sends → length (ledger .pages (ledger .phase a) .senders) < fieldLimit L
+  log-room : (a : ℕ) → a < P → stateOf ledger a .tallies sentAll < L .sends
+      → length (ledger .pages (ledger .phase a) .senders) < fieldLimit L
   log-room a h l =
       let f = invariant (tree setting) (fieldLimit L) ledger reached .fit (ledger .phase a) in
       let e = sum-count P (ledger .pages (ledger .phase a) .senders) (f .below) in
-      let g = sum-ext (λ y. ledger .pages (ledger .phase a) .nodes y .tallies sentAll) (λ y. count y (ledger .pages (ledger .phase a) .senders)) 0 P (λ y x z. f .nodes-ok y (omega arith) .count-is) in
-      omega (arith, sum-less (λ y. ledger .pages (ledger .phase a) .nodes y .tallies sentAll) (L .sends) P a (λ y q. sim .capped (ledger .phase a) y q) h l, mul-le-mul-right (L .sends) (setting .few))
+      let g = sum-ext (λ y. ledger .pages (ledger .phase a) .nodes y .tallies sentAll)
+      (λ y. count y (ledger .pages (ledger .phase a) .senders)) 0 P (λ y x z. f .nodes-ok y (omega arith) .count-is) in
+      omega (
+        arith,
+        sum-less (λ y. ledger .pages (ledger .phase a) .nodes y .tallies sentAll) (L .sends) P a
+            (λ y q. sim .capped (ledger .phase a) y q) h l,
+        mul-le-mul-right (L .sends) (setting .few),
+      )
 
-  pub send-next : (a b : ℕ) → a < P → (q : Given Outcome) → SendWay L (w .nodes a) b q → Next setting w play (sends a b) (afterSend (gave w a (q .node)) a b (q .answer))
+  pub send-next : (a b : ℕ) → a < P → (q : Given Outcome) → SendWay L (w .nodes a) b q
+      → Next setting w play (sends a b) (afterSend (gave w a (q .node)) a b (q .answer))
   send-next a b h q (SendWay.refused x s) = held setting w play (sends a b) a
   send-next a b h q (SendWay.done va b1 b2 bu cap) =
-      record { played = record { ledger = ledgerWith ledger (ledger .phase a) u ms; reached = Reached.next ledger (ledgerWith ledger (ledger .phase a) u ms) reached (act-send (tree setting) (fieldLimit L) ledger reached a b j h hb jp shell (sym (o .like .busy) ∙ bu) (log-room a h less));
-        sim = acted setting w ledger sim a h u v refl n′ (record { nodes = o .nodes; number = o .number; phase = o .phase; pass = o .pass; low = o .low; sents = length-set (n .sent) j _ ∙ o .sents; takens = o .takens; firsts = o .firsts; seconds = o .seconds;
-            like = like-sent p n (stateOf ledger a) (dims-is setting w play a h) (o .like) j jp (omega (arith, o .sents, jp, dim-low setting)) bu }) (omega (arith, less))
-          (w .items ++ (item ∷ [])) ms
-          (pair-append (Carried setting) (w .items) (item ∷ []) (ledger .items) (record { phase = ledger .phase a; item = record { from = a; to = b; load = message } } ∷ []) (sim .items)
-            (record { from = refl; to = refl; phase = sim .counts a; from-lt = h; to-lt = hb; load = ap (λ (n : Node). n .phase) (put-same (w .nodes) a n′) ∙ o .phase }, tt))
-          (window-same (awaitedIn setting) (ledger .phase) (hasStored ledger) (hasStored (ledgerWith ledger (ledger .phase a) u ms)) ms (stored-same setting w ledger sim a h u v refl n′ (record { nodes = o .nodes; number = o .number; phase = o .phase; pass = o .pass; low = o .low; sents = length-set (n .sent) j _ ∙ o .sents; takens = o .takens; firsts = o .firsts; seconds = o .seconds;
-              like = like-sent p n (stateOf ledger a) (dims-is setting w play a h) (o .like) j jp (omega (arith, o .sents, jp, dim-low setting)) bu }) (omega (arith, less)) ms (λ s. refl))
-            (window-keeps (awaitedIn setting) (ledger .phase) (hasStored ledger) (ledger .items) (ledger .phase) (hasStored ledger) ms (Move.out (record { phase = ledger .phase a; item = record { from = a; to = b; load = message } }) refl (within-one (tree setting) (fieldLimit L) ledger reached b a hb h) (λ s q. let z : _≡_ {A = ℕ} 0 1 = cc in absurd (omega arith))) (sim .win)))
-          (w .busy) (bu ∙ sym (sym (sim .busy a h) ∙ bu)) (λ y z. refl) (put (w .untaken) (w .sends) (some (w .count a))) (suc (w .sends));
-        marks = marks-send P (w .untaken) (w .sends) (w .items) ledger marks a b v ms item refl refl (sim .counts a) };
-        calm = inl (lossy-same ledger (ledger .phase a) u ms refl) }
+      record {
+        played = record {
+          ledger = ledgerWith ledger (ledger .phase a) u ms;
+          reached = Reached.next ledger (ledgerWith ledger (ledger .phase a) u ms) reached
+              (act-send (tree setting) (fieldLimit L) ledger reached a b j h hb jp shell (sym (o .like .busy) ∙ bu)
+              (log-room a h less));
+          sim =
+              acted setting w ledger sim a h u v refl n′
+              (record {
+                nodes = o .nodes;
+                number = o .number;
+                phase = o .phase;
+                pass = o .pass;
+                low = o .low;
+                sents = length-set (n .sent) j _ ∙ o .sents;
+                takens = o .takens;
+                firsts = o .firsts;
+                seconds = o .seconds;
+                like =
+                    like-sent p n (stateOf ledger a) (dims-is setting w play a h) (o .like) j jp
+                    (omega (arith, o .sents, jp, dim-low setting)) bu;
+              }) (omega (arith, less))
+              (w .items ++ (item ∷ [])) ms
+              (pair-append (Carried setting) (w .items) (item ∷ []) (ledger .items)
+              (record { phase = ledger .phase a; item = record { from = a; to = b; load = message } } ∷ []) (sim .items) (
+                record {
+                  from = refl;
+                  to = refl;
+                  phase = sim .counts a;
+                  from-lt = h;
+                  to-lt = hb;
+                  load = ap (λ (n : Node). n .phase) (put-same (w .nodes) a n′) ∙ o .phase;
+                },
+                tt,
+              ))
+              (window-same (awaitedIn setting) (ledger .phase) (hasStored ledger)
+              (hasStored (ledgerWith ledger (ledger .phase a) u ms)) ms
+              (stored-same setting w ledger sim a h u v refl n′
+              (record {
+                nodes = o .nodes;
+                number = o .number;
+                phase = o .phase;
+                pass = o .pass;
+                low = o .low;
+                sents = length-set (n .sent) j _ ∙ o .sents;
+                takens = o .takens;
+                firsts = o .firsts;
+                seconds = o .seconds;
+                like =
+                    like-sent p n (stateOf ledger a) (dims-is setting w play a h) (o .like) j jp
+                    (omega (arith, o .sents, jp, dim-low setting)) bu;
+              }) (omega (arith, less)) ms (λ s. refl))
+              (window-keeps (awaitedIn setting) (ledger .phase) (hasStored ledger) (ledger .items) (ledger .phase)
+              (hasStored ledger) ms (Move.out
+              (record { phase = ledger .phase a; item = record { from = a; to = b; load = message } }) refl
+              (within-one (tree setting) (fieldLimit L) ledger reached b a hb h)
+              (λ s q. let z : _≡_ {A = ℕ} 0 1 = cc in absurd (omega arith))) (sim .win)))
+              (w .busy) (bu ∙ sym (sym (sim .busy a h) ∙ bu))
+              (λ y z. refl) (put (w .untaken) (w .sends) (some (w .count a))) (suc (w .sends));
+          marks = marks-send P (w .untaken) (w .sends) (w .items) ledger marks a b v ms item refl refl (sim .counts a);
+        };
+        calm = inl (lossy-same ledger (ledger .phase a) u ms refl);
+      }
     where
       n : Node
       n = w .nodes a
+
       o : Holds setting a (w .count a) (w .nodes a) (stateOf ledger a)
       o = hold setting w play a h
+
       j : ℕ
       j = distance (w .nodes a .nodes) (w .nodes a .number) b
+
       n′ : Node
       n′ = oneSent (w .nodes a) (distance (w .nodes a .nodes) (w .nodes a .number) b)
+
       v : State
-      v = withTallies (stateOf ledger a) true (bumpSent (stateOf ledger a .tallies) (distance (w .nodes a .nodes) (w .nodes a .number) b))
+      v =
+          withTallies (stateOf ledger a) true
+          (bumpSent (stateOf ledger a .tallies) (distance (w .nodes a .nodes) (w .nodes a .number) b))
+
       u : Page
-      u = pageSent (ledger .pages (ledger .phase a)) a b (withTallies (stateOf ledger a) true (bumpSent (stateOf ledger a .tallies) (distance (w .nodes a .nodes) (w .nodes a .number) b)))
+      u =
+          pageSent (ledger .pages (ledger .phase a)) a b
+          (withTallies (stateOf ledger a) true
+          (bumpSent (stateOf ledger a .tallies) (distance (w .nodes a .nodes) (w .nodes a .number) b)))
+
       ms : List Dated
-      ms = ledger .items ++ (record { phase = ledger .phase a; item = record { from = a; to = b; load = message } } ∷ [])
+      ms =
+          ledger .items ++ (record { phase = ledger .phase a; item = record { from = a; to = b; load = message } } ∷ [])
+
       item : Item
-      item = record { from = a; to = b; load = work (put (w .nodes) a (oneSent (w .nodes a) (distance (w .nodes a .nodes) (w .nodes a .number) b)) a .phase); phase = w .count a; name = w .sends }
+      item =
+          record {
+            from = a;
+            to = b;
+            load =
+                work (put (w .nodes) a (oneSent (w .nodes a) (distance (w .nodes a .nodes) (w .nodes a .number) b))
+                a .phase);
+            phase = w .count a;
+            name = w .sends;
+          }
+
       hb : b < P
       hb = omega (arith, b1, hold setting w play a h .nodes)
+
       ne : a ≢ b
       ne q = b2 (sym q ∙ sym (hold setting w play a h .number))
+
       j-is : distance P a b ≡ distance (w .nodes a .nodes) (w .nodes a .number) b
       j-is = rw (hold setting w play a h .nodes, hold setting w play a h .number) refl
+
       shell : Shell (tree setting) a b (distance (w .nodes a .nodes) (w .nodes a .number) b)
       shell = subst (Shell (tree setting) a b) j-is (shell-ok setting a b h hb ne)
+
       jp : distance (w .nodes a .nodes) (w .nodes a .number) b < p
       jp = omega (arith, j-is, shell-lt setting a b h hb ne)
+
       less : stateOf ledger a .tallies sentAll < L .sends
       less = omega (arith, cap, hold setting w play a h .like .tallies sentAll tt)

@@ -38,7 +38,9 @@ abbrev pub hasStored : Ledger → ℕ → ℕ → Bool
 hasStored B c s = isSome (stateOf B c .stored s)
 
 -- a fact of every state, after node a has changed in its phase
-pub seats : (B : Ledger) (a : ℕ) (u : Page) (ms : List Dated) (v : State) → u .nodes ≡ update (B .pages (B .phase a) .nodes) a v → (F : ℕ → State → Type 0) → F a v → ((y : ℕ) → y ≢ a → F y (stateOf B y))
+pub seats : (B : Ledger) (a : ℕ) (u : Page) (ms : List Dated) (v : State)
+    → u .nodes ≡ update (B .pages (B .phase a) .nodes) a v → (F : ℕ → State → Type 0) → F a v
+    → ((y : ℕ) → y ≢ a → F y (stateOf B y))
     → (y : ℕ) → F y (stateOf (ledgerWith B (B .phase a) u ms) y)
 seats B a u ms v e F at rest y =
     update-all (λ m w. m ≡ B .phase y → F y (w .nodes y)) (B .pages) (B .phase a) u
@@ -46,12 +48,24 @@ seats B a u ms v e F at rest y =
     (λ m q k. subst (λ m. F y (B .pages m .nodes y)) (sym k) (rest y (λ z. q (k ∙ ap (B .phase) z)))) (B .phase y) refl
   where
     here : B .phase a ≡ B .phase y → Dec (y ≡ a) → F y (update (B .pages (B .phase a) .nodes) a v y)
-    here q (yes z) = subst (λ y. F y (update (B .pages (B .phase a) .nodes) a v y)) (sym z) (subst (F a) (sym (update-same (B .pages (B .phase a) .nodes) a v)) at)
-    here q (no z) = subst (F y) (sym (update-other (B .pages (B .phase a) .nodes) a v y z)) (subst (λ m. F y (B .pages m .nodes y)) (sym q) (rest y z))
+    here q (yes z) =
+        subst (λ y. F y (update (B .pages (B .phase a) .nodes) a v y)) (sym z)
+        (subst (F a) (sym (update-same (B .pages (B .phase a) .nodes) a v)) at)
+    here q (no z) =
+        subst (F y) (sym (update-other (B .pages (B .phase a) .nodes) a v y z))
+        (subst (λ m. F y (B .pages m .nodes y)) (sym q) (rest y z))
 
-pub window-same : (awaitedIn : ℕ → ℕ → Option ℕ) (ph : ℕ → ℕ) (h g : ℕ → ℕ → Bool) (ms : List Dated) → ((c s : ℕ) → g c s ≡ h c s) → Window awaitedIn ph h ms → Window awaitedIn ph g ms
+pub window-same : (awaitedIn : ℕ → ℕ → Option ℕ) (ph : ℕ → ℕ) (h g : ℕ → ℕ → Bool) (ms : List Dated)
+    → ((c s : ℕ) → g c s ≡ h c s) → Window awaitedIn ph h ms → Window awaitedIn ph g ms
 window-same awaitedIn ph h g ms e w =
-    record { order = w .order; sent = w .sent; heard = λ c a s k q. w .heard c a s k (sym (e c s) ∙ q); behind = λ c a s k q. w .behind c a s k (sym (e c s) ∙ q); partner = w .partner; window = w .window }
+    record {
+      order = w .order;
+      sent = w .sent;
+      heard = λ c a s k q. w .heard c a s k (sym (e c s) ∙ q);
+      behind = λ c a s k q. w .behind c a s k (sym (e c s) ∙ q);
+      partner = w .partner;
+      window = w .window;
+    }
 
 module _ {L : Limits} {P : ℕ} (setting : Setting L P) where
   abbrev pub p : ℕ
@@ -74,7 +88,8 @@ module _ {L : Limits} {P : ℕ} (setting : Setting L P) where
   pub awaited-below : (s c a : ℕ) → awaitedIn s c ≡ some a → (s < p + p) × (T .awaited (dimOf p s) c ≡ some a)
   awaited-below s c a h = go (decLt s (p + p)) h
     where
-      go : (d : Dec (s < p + p)) → pick {A = Option ℕ} d (T .awaited (dimOf p s) c) none ≡ some a → (s < p + p) × (T .awaited (dimOf p s) c ≡ some a)
+      go : (d : Dec (s < p + p)) → pick {A = Option ℕ} d (T .awaited (dimOf p s) c) none ≡ some a
+          → (s < p + p) × (T .awaited (dimOf p s) c ≡ some a)
       go (yes d) e = (d, e)
       go (no d) e = let z : _≡_ {A = ℕ} 0 1 = cc in absurd (omega arith)
 
@@ -127,43 +142,71 @@ module _ {L : Limits} {P : ℕ} (setting : Setting L P) where
 
   -- ---- a node has changed in its phase
 
-  module _ (w : Board) (B : Ledger) (i : Sim w B) (a : ℕ) (h : a < P) (u : Page) (v : State) (e : u .nodes ≡ update (B .pages (B .phase a) .nodes) a v)
+  module _ (w : Board) (B : Ledger) (i : Sim w B) (a : ℕ) (h : a < P) (u : Page) (v : State)
+      (e : u .nodes ≡ update (B .pages (B .phase a) .nodes) a v)
       (n : Node) (ok : Holds a (w .count a) n v) (cap : v .tallies sentAll ≤ L .sends) where
-    pub acted : (is : List Item) (ms : List Dated) → Pair Carried is ms → Window awaitedIn (B .phase) (hasStored (ledgerWith B (B .phase a) u ms)) ms
+    pub acted : (is : List Item) (ms : List Dated) → Pair Carried is ms
+        → Window awaitedIn (B .phase) (hasStored (ledgerWith B (B .phase a) u ms)) ms
         → (bu : ℕ → Bool) → n .busy ≡ bu a → ((y : ℕ) → y ≢ a → bu y ≡ w .busy y) → (ut : ℕ → Option ℕ) (sd : ℕ)
-        → Sim (record { nodes = put (w .nodes) a n; items = is; count = w .count; busy = bu; untaken = ut; sends = sd }) (ledgerWith B (B .phase a) u ms)
+        → Sim (record { nodes = put (w .nodes) a n; items = is; count = w .count; busy = bu; untaken = ut; sends = sd })
+        (ledgerWith B (B .phase a) u ms)
     acted is ms it wi bu b1 b2 ut sd =
         record {
           counts = i .counts;
-          node = seats B a u ms v e (λ y nd. y < P → Holds y (w .count y) (put (w .nodes) a n y) nd) (λ q. subst (λ n. Holds a (w .count a) n v) (sym (put-same (w .nodes) a n)) ok)
-            (λ y z q. subst (λ n. Holds y (w .count y) n (stateOf B y)) (sym (put-other (w .nodes) a n y z)) (i .node y q));
+          node =
+              seats B a u ms v e (λ y nd. y < P → Holds y (w .count y) (put (w .nodes) a n y) nd)
+              (λ q. subst (λ n. Holds a (w .count a) n v) (sym (put-same (w .nodes) a n)) ok)
+              (λ y z q. subst (λ n. Holds y (w .count y) n (stateOf B y)) (sym (put-other (w .nodes) a n y z))
+              (i .node y q));
           busy = put-all (λ y n. y < P → n .busy ≡ bu y) (w .nodes) a n (λ q. b1) (λ y z q. i .busy y q ∙ sym (b2 y z));
-          items = it; win = wi;
-          capped = update-all (λ m w. (y : ℕ) → y < P → w .nodes y .tallies sentAll ≤ L .sends) (B .pages) (B .phase a) u
-            (λ y q. subst (λ (f : ℕ → State). f y .tallies sentAll ≤ L .sends) (sym e) (update-all (λ y nd. y < P → nd .tallies sentAll ≤ L .sends) (B .pages (B .phase a) .nodes) a v (λ q. cap) (λ y z q. i .capped (B .phase a) y q) y q))
-            (λ m z y q. i .capped m y q) }
+          items = it;
+          win = wi;
+          capped =
+              update-all (λ m w. (y : ℕ) → y < P → w .nodes y .tallies sentAll ≤ L .sends) (B .pages) (B .phase a) u
+              (λ y q. subst (λ (f : ℕ → State). f y .tallies sentAll ≤ L .sends) (sym e)
+              (update-all (λ y nd. y < P → nd .tallies sentAll ≤ L .sends) (B .pages (B .phase a) .nodes) a v (λ q. cap)
+              (λ y z q. i .capped (B .phase a) y q) y q))
+              (λ m z y q. i .capped m y q);
+        }
 
     -- what is stored is as it was
-    pub stored-same : (ms : List Dated) → ((s : ℕ) → v .stored s ≡ stateOf B a .stored s) → (c s : ℕ) → hasStored (ledgerWith B (B .phase a) u ms) c s ≡ hasStored B c s
-    stored-same ms q = seats B a u ms v e (λ y nd. (s : ℕ) → isSome (nd .stored s) ≡ hasStored B y s) (λ s. ap isSome (q s)) (λ y z s. refl)
+    pub stored-same : (ms : List Dated) → ((s : ℕ) → v .stored s ≡ stateOf B a .stored s) → (c s : ℕ)
+        → hasStored (ledgerWith B (B .phase a) u ms) c s ≡ hasStored B c s
+    stored-same ms q =
+        seats B a u ms v e (λ y nd. (s : ℕ) → isSome (nd .stored s) ≡ hasStored B y s) (λ s. ap isSome (q s))
+        (λ y z s. refl)
 
   -- a refused call gives the state back
   pub unmoved : (w : Board) (B : Ledger) → Sim w B → (a : ℕ) → Sim (gave w a (w .nodes a)) B
   unmoved w B i a =
       record {
         counts = i .counts;
-        node = put-all (λ y n. y < P → Holds y (w .count y) n (stateOf B y)) (w .nodes) a (w .nodes a) (λ q. i .node a q) (λ y z q. i .node y q);
-        busy = put-all (λ y n. y < P → n .busy ≡ w .busy y) (w .nodes) a (w .nodes a) (λ q. i .busy a q) (λ y z q. i .busy y q);
-        items = i .items; win = i .win; capped = i .capped }
+        node =
+            put-all (λ y n. y < P → Holds y (w .count y) n (stateOf B y)) (w .nodes) a (w .nodes a) (λ q. i .node a q)
+            (λ y z q. i .node y q);
+        busy =
+            put-all (λ y n. y < P → n .busy ≡ w .busy y) (w .nodes) a (w .nodes a) (λ q. i .busy a q)
+            (λ y z q. i .busy y q);
+        items = i .items;
+        win = i .win;
+        capped = i .capped;
+      }
 
   -- other items and other history
-  pub carried : (w : Board) (B : Ledger) → Sim w B → (is : List Item) (ms : List Dated) → Pair Carried is ms → (ps : ℕ → Page) → ((n y : ℕ) → ps n .nodes y ≡ B .pages n .nodes y) → Window awaitedIn (B .phase) (hasStored B) ms
+  pub carried : (w : Board) (B : Ledger) → Sim w B → (is : List Item) (ms : List Dated) → Pair Carried is ms
+      → (ps : ℕ → Page) → ((n y : ℕ) → ps n .nodes y ≡ B .pages n .nodes y)
+      → Window awaitedIn (B .phase) (hasStored B) ms
       → (ut : ℕ → Option ℕ) (sd : ℕ)
-      → Sim (record { nodes = w .nodes; items = is; count = w .count; busy = w .busy; untaken = ut; sends = sd }) (record { phase = B .phase; pages = ps; items = ms })
+      → Sim (record { nodes = w .nodes; items = is; count = w .count; busy = w .busy; untaken = ut; sends = sd })
+      (record { phase = B .phase; pages = ps; items = ms })
   carried w B i is ms it ps e wi ut sd =
       record {
         counts = i .counts;
         node = λ y q. subst (Holds y (w .count y) (w .nodes y)) (sym (e (B .phase y) y)) (i .node y q);
-        busy = i .busy; items = it;
-        win = window-same awaitedIn (B .phase) (hasStored B) _ ms (λ c s. ap (λ (nd : State). isSome (nd .stored s)) (e (B .phase c) c)) wi;
-        capped = λ n y q. subst (λ (nd : State). nd .tallies sentAll ≤ L .sends) (sym (e n y)) (i .capped n y q) }
+        busy = i .busy;
+        items = it;
+        win =
+            window-same awaitedIn (B .phase) (hasStored B) _ ms
+            (λ c s. ap (λ (nd : State). isSome (nd .stored s)) (e (B .phase c) c)) wi;
+        capped = λ n y q. subst (λ (nd : State). nd .tallies sentAll ≤ L .sends) (sym (e n y)) (i .capped n y q);
+      }

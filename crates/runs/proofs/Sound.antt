@@ -1,4 +1,5 @@
--- Every state of a board is accepted, after any run; and what is under way is not to its sender, a frame being one that the
+-- Every state of a board is accepted, after any run; and what is under way is not to its sender, a frame being one that
+-- the
 -- reader accepts.
 use mathlib.Core.Path.{_≡_, refl, sym, _∙_, subst}
 use mathlib.Core.Logic.{_≢_}
@@ -20,8 +21,10 @@ use Rattle.node.specs.Answers.{Given, Outcome, done, dropped, refused, Barrier,
 use Rattle.node.specs.Calls.{send, take, idle, frameIn}
 use Rattle.node.specs.Barrier.{frameDue, receiversDue, barrier}
 use Rattle.node.specs.declared.Node.{Node}
-use Rattle.runs.specs.Board.{put, Load, work, frame, Item, Board, Event, sends, idles, calls, delivers, loses, start, oldest}
-use Rattle.runs.specs.Board.{without, lessOne, gave, afterSend, afterIdle, posted, afterCall, offUnlessEarly, afterTake, afterFrame, delivered, deliveredOldest, step}
+use Rattle.runs.specs.Board.{put, Load, work, frame, Item, Board, Event, sends, idles, calls, delivers, loses}
+use Rattle.runs.specs.Board.{start, oldest}
+use Rattle.runs.specs.Board.{without, lessOne, gave, afterSend, afterIdle, posted, afterCall, offUnlessEarly}
+use Rattle.runs.specs.Board.{afterTake, afterFrame, delivered, deliveredOldest, step}
 use Rattle.frame.proofs.RoundTripAccepted.{Read}
 use Rattle.tree.specs.Lookups.{badBoard}
 use Rattle.node.proofs.Ways.{SendWay, send-way, CallWay, call-way}
@@ -92,10 +95,12 @@ module _ {L : Limits} {P : ℕ} (setting : Setting L P) where
     delivery : (a b : ℕ) (m : Item) (l : Load) → Accepted (delivered L P w a b m l)
     delivery a b m (work byte) =
         let r = take L (w .nodes b) a byte in
-        given b (r .node) _ (after-take (gave w b (r .node)) a b m (r .answer)) (λ h. take-valid L (w .nodes b) (ok b h) a byte)
+        given b (r .node) _ (after-take (gave w b (r .node)) a b m (r .answer))
+        (λ h. take-valid L (w .nodes b) (ok b h) a byte)
     delivery a b m (frame bytes) =
         let r = frameIn L (w .nodes b) bytes in
-        given b (r .node) _ (after-frame (gave w b (r .node)) a b (r .answer)) (λ h. frame-valid L (w .nodes b) (ok b h) bytes)
+        given b (r .node) _ (after-frame (gave w b (r .node)) a b (r .answer))
+        (λ h. frame-valid L (w .nodes b) (ok b h) bytes)
 
     oldest-one : (a b : ℕ) (o : Option Item) → Accepted (deliveredOldest L P w a b o)
     oldest-one a b none = ok
@@ -106,11 +111,13 @@ module _ {L : Limits} {P : ℕ} (setting : Setting L P) where
     accepted-step (sends a b) =
         let r = send L (w .nodes a) b in
         cases Accepted (ltb a P) _ _
-        (λ z. given a (r .node) _ (after-send (gave w a (r .node)) a b (r .answer)) (λ h. send-valid L (w .nodes a) (ok a h) b)) (λ z. ok)
+        (λ z. given a (r .node) _ (after-send (gave w a (r .node)) a b (r .answer))
+        (λ h. send-valid L (w .nodes a) (ok a h) b)) (λ z. ok)
     accepted-step (idles a) =
         let r = idle L (w .nodes a) in
         cases Accepted (ltb a P) _ _
-        (λ z. given a (r .node) _ (after-idle (gave w a (r .node)) a (r .answer)) (λ h. idle-valid L (w .nodes a) (ok a h))) (λ z. ok)
+        (λ z. given a (r .node) _ (after-idle (gave w a (r .node)) a (r .answer))
+        (λ h. idle-valid L (w .nodes a) (ok a h))) (λ z. ok)
     accepted-step (calls a room) =
         let r = barrier L (w .nodes a) room in
         cases Accepted (ltb a P) _ _
@@ -211,9 +218,11 @@ module _ {L : Limits} {P : ℕ} (setting : Setting L P) where
       frame-fine dropped = off-fine a b m e
       frame-fine (refused x) = unless-early x
 
-    deliver-fine : (a b : ℕ) (m : Item) → oldest a b (w .items) ≡ some m → (l : Load) → AllFine (delivered L P w a b m l)
+    deliver-fine : (a b : ℕ) (m : Item) → oldest a b (w .items) ≡ some m → (l : Load)
+        → AllFine (delivered L P w a b m l)
     deliver-fine a b m e (work byte) = let r = take L (w .nodes b) a byte in take-fine a b m e (r .node) (r .answer)
-    deliver-fine a b m e (frame bytes) = let r = frameIn L (w .nodes b) bytes in frame-fine a b m e (r .node) (r .answer)
+    deliver-fine a b m e (frame bytes) =
+        let r = frameIn L (w .nodes b) bytes in frame-fine a b m e (r .node) (r .answer)
 
     oldest-fine : (a b : ℕ) (o : Option Item) → oldest a b (w .items) ≡ o → AllFine (deliveredOldest L P w a b o)
     oldest-fine a b none e = fine
@@ -232,6 +241,7 @@ module _ {L : Limits} {P : ℕ} (setting : Setting L P) where
         let r = idle L (w .nodes a) in cases AllFine (ltb a P) _ _ (λ z. idle-fine a (r .answer) (r .node)) (λ z. fine)
     fine-step (calls a room) =
         cases AllFine (ltb a P) _ _
-        (λ z. call-fine a room (ltb-true a P z) (barrier L (w .nodes a) room) (call-way L (w .nodes a) room)) (λ z. fine)
+        (λ z. call-fine a room (ltb-true a P z) (barrier L (w .nodes a) room) (call-way L (w .nodes a) room))
+        (λ z. fine)
     fine-step (delivers a b) = oldest-fine a b (oldest a b (w .items)) refl
     fine-step (loses j) = lose-fine (lessOne j (w .items)) (lost j (w .items))

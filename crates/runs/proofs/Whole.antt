@@ -17,15 +17,20 @@ safe L ok P one le es = go (decLt 1 P)
   where
     go : Dec (1 < P) → Safe L P (run L P es)
     go (yes h) = every-run-safe (record { fit = ok; two = h; few = le }) es
-    go (no h) = let e : 1 ≡ P = omega arith in subst (λ P. Safe L P (run L P es)) e (lone-safe L (omega arith) (run L 1 es) (lone L (omega arith) es))
+    go (no h) =
+        let e : 1 ≡ P = omega arith in
+        subst (λ P. Safe L P (run L P es)) e (lone-safe L (omega arith) (run L 1 es) (lone L (omega arith) es))
 
 -- the second half: FOR EVERY RUN WITHOUT A LOSS OF EVERY BOARD
-pub lives : (L : Limits) → Fit L → (P : ℕ) → 1 ≤ P → P ≤ L .nodes → (es : List Event) → NoLoss es → Lives L P (run L P es)
+pub lives : (L : Limits) → Fit L → (P : ℕ) → 1 ≤ P → P ≤ L .nodes → (es : List Event) → NoLoss es
+    → Lives L P (run L P es)
 lives L ok P one le es l = go (decLt 1 P)
   where
     go : Dec (1 < P) → Lives L P (run L P es)
     go (yes h) = every-run-lives (record { fit = ok; two = h; few = le }) es l
-    go (no h) = let e : 1 ≡ P = omega arith in subst (λ P. Lives L P (run L P es)) e (lone-lives L (omega arith) (run L 1 es) (lone L (omega arith) es))
+    go (no h) =
+        let e : 1 ≡ P = omega arith in
+        subst (λ P. Lives L P (run L P es)) e (lone-lives L (omega arith) (run L 1 es) (lone L (omega arith) es))
 
 pub demand3 : Demand3
 demand3 = record { safe = safe; lives = lives }
