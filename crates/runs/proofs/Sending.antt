@@ -97,20 +97,7 @@ module _ {L : Limits} {P : ℕ} (setting : Setting L P) (w : Board) (play : Play
               (log-room a h less));
           sim =
               acted setting w ledger sim a h u v refl n′
-              (record {
-                nodes = o .nodes;
-                number = o .number;
-                phase = o .phase;
-                pass = o .pass;
-                low = o .low;
-                sents = length-set (n .sent) j _ ∙ o .sents;
-                takens = o .takens;
-                firsts = o .firsts;
-                seconds = o .seconds;
-                like =
-                    like-sent p n (stateOf ledger a) (dims-is setting w play a h) (o .like) j jp
-                    (omega (arith, o .sents, jp, dim-low setting)) bu;
-              }) (omega (arith, less))
+              ok′ (omega (arith, less))
               (w .items ++ (item ∷ [])) ms
               (pair-append (Carried setting) (w .items) (item ∷ []) (ledger .items)
               (record { phase = ledger .phase a; item = record { from = a; to = b; load = message } } ∷ []) (sim .items) (
@@ -127,20 +114,7 @@ module _ {L : Limits} {P : ℕ} (setting : Setting L P) (w : Board) (play : Play
               (window-same (awaitedIn setting) (ledger .phase) (hasStored ledger)
               (hasStored (ledgerWith ledger (ledger .phase a) u ms)) ms
               (stored-same setting w ledger sim a h u v refl n′
-              (record {
-                nodes = o .nodes;
-                number = o .number;
-                phase = o .phase;
-                pass = o .pass;
-                low = o .low;
-                sents = length-set (n .sent) j _ ∙ o .sents;
-                takens = o .takens;
-                firsts = o .firsts;
-                seconds = o .seconds;
-                like =
-                    like-sent p n (stateOf ledger a) (dims-is setting w play a h) (o .like) j jp
-                    (omega (arith, o .sents, jp, dim-low setting)) bu;
-              }) (omega (arith, less)) ms (λ s. refl))
+              ok′ (omega (arith, less)) ms (λ s. refl))
               (window-keeps (awaitedIn setting) (ledger .phase) (hasStored ledger) (ledger .items) (ledger .phase)
               (hasStored ledger) ms (Move.out
               (record { phase = ledger .phase a; item = record { from = a; to = b; load = message } }) refl
@@ -209,3 +183,20 @@ module _ {L : Limits} {P : ℕ} (setting : Setting L P) (w : Board) (play : Play
 
       less : stateOf ledger a .tallies sentAll < L .sends
       less = omega (arith, cap, hold setting w play a h .like .tallies sentAll tt)
+
+      ok′ : Holds setting a (w .count a) n′ v
+      ok′ =
+          record {
+            nodes = o .nodes;
+            number = o .number;
+            phase = o .phase;
+            pass = o .pass;
+            low = o .low;
+            sents = length-set (n .sent) j _ ∙ o .sents;
+            takens = o .takens;
+            firsts = o .firsts;
+            seconds = o .seconds;
+            like =
+                like-sent p n (stateOf ledger a) (dims-is setting w play a h) (o .like) j jp
+                (omega (arith, o .sents, jp, dim-low setting)) bu;
+          }
