@@ -32,7 +32,8 @@ use Rattle.runs.proofs.Pairs.{Found, found}
 use Rattle.runs.proofs.Sim.{awaitedIn, awaited-below, Holds, Says}
 use Rattle.runs.proofs.Emit.{dim-step}
 use Rattle.runs.proofs.Played.{Played, Next, Mishap}
-use Rattle.runs.proofs.Delivering.{c, ha, hb, whole, not-ahead, message-of, not-behind, report-of, not-behind₂}
+use Rattle.runs.proofs.Delivering.{twin, sender-lt, receiver-lt, whole, not-ahead, message-of, not-behind}
+use Rattle.runs.proofs.Delivering.{report-of, not-behind₂}
 use Rattle.runs.proofs.Delivering.{diff-is}
 use Rattle.runs.proofs.Steps.{next}
 use Rattle.runs.proofs.Safety.{begun, begun-calm}
@@ -79,10 +80,10 @@ module _ {L : Limits} {P : ℕ} (setting : Setting L P) where
       fine-parts = all-mid (Fine L P) (g .pre) (g .post) m (subst (All (Fine L P)) (g .whole) fine)
 
       la : a < P
-      la = ha setting w q a b m e
+      la = sender-lt setting w q a b m e
 
       lb : b < P
-      lb = hb setting w q a b m e
+      lb = receiver-lt setting w q a b m e
 
       apart : a ≢ b
       apart z = fine-parts .0 .0 (g .from-is ∙ z ∙ sym (g .to-is))
@@ -100,7 +101,7 @@ module _ {L : Limits} {P : ℕ} (setting : Setting L P) where
             ne (take-clear L (w .nodes b) a byte x (ok b lb) (omega (arith, la, hold b lb .nodes))
             (λ z. apart (z ∙ hold b lb .number)) diffs space ans)
           where
-            j : (c setting w q a b m e .one .item .load ≡ message) × (byte ≡ m .phase % 256)
+            j : (twin setting w q a b m e .one .item .load ≡ message) × (byte ≡ m .phase % 256)
             j = message-of setting w q a b m e byte lw
 
             le1 : m .phase ≤ suc (q .ledger .phase b)
@@ -126,7 +127,7 @@ module _ {L : Limits} {P : ℕ} (setting : Setting L P) where
             space : difference byte (w .nodes b .phase) ≡ 0 → tally (w .nodes b) allTaken < takenLimit L
             space z =
                 let ph : m .phase ≡ q .ledger .phase b = omega (arith, sym diff-eq ∙ z, le1, le2) in
-                let cc′ = c setting w q a b m e in
+                let cc′ = twin setting w q a b m e in
                 let wh = whole setting w q a b m e message (j .0) in
                 let r = taken-room (tree setting) (fieldLimit L) (L .sends) (phaseOf (q .ledger) (q .ledger .phase b))
                 (invariant (tree setting) (fieldLimit L) (q .ledger) (q .reached) .fit (q .ledger .phase b))
@@ -148,7 +149,7 @@ module _ {L : Limits} {P : ℕ} (setting : Setting L P) where
               awaits = awt;
             }) x diffs ans)
           where
-            n : (t : ℕ) × ((x : Entries) × ((c setting w q a b m e .one .item .load ≡ report t x) × Says setting
+            n : (t : ℕ) × ((x : Entries) × ((twin setting w q a b m e .one .item .load ≡ report t x) × Says setting
                 (m .from) (m .phase) (fieldsOf p bs) t x))
             n = report-of setting w q a b m e bs lf
 
@@ -162,7 +163,7 @@ module _ {L : Limits} {P : ℕ} (setting : Setting L P) where
 
             parts : awaitedIn setting (n .0) b ≡ some a
             parts =
-                all-mid (Partnered (awaitedIn setting)) (c setting w q a b m e .pre) (c setting w q a b m e .post)
+                all-mid (Partnered (awaitedIn setting)) (twin setting w q a b m e .pre) (twin setting w q a b m e .post)
                 (record { phase = m .phase; item = record { from = a; to = b; load = report (n .0) (n .1 .0) } })
                 (subst (All (Partnered (awaitedIn setting)))
                 (whole setting w q a b m e (report (n .0) (n .1 .0)) (n .1 .1 .0)) (q .sim .win .partner)) .0

@@ -84,83 +84,88 @@ module _ {L : Limits} {P : ℕ} (setting : Setting L P) (w : Board) (play : Play
       ∙ ap (λ b. record { phase = n; item = record { from = a; to = b; load = u .item .load } }) (sym z)
 
   module _ (a b : ℕ) (m : Item) (e : oldest a b (w .items) ≡ some m) where
-    pub f : Found a b (w .items) m
-    f = found a b (w .items) m e
+    -- where the item stands on the board, and its twin in the ledger
+    pub place : Found a b (w .items) m
+    place = found a b (w .items) m e
 
-    pub c : Cut (Carried setting) (f .pre) (f .post) m (ledger .items)
-    c =
-        cut (Carried setting) (f .pre) (f .post) m (ledger .items)
-        (subst (λ l. Pair (Carried setting) l (ledger .items)) (f .whole) (sim .items))
+    pub twin : Cut (Carried setting) (place .pre) (place .post) m (ledger .items)
+    twin =
+        cut (Carried setting) (place .pre) (place .post) m (ledger .items)
+        (subst (λ l. Pair (Carried setting) l (ledger .items)) (place .whole) (sim .items))
 
-    pub ha : a < P
-    ha = omega (arith, c .related .from-lt, f .from-is)
+    pub sender-lt : a < P
+    sender-lt = omega (arith, twin .related .from-lt, place .from-is)
 
-    pub hb : b < P
-    hb = omega (arith, c .related .to-lt, f .to-is)
+    pub receiver-lt : b < P
+    receiver-lt = omega (arith, twin .related .to-lt, place .to-is)
 
-    pub whole : (l : Content) → c .one .item .load ≡ l
-        → ledger .items ≡ c .pre ++ record { phase = m .phase; item = record { from = a; to = b; load = l } } ∷ c .post
+    pub whole : (l : Content) → twin .one .item .load ≡ l
+        → ledger .items ≡ twin .pre ++ record { phase = m .phase; item = record { from = a; to = b; load = l } }
+        ∷ twin .post
     whole l q =
-        c .whole ∙ ap (λ u. c .pre ++ u ∷ c .post)
-        (msg-is (c .one) (m .phase) a b (c .related .phase) (sym (f .from-is) ∙ c .related .from)
-        (sym (f .to-is) ∙ c .related .to)
+        twin .whole ∙ ap (λ u. twin .pre ++ u ∷ twin .post)
+        (msg-is (twin .one) (m .phase) a b (twin .related .phase) (sym (place .from-is) ∙ twin .related .from)
+        (sym (place .to-is) ∙ twin .related .to)
         ∙ ap (λ l. record { phase = m .phase; item = record { from = a; to = b; load = l } }) q)
 
-    first : FirstDated (c .pre) a b
+    first : FirstDated (twin .pre) a b
     first =
         pair-all (Carried setting) (λ k. (k .from ≡ a) × (k .to ≡ b) → ⊥) (λ u. OnLink a b (u .item) → ⊥)
-        (λ x y z n o. n (z .from ∙ o .0, z .to ∙ o .1)) (f .pre) (c .pre) (c .before) (f .none-before)
+        (λ x y z n o. n (z .from ∙ o .0, z .to ∙ o .1)) (place .pre) (twin .pre) (twin .before) (place .none-before)
 
-    pairs : Pair (Carried setting) (f .pre ++ f .post) (c .pre ++ c .post)
-    pairs = pair-append (Carried setting) (f .pre) (f .post) (c .pre) (c .post) (c .before) (c .after)
+    pairs : Pair (Carried setting) (place .pre ++ place .post) (twin .pre ++ twin .post)
+    pairs =
+        pair-append (Carried setting) (place .pre) (place .post) (twin .pre) (twin .post) (twin .before) (twin .after)
 
-    off-win : Window (awaitedIn setting) (ledger .phase) (hasStored ledger) (c .pre ++ c .post)
+    off-win : Window (awaitedIn setting) (ledger .phase) (hasStored ledger) (twin .pre ++ twin .post)
     off-win =
         window-keeps (awaitedIn setting) (ledger .phase) (hasStored ledger) (ledger .items) (ledger .phase)
-        (hasStored ledger) (c .pre ++ c .post) (Move.off (c .pre) (c .post) (c .one) (c .whole)) (sim .win)
+        (hasStored ledger) (twin .pre ++ twin .post) (Move.off (twin .pre) (twin .post) (twin .one) (twin .whole))
+        (sim .win)
 
-    named-less : All (Named (w .untaken) (w .sends)) (f .pre ++ f .post)
+    named-less : All (Named (w .untaken) (w .sends)) (place .pre ++ place .post)
     named-less =
-        less-named P (w .untaken) (w .sends) (f .pre) (f .post) m
-        (subst (All (Named (w .untaken) (w .sends))) (f .whole) (marks .named))
+        less-named P (w .untaken) (w .sends) (place .pre) (place .post) m
+        (subst (All (Named (w .untaken) (w .sends))) (place .whole) (marks .named))
 
-    apart-less : Apart (f .pre ++ f .post)
-    apart-less = less-apart P (f .pre) (f .post) m (subst Apart (f .whole) (marks .apart))
+    apart-less : Apart (place .pre ++ place .post)
+    apart-less = less-apart P (place .pre) (place .post) m (subst Apart (place .whole) (marks .apart))
 
     -- not after the receiver's next phase
     pub not-ahead : m .phase ≤ suc (ledger .phase b)
     not-ahead =
-        let q = all-mid (Sent (ledger .phase)) (c .pre) (c .post)
-        (record { phase = m .phase; item = record { from = a; to = b; load = c .one .item .load } })
-        (subst (All (Sent (ledger .phase))) (whole (c .one .item .load) refl) (sim .win .sent)) .0 in
-        omega (arith, within-one (tree setting) (fieldLimit L) ledger reached a b ha hb)
+        let q = all-mid (Sent (ledger .phase)) (twin .pre) (twin .post)
+        (record { phase = m .phase; item = record { from = a; to = b; load = twin .one .item .load } })
+        (subst (All (Sent (ledger .phase))) (whole (twin .one .item .load) refl) (sim .win .sent)) .0 in
+        omega (arith, within-one (tree setting) (fieldLimit L) ledger reached a b sender-lt receiver-lt)
 
     -- the item is off, and nothing else
     off-next : (u : Page) → Step (tree setting) (fieldLimit L) ledger
-        (ledgerWith ledger (m .phase) u (c .pre ++ c .post))
+        (ledgerWith ledger (m .phase) u (twin .pre ++ twin .post))
         → ((y : ℕ) → u .nodes y ≡ ledger .pages (m .phase) .nodes y) → u .senders ≡ ledger .pages (m .phase) .senders
-        → ((n : ℕ) → ledgerWith ledger (m .phase) u (c .pre ++ c .post) .pages n .lossy ≡ ledger .pages n .lossy)
+        → ((n : ℕ) → ledgerWith ledger (m .phase) u (twin .pre ++ twin .post) .pages n .lossy ≡ ledger .pages n .lossy)
         ⊎ Mishap setting w (delivers a b)
-        → Next setting w play (delivers a b) (carries (gave w b (w .nodes b)) (f .pre ++ f .post))
+        → Next setting w play (delivers a b) (carries (gave w b (w .nodes b)) (place .pre ++ place .post))
     off-next u st nd lg ca =
         record {
           played = record {
-            ledger = ledgerWith ledger (m .phase) u (c .pre ++ c .post);
+            ledger = ledgerWith ledger (m .phase) u (twin .pre ++ twin .post);
             reached = Reached.next ledger _ reached st;
             sim =
-                carried setting (gave w b (w .nodes b)) ledger (unmoved setting w ledger sim b) (f .pre ++ f .post)
-                (c .pre ++ c .post) pairs (update (ledger .pages) (m .phase) u)
+                carried setting (gave w b (w .nodes b)) ledger (unmoved setting w ledger sim b)
+                (place .pre ++ place .post)
+                (twin .pre ++ twin .post) pairs (update (ledger .pages) (m .phase) u)
                 (λ n y. update-all (λ n w. w .nodes y ≡ ledger .pages n .nodes y) (ledger .pages) (m .phase) u (nd y)
                 (λ n z. refl) n) off-win (w .untaken) (w .sends);
             marks =
-                marks-same P (w .untaken) (w .sends) (w .items) (f .pre ++ f .post) ledger
-                (ledgerWith ledger (m .phase) u (c .pre ++ c .post)) marks named-less apart-less
+                marks-same P (w .untaken) (w .sends) (w .items) (place .pre ++ place .post) ledger
+                (ledgerWith ledger (m .phase) u (twin .pre ++ twin .post)) marks named-less apart-less
                 (update-all (λ n w. sum (λ y. w .nodes y .tallies takenAll) 0 P ≡ sum
                 (λ y. ledger .pages n .nodes y .tallies takenAll) 0 P) (ledger .pages) (m .phase) u
                 (sum-ext (λ y. u .nodes y .tallies takenAll)
                 (λ y. ledger .pages (m .phase) .nodes y .tallies takenAll) 0 P
                 (λ y x z. ap (λ (nd : State). nd .tallies takenAll) (nd y))) (λ n z. refl))
-                (log-same P ledger (m .phase) u (c .pre ++ c .post) lg);
+                (log-same P ledger (m .phase) u (twin .pre ++ twin .post) lg);
           };
           calm = ca;
         }
@@ -170,25 +175,26 @@ module _ {L : Limits} {P : ℕ} (setting : Setting L P) (w : Board) (play : Play
     refused-next x bad =
         cases (Next setting w play (delivers a b)) (eqb x 7) (gave w b (w .nodes b))
         (carries (gave w b (w .nodes b)) (without a b (w .items))) (λ q. held setting w play (delivers a b) b)
-        (λ q. subst (λ l. Next setting w play (delivers a b) (carries (gave w b (w .nodes b)) l)) (sym (f .rest))
+        (λ q. subst (λ l. Next setting w play (delivers a b) (carries (gave w b (w .nodes b)) l)) (sym (place .rest))
         (off-next (pageLost (ledger .pages (m .phase)))
-        (act-lose (tree setting) (fieldLimit L) ledger reached (c .pre) (c .post) (m .phase) a b (c .one .item .load)
-        (whole (c .one .item .load) refl)) (λ y. refl) refl (inr (bad (eqb-false x 7 q)))))
+        (act-lose (tree setting) (fieldLimit L) ledger reached (twin .pre) (twin .post) (m .phase) a b
+        (twin .one .item .load)
+        (whole (twin .one .item .load) refl)) (λ y. refl) refl (inr (bad (eqb-false x 7 q)))))
 
     -- ---- a work message
 
-    pub message-of : (byte : ℕ) → m .load ≡ work byte → (c .one .item .load ≡ message) × (byte ≡ m .phase % 256)
+    pub message-of : (byte : ℕ) → m .load ≡ work byte → (twin .one .item .load ≡ message) × (byte ≡ m .phase % 256)
     message-of byte q =
-        go (c .one .item .load) refl (subst
-        (λ l. Loads setting (m .from) (m .phase) l (c .one .item .load)) q (c .related .load))
+        go (twin .one .item .load) refl (subst
+        (λ l. Loads setting (m .from) (m .phase) l (twin .one .item .load)) q (twin .related .load))
       where
-        go : (l : Content) → c .one .item .load ≡ l
-            → Loads setting (m .from) (m .phase) (work byte) (c .one .item .load)
-            → (c .one .item .load ≡ message) × (byte ≡ m .phase % 256)
+        go : (l : Content) → twin .one .item .load ≡ l
+            → Loads setting (m .from) (m .phase) (work byte) (twin .one .item .load)
+            → (twin .one .item .load ≡ message) × (byte ≡ m .phase % 256)
         go message z h = (z, subst (Loads setting (m .from) (m .phase) (work byte)) z h)
         go (report s x) z h = absurd (subst (Loads setting (m .from) (m .phase) (work byte)) z h)
 
-    module _ (byte : ℕ) (lw : m .load ≡ work byte) (lj : c .one .item .load ≡ message)
+    module _ (byte : ℕ) (lw : m .load ≡ work byte) (lj : twin .one .item .load ≡ message)
         (by : byte ≡ m .phase % 256) where
       -- while it is under way nobody has left its phase
       pub not-behind : (y : ℕ) → y < P → ledger .phase y ≤ m .phase
@@ -200,23 +206,24 @@ module _ {L : Limits} {P : ℕ} (setting : Setting L P) (w : Board) (play : Play
               let o = safe (tree setting) (fieldLimit L) ledger reached y (m .phase) hy l in
               let q = invariant (tree setting) (fieldLimit L) ledger reached .fit (m .phase) .covers in
               let z : messages (ofPhase (m .phase) (ledger .items)) ≡ messages
-              (ofPhase (m .phase) (c .pre) ++ record { from = a; to = b; load = message } ∷ ofPhase (m .phase)
-              (c .post)) = ap messages (ap (ofPhase (m .phase)) (whole message lj)
-              ∙ phase-mid (m .phase) (c .pre) (c .post) _ refl) in
+              (ofPhase (m .phase) (twin .pre) ++ record { from = a; to = b; load = message } ∷ ofPhase (m .phase)
+              (twin .post)) = ap messages (ap (ofPhase (m .phase)) (whole message lj)
+              ∙ phase-mid (m .phase) (twin .pre) (twin .post) _ refl) in
               absurd (omega (
                 arith,
                 o .taken,
                 q,
                 z,
-                messages-append (ofPhase (m .phase) (c .pre))
-                    (record { from = a; to = b; load = message } ∷ ofPhase (m .phase) (c .post)),
+                messages-append (ofPhase (m .phase) (twin .pre))
+                    (record { from = a; to = b; load = message } ∷ ofPhase (m .phase) (twin .post)),
               ))
 
       pub same-phase : difference byte (w .nodes b .phase) ≡ 0 → m .phase ≡ ledger .phase b
       same-phase q =
-          diff-now (m .phase) (ledger .phase b) not-ahead (omega (arith, not-behind b hb))
+          diff-now (m .phase) (ledger .phase b) not-ahead (omega (arith, not-behind b receiver-lt))
           (ap (λ x. (x + 256 - ledger .phase b % 256) % 256) (sym by)
-          ∙ ap (λ x. (byte + 256 - x) % 256) (sym (hold setting w play b hb .phase ∙ ap (λ n. n % 256) (sim .counts b)))
+          ∙ ap (λ x. (byte + 256 - x) % 256)
+          (sym (hold setting w play b receiver-lt .phase ∙ ap (λ n. n % 256) (sim .counts b)))
           ∙ q)
 
       take-next : (q : Given Outcome) → take L (w .nodes b) a byte ≡ q → TakeWay L (w .nodes b) a byte q
@@ -232,32 +239,33 @@ module _ {L : Limits} {P : ℕ} (setting : Setting L P) (w : Board) (play : Play
             busy = put (w .busy) b true;
             untaken = put (w .untaken) (m .name) none;
             sends = w .sends;
-          })) (sym (f .rest))
+          })) (sym (place .rest))
           (record {
             played = record {
               ledger = ledgerWith ledger (ledger .phase b) u ms;
               reached = Reached.next ledger _ reached
-                  (act-take (tree setting) (fieldLimit L) ledger reached (c .pre) (c .post) (m .phase) a b j
-                  (whole message lj) ph ha hb jp shell);
+                  (act-take (tree setting) (fieldLimit L) ledger reached (twin .pre) (twin .post) (m .phase) a b j
+                  (whole message lj) ph sender-lt receiver-lt jp shell);
               sim =
-                  acted setting w ledger sim b hb u v refl n′ ok′ (sim .capped (ledger .phase b) b hb)
-                  (f .pre ++ f .post) ms pairs
+                  acted setting w ledger sim b receiver-lt u v refl n′ ok′ (sim .capped (ledger .phase b) b receiver-lt)
+                  (place .pre ++ place .post) ms pairs
                   (window-same (awaitedIn setting) (ledger .phase) (hasStored ledger)
                   (hasStored (ledgerWith ledger (ledger .phase b) u ms)) ms
-                  (stored-same setting w ledger sim b hb u v refl n′ ok′ (sim .capped (ledger .phase b) b hb) ms
+                  (stored-same setting w ledger sim b receiver-lt u v refl n′ ok′
+                  (sim .capped (ledger .phase b) b receiver-lt) ms
                   (λ s. refl)) off-win)
                   (put (w .busy) b true) (sym (put-same (w .busy) b true))
                   (λ y z. put-other (w .busy) b true y z) (put (w .untaken) (m .name) none) (w .sends);
               marks =
-                  marks-take P (w .untaken) (w .sends) (f .pre) (f .post) m ledger
-                  (subst (λ l. Marks P (w .untaken) (w .sends) l ledger) (f .whole) marks)
-                  (byte, lw) a b v ms hb ph refl;
+                  marks-take P (w .untaken) (w .sends) (place .pre) (place .post) m ledger
+                  (subst (λ l. Marks P (w .untaken) (w .sends) l ledger) (place .whole) marks)
+                  (byte, lw) a b v ms receiver-lt ph refl;
             };
             calm = inl (lossy-same ledger (ledger .phase b) u ms refl);
           })
         where
           o : Holds setting b (w .count b) (w .nodes b) (stateOf ledger b)
-          o = hold setting w play b hb
+          o = hold setting w play b receiver-lt
 
           j : ℕ
           j = distance (w .nodes b .nodes) (w .nodes b .number) a
@@ -279,22 +287,22 @@ module _ {L : Limits} {P : ℕ} (setting : Setting L P) (w : Board) (play : Play
               (bumpTaken (stateOf ledger b .tallies) (distance (w .nodes b .nodes) (w .nodes b .number) a))) 0 true 0)
 
           ms : List Dated
-          ms = c .pre ++ c .post
+          ms = twin .pre ++ twin .post
 
           ph : m .phase ≡ ledger .phase b
           ph = same-phase df
 
           ne : b ≢ a
-          ne z = a2 (sym z ∙ sym (hold setting w play b hb .number))
+          ne z = a2 (sym z ∙ sym (hold setting w play b receiver-lt .number))
 
           j-is : distance P b a ≡ distance (w .nodes b .nodes) (w .nodes b .number) a
-          j-is = rw (hold setting w play b hb .nodes, hold setting w play b hb .number) refl
+          j-is = rw (hold setting w play b receiver-lt .nodes, hold setting w play b receiver-lt .number) refl
 
           shell : Shell (tree setting) b a (distance (w .nodes b .nodes) (w .nodes b .number) a)
-          shell = subst (Shell (tree setting) b a) j-is (shell-ok setting b a hb ha ne)
+          shell = subst (Shell (tree setting) b a) j-is (shell-ok setting b a receiver-lt sender-lt ne)
 
           jp : distance (w .nodes b .nodes) (w .nodes b .number) a < p
-          jp = omega (arith, j-is, shell-lt setting b a hb ha ne)
+          jp = omega (arith, j-is, shell-lt setting b a receiver-lt sender-lt ne)
 
           ok′ : Holds setting b (w .count b) n′ v
           ok′ =
@@ -310,37 +318,40 @@ module _ {L : Limits} {P : ℕ} (setting : Setting L P) (w : Board) (play : Play
                 firsts = o .firsts;
                 seconds = o .seconds;
                 like =
-                    like-taken p (w .nodes b) (stateOf ledger b) (dims-is setting w play b hb) (o .like) j jp
+                    like-taken p (w .nodes b) (stateOf ledger b) (dims-is setting w play b receiver-lt) (o .like) j jp
                     (omega (arith, o .takens, jp, dim-low setting));
               }
 
     -- ---- a frame
 
     pub report-of : (bs : List ℕ) → m .load ≡ frame bs
-        → (s : ℕ) × ((x : Entries) × ((c .one .item .load ≡ report s x) × Says setting (m .from) (m .phase)
+        → (s : ℕ) × ((x : Entries) × ((twin .one .item .load ≡ report s x) × Says setting (m .from) (m .phase)
         (fieldsOf p bs) s x))
     report-of bs q =
-        go (c .one .item .load) refl (subst
-        (λ l. Loads setting (m .from) (m .phase) l (c .one .item .load)) q (c .related .load))
+        go (twin .one .item .load) refl (subst
+        (λ l. Loads setting (m .from) (m .phase) l (twin .one .item .load)) q (twin .related .load))
       where
-        go : (l : Content) → c .one .item .load ≡ l → Loads setting (m .from) (m .phase) (frame bs) (c .one .item .load)
-            → (s : ℕ) × ((x : Entries) × ((c .one .item .load ≡ report s x) × Says setting (m .from) (m .phase)
+        go : (l : Content) → twin .one .item .load ≡ l
+            → Loads setting (m .from) (m .phase) (frame bs) (twin .one .item .load)
+            → (s : ℕ) × ((x : Entries) × ((twin .one .item .load ≡ report s x) × Says setting (m .from) (m .phase)
             (fieldsOf p bs) s x))
         go message z h = absurd (subst (Loads setting (m .from) (m .phase) (frame bs)) z h)
         go (report s x) z h = (s, (x, (z, subst (Loads setting (m .from) (m .phase) (frame bs)) z h)))
 
-    module _ (bs : List ℕ) (lf : m .load ≡ frame bs) (s : ℕ) (x : Entries) (ln : c .one .item .load ≡ report s x)
+    module _ (bs : List ℕ) (lf : m .load ≡ frame bs) (s : ℕ) (x : Entries) (ln : twin .one .item .load ≡ report s x)
         (y₀ : Says setting (m .from) (m .phase) (fieldsOf p bs) s x) where
       -- the fields that the receiver reads
       abbrev F : Frame
       F = fieldsIn L (w .nodes b) bs
 
       y : Says setting (m .from) (m .phase) F s x
-      y = subst (λ d. Says setting (m .from) (m .phase) (fieldsOf d bs) s x) (sym (dims-is setting w play b hb)) y₀
+      y =
+          subst (λ d. Says setting (m .from) (m .phase) (fieldsOf d bs) s x)
+          (sym (dims-is setting w play b receiver-lt)) y₀
 
       pub not-behind₂ : ledger .phase b ≤ suc (m .phase)
       not-behind₂ =
-          all-mid (Close (ledger .phase)) (c .pre) (c .post)
+          all-mid (Close (ledger .phase)) (twin .pre) (twin .post)
           (record { phase = m .phase; item = record { from = a; to = b; load = report s x } })
           (subst (All (Close (ledger .phase))) (whole (report s x) ln) (sim .win .window)) .0 s refl
 
@@ -348,7 +359,7 @@ module _ {L : Limits} {P : ℕ} (setting : Setting L P) (w : Board) (play : Play
       diff-is =
           ap (λ x. (x + 256 - w .nodes b .phase) % 256) (y .phase)
           ∙ ap (λ x. (m .phase % 256 + 256 - x) % 256)
-          (hold setting w play b hb .phase ∙ ap (λ n. n % 256) (sim .counts b))
+          (hold setting w play b receiver-lt .phase ∙ ap (λ n. n % 256) (sim .counts b))
 
       s-lt : s < p + p
       s-lt = subst (λ t. t < p + p) (y .step) (step-lt p (F .pass) (F .dim) (y .pass) (y .low))
@@ -364,7 +375,7 @@ module _ {L : Limits} {P : ℕ} (setting : Setting L P) (w : Board) (play : Play
           n = w .nodes b
 
           o : Holds setting b (w .count b) (w .nodes b) (stateOf ledger b)
-          o = hold setting w play b hb
+          o = hold setting w play b receiver-lt
 
           by : (F .pass ≡ 1) ⊎ (F .pass ≡ 2)
               → Holds setting b (w .count b) (stored (w .nodes b) F) (withStored (stateOf ledger b) s x)
@@ -385,10 +396,11 @@ module _ {L : Limits} {P : ℕ} (setting : Setting L P) (w : Board) (play : Play
                 seconds = o .seconds;
                 like =
                     subst (λ d. Like p (view p (withFirst n (set (n .first) (F .dim) (firstOf F))))
-                    (withStored (stateOf ledger b) s x)) (sym (dims-is setting w play b hb))
+                    (withStored (stateOf ledger b) s x)) (sym (dims-is setting w play b receiver-lt))
                     (subst (λ t. Like p (view p (withFirst n (set (n .first) (F .dim) (firstOf F))))
                     (withStored (stateOf ledger b) t x)) at-is
-                    (like-first p n (stateOf ledger b) (dims-is setting w play b hb) (o .like) (F .dim) (firstOf F) x
+                    (like-first p n (stateOf ledger b) (dims-is setting w play b receiver-lt) (o .like) (F .dim)
+                    (firstOf F) x
                     (y .low) (omega (arith, o .firsts, y .low, dim-low setting)) refl
                     (λ f h. y .first q f (subst (λ t. Has p t (fieldOf f)) at-is h))));
               })
@@ -413,7 +425,8 @@ module _ {L : Limits} {P : ℕ} (setting : Setting L P) (w : Board) (play : Play
                 like =
                     subst (λ t. Like p (view p (withSecond n (set (n .second) (F .dim) (secondOf F))))
                     (withStored (stateOf ledger b) t x)) at-is
-                    (like-second p n (stateOf ledger b) (dims-is setting w play b hb) (o .like) (F .dim) (secondOf F) x
+                    (like-second p n (stateOf ledger b) (dims-is setting w play b receiver-lt) (o .like) (F .dim)
+                    (secondOf F) x
                     (y .low) (omega (arith, o .seconds, y .low, dim-low setting)) refl
                     (λ f h. y .second q f (subst (λ t. Has p t (fieldOf f)) at-is h)));
               })
@@ -425,23 +438,24 @@ module _ {L : Limits} {P : ℕ} (setting : Setting L P) (w : Board) (play : Play
       stored-next : (v : State) (n : Node) → v .tallies ≡ stateOf ledger b .tallies
           → v .stored ≡ update (stateOf ledger b .stored) s (some x) → n .busy ≡ w .nodes b .busy
           → m .phase ≡ ledger .phase b → (tree setting) .awaited (dimOf p s) b ≡ some a
-          → Step (tree setting) (fieldLimit L) ledger (withState ledger b v (c .pre ++ c .post))
+          → Step (tree setting) (fieldLimit L) ledger (withState ledger b v (twin .pre ++ twin .post))
           → Holds setting b (w .count b) n v
           → Next setting w play (delivers a b)
           (record {
             nodes = put (w .nodes) b n;
-            items = f .pre ++ f .post;
+            items = place .pre ++ place .post;
             count = w .count;
             busy = w .busy;
             untaken = w .untaken;
             sends = w .sends;
           })
       stored-next v n tv sv nb ph awt st ok′ =
-          turned-to setting w play (delivers a b) b hb v n (c .pre ++ c .post) tv st ok′ (f .pre ++ f .post) pairs
+          turned-to setting w play (delivers a b) b receiver-lt v n (twin .pre ++ twin .post) tv st ok′
+          (place .pre ++ place .post) pairs
           (window-same (awaitedIn setting) (ledger .phase)
           (update (hasStored ledger) b (update (hasStored ledger b) s true))
-          (hasStored (withState ledger b v (c .pre ++ c .post))) (c .pre ++ c .post)
-          (seats ledger b (pageWith (ledger .pages (ledger .phase b)) b v) (c .pre ++ c .post) v refl
+          (hasStored (withState ledger b v (twin .pre ++ twin .post))) (twin .pre ++ twin .post)
+          (seats ledger b (pageWith (ledger .pages (ledger .phase b)) b v) (twin .pre ++ twin .post) v refl
           (λ z nd. (t : ℕ) → isSome (nd .stored t) ≡ update (hasStored ledger) b
           (update (hasStored ledger b) s true) z t)
           (λ t. ap (λ (g : ℕ → Option Entries). isSome (g t)) sv ∙ here t (ℕ-discrete t s)
@@ -450,11 +464,11 @@ module _ {L : Limits} {P : ℕ} (setting : Setting L P) (w : Board) (play : Play
           (λ z q t. sym (ap (λ (g : ℕ → Bool). g t)
           (update-other (hasStored ledger) b (update (hasStored ledger b) s true) z q))))
           (window-keeps (awaitedIn setting) (ledger .phase) (hasStored ledger) (ledger .items) (ledger .phase)
-          (update (hasStored ledger) b (update (hasStored ledger b) s true)) (c .pre ++ c .post)
-          (Move.store (c .pre) (c .post)
+          (update (hasStored ledger) b (update (hasStored ledger b) s true)) (twin .pre ++ twin .post)
+          (Move.store (twin .pre) (twin .post)
           (record { phase = m .phase; item = record { from = a; to = b; load = report s x } }) s
           (whole (report s x) ln) first refl ph) (sim .win)))
-          (w .busy) (nb ∙ sim .busy b hb) (λ z q. refl) named-less apart-less
+          (w .busy) (nb ∙ sim .busy b receiver-lt) (λ z q. refl) named-less apart-less
         where
           here : (t : ℕ) (d : Dec (t ≡ s))
               → isSome (pick {A = Option Entries} d (some x) (stateOf ledger b .stored t)) ≡ pick {A = Bool} d true
@@ -472,14 +486,15 @@ module _ {L : Limits} {P : ℕ} (setting : Setting L P) (w : Board) (play : Play
       frame-next q eq (FrameWay.foreign co d u v) =
           refused-next 8 (λ z. Mishap.badFrame a b m bs 8 e lf (ap (λ (q : Given Outcome). q .answer) eq) z)
       frame-next q eq (FrameWay.late co d) =
-          subst (λ l. Next setting w play (delivers a b) (carries (gave w b (w .nodes b)) l)) (sym (f .rest))
+          subst (λ l. Next setting w play (delivers a b) (carries (gave w b (w .nodes b)) l)) (sym (place .rest))
           (off-next (pageWith (ledger .pages (m .phase)) b (ledger .pages (m .phase) .nodes b))
-          (act-drop (tree setting) (fieldLimit L) ledger reached (c .pre) (c .post) (m .phase) a b s x
-          (whole (report s x) ln) hb (diff-late (m .phase) (ledger .phase b) not-ahead not-behind₂ (sym diff-is ∙ d)))
+          (act-drop (tree setting) (fieldLimit L) ledger reached (twin .pre) (twin .post) (m .phase) a b s x
+          (whole (report s x) ln) receiver-lt
+          (diff-late (m .phase) (ledger .phase b) not-ahead not-behind₂ (sym diff-is ∙ d)))
           (update-all (λ z nd. nd ≡ ledger .pages (m .phase) .nodes z) (ledger .pages (m .phase) .nodes) b
           (ledger .pages (m .phase) .nodes b) refl (λ z q. refl)) refl
           (inl (lossy-same ledger (m .phase)
-          (pageWith (ledger .pages (m .phase)) b (ledger .pages (m .phase) .nodes b)) (c .pre ++ c .post) refl)))
+          (pageWith (ledger .pages (m .phase)) b (ledger .pages (m .phase) .nodes b)) (twin .pre ++ twin .post) refl)))
       frame-next q eq (FrameWay.done co d) =
           subst (λ l. Next setting w play (delivers a b)
           (record {
@@ -489,11 +504,11 @@ module _ {L : Limits} {P : ℕ} (setting : Setting L P) (w : Board) (play : Play
             busy = w .busy;
             untaken = w .untaken;
             sends = w .sends;
-          })) (sym (f .rest))
+          })) (sym (place .rest))
           (cases (λ n. Next setting w play (delivers a b)
           (record {
             nodes = put (w .nodes) b n;
-            items = f .pre ++ f .post;
+            items = place .pre ++ place .post;
             count = w .count;
             busy = w .busy;
             untaken = w .untaken;
@@ -503,8 +518,8 @@ module _ {L : Limits} {P : ℕ} (setting : Setting L P) (w : Board) (play : Play
           (at (stored n F) (F .pass) (F .dim) false t) (stored n F)
           (λ l. stored-next (atStep (withStored (stateOf ledger b) s x) s false t)
           (at (stored n F) (F .pass) (F .dim) false t) refl refl busy-is ph aws
-          (act-fall (tree setting) (fieldLimit L) ledger reached (c .pre) (c .post) (m .phase) a b s x
-          (whole (report s x) ln) first ph hb s-lt aws t
+          (act-fall (tree setting) (fieldLimit L) ledger reached (twin .pre) (twin .post) (m .phase) a b s x
+          (whole (report s x) ln) first ph receiver-lt s-lt aws t
           (omega (
             arith,
             ltb-true (stepNumber (dims n) (F .pass) (F .dim))
@@ -513,8 +528,8 @@ module _ {L : Limits} {P : ℕ} (setting : Setting L P) (w : Board) (play : Play
           )) t-is)
           (fallen hold-stored))
           (λ l. stored-next (withStored (stateOf ledger b) s x) (stored n F) refl refl busy-is ph aws
-          (act-store (tree setting) (fieldLimit L) ledger reached (c .pre) (c .post) (m .phase) a b s x
-          (whole (report s x) ln) first ph hb s-lt aws
+          (act-store (tree setting) (fieldLimit L) ledger reached (twin .pre) (twin .post) (m .phase) a b s x
+          (whole (report s x) ln) first ph receiver-lt s-lt aws
           (omega (
             arith,
             ltb-false (stepNumber (dims n) (F .pass) (F .dim))
@@ -533,16 +548,16 @@ module _ {L : Limits} {P : ℕ} (setting : Setting L P) (w : Board) (play : Play
 
           aws : (tree setting) .awaited (dimOf p s) b ≡ some a
           aws =
-              let z = awaits-at setting w play b hb (F .dim) in
-              ap (λ d. (tree setting) .awaited d b) dim-s ∙ sym z ∙ co .awaits ∙ ap some (y .sender ∙ f .from-is)
+              let z = awaits-at setting w play b receiver-lt (F .dim) in
+              ap (λ d. (tree setting) .awaited d b) dim-s ∙ sym z ∙ co .awaits ∙ ap some (y .sender ∙ place .from-is)
 
           steps : (stepNumber (dims (w .nodes b)) (F .pass) (F .dim) ≡ s)
               × (stepNumber (dims (w .nodes b)) (w .nodes b .pass) (w .nodes b .dim) ≡ stateOf ledger b .step)
           steps = (
-            ap (λ d. stepNumber d (F .pass) (F .dim)) (dims-is setting w play b hb)
+            ap (λ d. stepNumber d (F .pass) (F .dim)) (dims-is setting w play b receiver-lt)
                 ∙ y .step,
-            ap (λ d. stepNumber d (w .nodes b .pass) (w .nodes b .dim)) (dims-is setting w play b hb)
-                ∙ hold setting w play b hb .like .step,
+            ap (λ d. stepNumber d (w .nodes b .pass) (w .nodes b .dim)) (dims-is setting w play b receiver-lt)
+                ∙ hold setting w play b receiver-lt .like .step,
           )
 
           t-is : p ≤ s → choose (eqb (F .pass) 1) 0 (w .nodes b .agreed) ≡ stateOf ledger b .agreed
@@ -553,7 +568,7 @@ module _ {L : Limits} {P : ℕ} (setting : Setting L P) (w : Board) (play : Play
               by (inl q) = absurd (omega (arith, step-first p (F .pass) (F .dim) q, y .step, y .low))
               by (inr q) =
                   choose-no 0 (w .nodes b .agreed) (ne-eqb (F .pass) 1 (λ z. omega arith))
-                  ∙ hold setting w play b hb .like .agreed
+                  ∙ hold setting w play b receiver-lt .like .agreed
 
           busy-is : stored (w .nodes b) F .busy ≡ w .nodes b .busy
           busy-is = cases (λ (n : Node). n .busy ≡ w .nodes b .busy) (eqb (F .pass) 1) _ _ (λ q. refl) (λ q. refl)
@@ -578,7 +593,7 @@ module _ {L : Limits} {P : ℕ} (setting : Setting L P) (w : Board) (play : Play
                     (o .like) (F .pass) (F .dim) false (choose (eqb (F .pass) 1) 0 (w .nodes b .agreed)) s (y .step);
               }
 
-    deliver-next : (l : Load) (l′ : Content) → m .load ≡ l → c .one .item .load ≡ l′
+    deliver-next : (l : Load) (l′ : Content) → m .load ≡ l → twin .one .item .load ≡ l′
         → Loads setting (m .from) (m .phase) l l′ → Next setting w play (delivers a b) (delivered L P w a b m l)
     deliver-next (work byte) message q q′ h =
         take-next byte q q′ h (take L (w .nodes b) a byte) refl (take-way L (w .nodes b) a byte)
@@ -588,7 +603,7 @@ module _ {L : Limits} {P : ℕ} (setting : Setting L P) (w : Board) (play : Play
         frame-next bs q s x q′ h (frameIn L (w .nodes b) bs) refl (frame-way L (w .nodes b) bs)
 
     pub delivery : Next setting w play (delivers a b) (delivered L P w a b m (m .load))
-    delivery = deliver-next (m .load) (c .one .item .load) refl refl (c .related .load)
+    delivery = deliver-next (m .load) (twin .one .item .load) refl refl (twin .related .load)
 
   pub oldest-next : (a b : ℕ) (o : Option Item) → oldest a b (w .items) ≡ o
       → Next setting w play (delivers a b) (deliveredOldest L P w a b o)

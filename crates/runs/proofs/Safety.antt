@@ -32,7 +32,7 @@ use Rattle.runs.proofs.Sim.{Sim}
 use Rattle.runs.proofs.Marks.{none-left}
 use Rattle.runs.proofs.Played.{Played, Next}
 use Rattle.runs.proofs.Calling.{leave-next}
-use Rattle.runs.proofs.Delivering.{c, ha, message-of, not-behind, same-phase}
+use Rattle.runs.proofs.Delivering.{message-of, not-behind, same-phase}
 use Rattle.runs.proofs.Steps.{next}
 
 done-not-refused : {A : Type 0} (x : ℕ) → refused x ≡ done → A
