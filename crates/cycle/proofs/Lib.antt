@@ -12,6 +12,8 @@ pub mod AtRest
 pub mod NodeOk
 pub mod Messages
 pub mod PhaseInvariant
+pub mod StillKept
+pub mod TallyKept
 pub mod PhaseKept
 pub mod NoStick
 pub mod Opening
