@@ -7,6 +7,7 @@ pub mod OwnSums
 pub mod Exact
 pub mod OnePhase
 pub mod Partners
+pub mod Newest
 pub mod Latest
 pub mod AtRest
 pub mod NodeOk

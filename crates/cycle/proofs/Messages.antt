@@ -8,7 +8,7 @@ use native.Mathlib.Omega.{arith}
 use Rattle.cycle.proofs.Sums.{update, update-same, update-other, pick}
 use Rattle.cycle.proofs.Exact.{Entries}
 use Rattle.cycle.proofs.OnePhase.{Content, message, report, Parcel, posts, OnLink, oneMore}
-use Rattle.cycle.proofs.Latest.{on-link}
+use Rattle.cycle.proofs.Newest.{on-link}
 
 -- ---- counting work under way
 

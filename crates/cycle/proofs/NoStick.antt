@@ -21,7 +21,8 @@ use Rattle.cycle.proofs.Exact.{Entry, sentTo, takenFrom, sentAll, taken
 use Rattle.cycle.proofs.Exact.{sum-swap}
 use Rattle.cycle.proofs.OnePhase.{Parcel, State, PhaseBoard, frameOf, dimOf, OnLink, Unheard, Agrees, alone}
 use Rattle.cycle.proofs.OnePhase.{first, second, HasEntry}
-use Rattle.cycle.proofs.Latest.{on-link, Stands, latest-none}
+use Rattle.cycle.proofs.Newest.{on-link, latest-none}
+use Rattle.cycle.proofs.Latest.{Stands}
 use Rattle.cycle.proofs.AtRest.{least, dim-first, dim-second, exact1, unstuck}
 use Rattle.cycle.proofs.NodeOk.{world, confirmedIn, StoredOk, NodeOk, own-most, linear, agreed-of, second-ok}
 use Rattle.cycle.proofs.Messages.{is-message, messages, messages-on}

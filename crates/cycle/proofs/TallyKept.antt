@@ -17,7 +17,8 @@ use Rattle.cycle.proofs.Exact.{Entry, sentTo, takenFrom, sentAll, taken
 use Rattle.cycle.proofs.OnePhase.{message, Parcel, State, PhaseBoard, dimOf, posts}
 use Rattle.cycle.proofs.OnePhase.{atStep, withTallies, changed, oneMore, bumpSent, bumpTaken}
 use Rattle.cycle.proofs.OnePhase.{Shell}
-use Rattle.cycle.proofs.Latest.{on-link, Latest}
+use Rattle.cycle.proofs.Newest.{on-link}
+use Rattle.cycle.proofs.Latest.{Latest}
 use Rattle.cycle.proofs.NodeOk.{world, ParcelOk, NodeOk}
 use Rattle.cycle.proofs.Messages.{messages, messages-on, messages-append, messages-on-append}
 use Rattle.cycle.proofs.Messages.{more-hit, more-column, more-other}

@@ -10,7 +10,7 @@ use Rattle.cycle.proofs.Sums.{sum-less, sum-at}
 use Rattle.cycle.proofs.Tree.{Tree}
 use Rattle.cycle.proofs.Exact.{sentTo, takenFrom, sentAll, takenAll}
 use Rattle.cycle.proofs.OnePhase.{message, Parcel, PhaseBoard, OnLink}
-use Rattle.cycle.proofs.Latest.{on-link}
+use Rattle.cycle.proofs.Newest.{on-link}
 use Rattle.cycle.proofs.Messages.{messages-on}
 use Rattle.cycle.proofs.PhaseInvariant.{PhaseInvariant}
 
