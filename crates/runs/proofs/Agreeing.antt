@@ -11,13 +11,12 @@ use Rattle.tree.specs.Tree.{dimension, awaited}
 use Rattle.node.specs.Sums.{Field, sentIn, takenIn, allSent, allTaken, dims, number, firstAt, secondAt, own, ownIssued}
 use Rattle.node.specs.Agree.{isNone, agrees}
 use Rattle.node.specs.declared.Node.{Node}
-use Rattle.cycle.proofs.Tree.{Tree}
 use Rattle.cycle.proofs.Exact.{Entry, sentTo, takenFrom, sentAll, takenAll, Entries, ownSums}
 use Rattle.cycle.proofs.OnePhase.{State, dimOf, Agrees, Above}
 use Rattle.cycle.proofs.AtRest.{dim-first, dim-second}
 use Rattle.cycle.proofs.Ledger.{Ledger, Reached}
 use Rattle.cycle.proofs.Events.{stateOf}
-use Rattle.runs.proofs.Setting.{Setting, tree, dim-pos, awaited-is}
+use Rattle.runs.proofs.Setting.{Setting, tree, awaited-is}
 use Rattle.node.proofs.Clauses.{Has, first-step, second-step}
 use Rattle.runs.proofs.View.{fieldOf, firstEntries, secondEntries, view, Alike, Like, slots-first, slots-second}
 use Rattle.runs.proofs.View.{own-is, issued-is, agree-like}
@@ -117,18 +116,12 @@ module _ {L : Limits} {P : ℕ} (setting : Setting L P) where
   abbrev p : ℕ
   p = dimension P
 
-  abbrev Z : 0 < dimension P
-  Z = dim-pos setting
-
-  abbrev T : Tree P (dimension P)
-  T = tree setting
-
   module _ (B : Ledger) (r : Reached (tree setting) (fieldLimit L) B) (a c : ℕ) (h : a < P) (n : Node)
       (o : Holds setting a c n (stateOf B a)) where
     dims-is : dims n ≡ p
     dims-is = ap dimension (o .nodes)
 
-    awaits : (k : ℕ) → awaited (n .nodes) k (n .number) ≡ T .awaited k a
+    awaits : (k : ℕ) → awaited (n .nodes) k (n .number) ≡ tree setting .awaited k a
     awaits k = rw (o .nodes, o .number) (awaited-is setting k a)
 
     -- a step that agrees in the proof agrees in the definitions
@@ -136,16 +129,16 @@ module _ {L : Limits} {P : ℕ} (setting : Setting L P) where
         → Agrees (dimension P) (fieldLimit L) (stateOf B a) k (tree setting .awaited (dimOf (dimension P) k) a)
         → agrees L n 1 k ≡ true
     agrees-first k l g =
-        agree-back-first L p n k (T .awaited k a) dims-is (awaits k) l
+        agree-back-first L p n k (tree setting .awaited k a) dims-is (awaits k) l
         (agree-like p (stateOf B a) (view p n) (like-sym p (view p n) (stateOf B a) (o .like)) (fieldLimit L) k
-        (T .awaited k a) (omega arith)
-        (subst (λ d. Agrees p (fieldLimit L) (stateOf B a) k (T .awaited d a)) (dim-first p k l) g))
+        (tree setting .awaited k a) (omega arith)
+        (subst (λ d. Agrees p (fieldLimit L) (stateOf B a) k (tree setting .awaited d a)) (dim-first p k l) g))
 
     pub agrees-second : (k : ℕ) → k < dimension P
         → Agrees (dimension P) (fieldLimit L) (stateOf B a) (dimension P + k)
         (tree setting .awaited (dimOf (dimension P) (dimension P + k)) a) → agrees L n 2 k ≡ true
     agrees-second k l g =
-        agree-back-second L p n k (T .awaited k a) dims-is (awaits k) l
+        agree-back-second L p n k (tree setting .awaited k a) dims-is (awaits k) l
         (agree-like p (stateOf B a) (view p n) (like-sym p (view p n) (stateOf B a) (o .like)) (fieldLimit L) (p + k)
-        (T .awaited k a) (omega arith)
-        (subst (λ d. Agrees p (fieldLimit L) (stateOf B a) (p + k) (T .awaited d a)) (dim-second p k) g))
+        (tree setting .awaited k a) (omega arith)
+        (subst (λ d. Agrees p (fieldLimit L) (stateOf B a) (p + k) (tree setting .awaited d a)) (dim-second p k) g))

@@ -59,9 +59,6 @@ module _ {L : Limits} {P : ℕ} (setting : Setting L P) (w : Board) (play : Play
   abbrev marks : Marks P (w .untaken) (w .sends) (w .items) (play .ledger)
   marks = play .marks
 
-  abbrev Z : 0 < dimension P
-  Z = dim-pos setting
-
   -- ---- barrier call: what is known of the node that calls
 
   module _ (a : ℕ) (h : a < P) where
@@ -96,12 +93,12 @@ module _ {L : Limits} {P : ℕ} (setting : Setting L P) (w : Board) (play : Play
 
     agree-of : agrees L (w .nodes a) (w .nodes a .pass) (w .nodes a .dim) ≡ true
         → Agrees p (fieldLimit L) (stateOf ledger a) (stateOf ledger a .step)
-        ((tree setting) .awaited (dimOf p (stateOf ledger a .step)) a)
+        (tree setting .awaited (dimOf p (stateOf ledger a .step)) a)
     agree-of g =
-        subst (λ d. Agrees p (fieldLimit L) (stateOf ledger a) (stateOf ledger a .step) ((tree setting) .awaited d a))
+        subst (λ d. Agrees p (fieldLimit L) (stateOf ledger a) (stateOf ledger a .step) (tree setting .awaited d a))
         (sym dim-at)
         (agree-like p (view p n) (stateOf ledger a) (o .like) (fieldLimit L) (stateOf ledger a .step)
-        ((tree setting) .awaited (n .dim) a)
+        (tree setting .awaited (n .dim) a)
         (invariant (tree setting) (fieldLimit L) ledger reached .now a (ledger .phase a) refl)
         (subst (Agrees p (fieldLimit L) (view p n) (stateOf ledger a .step)) awaits
         (subst (λ s. Agrees p (fieldLimit L) (view p n) s (awaited (n .nodes) (n .dim) (n .number))) (o .like .step)
@@ -169,7 +166,7 @@ module _ {L : Limits} {P : ℕ} (setting : Setting L P) (w : Board) (play : Play
 
     -- frames go out on their links, in order
     win-posts : (x : Entries) (s : ℕ) (rs : List ℕ) (ms : List Dated) → s < p + p
-        → All (λ c. (c < P) × ((tree setting) .awaited (dimOf p s) c ≡ some a)) rs
+        → All (λ c. (c < P) × (tree setting .awaited (dimOf p s) c ≡ some a)) rs
         → Window (awaitedIn setting) (ledger .phase) (hasStored ledger) ms
         → Window (awaitedIn setting) (ledger .phase) (hasStored ledger)
         (ms ++ dated (ledger .phase a) (posts a (report s x) rs))
@@ -192,7 +189,7 @@ module _ {L : Limits} {P : ℕ} (setting : Setting L P) (w : Board) (play : Play
         m = record { phase = ledger .phase a; item = record { from = a; to = c; load = report s x } }
 
     pair-posts : (bs : List ℕ) (s : ℕ) (x : Entries) (rs : List ℕ) → Says setting a (w .count a) (fieldsOf p bs) s x
-        → All (λ c. (c < P) × ((tree setting) .awaited (dimOf p s) c ≡ some a)) rs
+        → All (λ c. (c < P) × (tree setting .awaited (dimOf p s) c ≡ some a)) rs
         → Pair (Carried setting) (posted a bs (w .count a) rs) (dated (ledger .phase a) (posts a (report s x) rs))
     pair-posts bs s x [] b q = tt
     pair-posts bs s x (c ∷ rs) b q = (
@@ -304,7 +301,7 @@ module _ {L : Limits} {P : ℕ} (setting : Setting L P) (w : Board) (play : Play
               phase = ap (λ x. (x + 1) % 256) (hold setting w play a h .phase)
                   ∙ next-byte (w .count a);
               pass = inl refl;
-              low = Z;
+              low = dim-pos setting;
               sents = refl;
               takens = refl;
               firsts = refl;
@@ -342,17 +339,17 @@ module _ {L : Limits} {P : ℕ} (setting : Setting L P) (w : Board) (play : Play
         stored-all : (c s : ℕ) → awaitedIn setting s a ≡ some c → hasStored ledger a s ≡ true
         stored-all c s e = let q = awaited-below setting s a c e in by q (decLt s (stateOf ledger a .step))
           where
-            by : (s < p + p) × ((tree setting) .awaited (dimOf p s) a ≡ some c) → Dec (s < stateOf ledger a .step)
+            by : (s < p + p) × (tree setting .awaited (dimOf p s) a ≡ some c) → Dec (s < stateOf ledger a .step)
                 → hasStored ledger a s ≡ true
             by q (yes l) =
-                agree-has (stateOf ledger a) s c ((tree setting) .awaited (dimOf p s) a) (q .1)
+                agree-has (stateOf ledger a) s c (tree setting .awaited (dimOf p s) a) (q .1)
                 (invariant (tree setting) (fieldLimit L) ledger reached .fit
                 (ledger .phase a) .nodes-ok a h .agrees s l)
             by q (no l) =
                 let z : s ≡ stateOf ledger a .step = omega (arith, at-is, q .0) in
                 subst (λ s. hasStored ledger a s ≡ true) (sym z)
                 (agree-has (stateOf ledger a) (stateOf ledger a .step) c
-                ((tree setting) .awaited (dimOf p (stateOf ledger a .step)) a)
+                (tree setting .awaited (dimOf p (stateOf ledger a .step)) a)
                 (subst (λ s. (tree setting) .awaited (dimOf p s) a ≡ some c) z (q .1)) (agree-of g))
 
     pub call-next : (len : ℕ) (q : Given Barrier) → CallWay L (w .nodes a) len q
@@ -397,12 +394,12 @@ module _ {L : Limits} {P : ℕ} (setting : Setting L P) (w : Board) (play : Play
             (posts a (report (stateOf ledger a .step) (frameOf p (stateOf ledger a) (stateOf ledger a .step)))
             (receiversDue (w .nodes a)))
 
-        awaiting : All (λ c. (c < P) × ((tree setting) .awaited (dimOf p (stateOf ledger a .step)) c ≡ some a))
+        awaiting : All (λ c. (c < P) × (tree setting .awaited (dimOf p (stateOf ledger a .step)) c ≡ some a))
             (receiversDue (w .nodes a))
         awaiting =
-            subst (λ d. All (λ c. (c < P) × ((tree setting) .awaited d c ≡ some a)) (receiversDue (w .nodes a)))
+            subst (λ d. All (λ c. (c < P) × (tree setting .awaited d c ≡ some a)) (receiversDue (w .nodes a)))
             (sym dim-at)
-            (subst (All (λ c. (c < P) × ((tree setting) .awaited (w .nodes a .dim) c ≡ some a))) (sym rcv-is)
+            (subst (All (λ c. (c < P) × (tree setting .awaited (w .nodes a .dim) c ≡ some a))) (sym rcv-is)
             (receivers-await setting (w .nodes a .dim) a h))
     call-next len q (CallWay.waits v b m z g) =
         turns-still setting w play (calls a len) a h
@@ -455,8 +452,9 @@ module _ {L : Limits} {P : ℕ} (setting : Setting L P) (w : Board) (play : Play
         (at (w .nodes a) 2 0 true t) refl refl
         (act-move (tree setting) (fieldLimit L) ledger reached a t h (rest-of b) (mute-of m) (agree-of g)
         (λ z. absurd (omega (arith, at-is, hold setting w play a h .low)))
-        (λ z. total-is) (omega (arith, at-is, d′, Z)))
-        (hold-at 2 0 (suc (stateOf ledger a .step)) true t (inr refl) Z (omega (arith, at-is, d′))) (w .busy)
+        (λ z. total-is) (omega (arith, at-is, d′, dim-pos setting)))
+        (hold-at 2 0 (suc (stateOf ledger a .step)) true t (inr refl) (dim-pos setting) (omega (arith, at-is, d′)))
+        (w .busy)
         (sim .busy a h) (λ y z. refl)
       where
         t : ℕ
@@ -482,4 +480,4 @@ module _ {L : Limits} {P : ℕ} (setting : Setting L P) (w : Board) (play : Play
         two : (w .nodes a .pass ≡ 1) ⊎ (w .nodes a .pass ≡ 2) → w .nodes a .pass ≡ 2
         two (inl z) = absurd (e z)
         two (inr z) = z
-    call-next len q (CallWay.single v b d) = absurd (omega (arith, dims-is setting w play a h, Z))
+    call-next len q (CallWay.single v b d) = absurd (omega (arith, dims-is setting w play a h, dim-pos setting))

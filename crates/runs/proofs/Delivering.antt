@@ -71,9 +71,6 @@ module _ {L : Limits} {P : ℕ} (setting : Setting L P) (w : Board) (play : Play
   abbrev marks : Marks P (w .untaken) (w .sends) (w .items) (play .ledger)
   marks = play .marks
 
-  abbrev Z : 0 < dimension P
-  Z = dim-pos setting
-
   -- ---- deliveries
 
   msg-is : (u : Dated) (n a b : ℕ) → n ≡ u .phase → a ≡ u .item .from → b ≡ u .item .to
@@ -311,7 +308,7 @@ module _ {L : Limits} {P : ℕ} (setting : Setting L P) (w : Board) (play : Play
                 number = o .number;
                 phase = o .phase;
                 pass = inl refl;
-                low = Z;
+                low = dim-pos setting;
                 sents = o .sents;
                 takens = length-set (w .nodes b .taken) j _
                     ∙ o .takens;

@@ -23,13 +23,12 @@ use Rattle.node.specs.declared.Node.{Node}
 use Rattle.runs.specs.Board.{Item, Board, Event, run}
 use Rattle.runs.specs.Claim.{Goes, Lives, NoLoss}
 use Rattle.cycle.proofs.Sums.{pick}
-use Rattle.cycle.proofs.Tree.{Tree}
 use Rattle.cycle.proofs.Lists.{All}
 use Rattle.cycle.proofs.OnePhase.{Parcel, dimOf, Unheard, Agrees}
 use Rattle.cycle.proofs.AtRest.{least}
 use Rattle.cycle.proofs.Ledger.{Dated, Ledger, ofPhase, no-board-sticks}
 use Rattle.cycle.proofs.Events.{stateOf}
-use Rattle.runs.proofs.Setting.{Setting, tree, dim-pos}
+use Rattle.runs.proofs.Setting.{Setting, tree}
 use Rattle.node.proofs.Ways.{NoneDue, call-sends, call-looks}
 use Rattle.runs.proofs.Pairs.{Pair, pair-all}
 use Rattle.runs.proofs.Sim.{Carried, Sim}
@@ -148,12 +147,6 @@ module _ {L : Limits} {P : ℕ} (setting : Setting L P) where
   abbrev p : ℕ
   p = dimension P
 
-  abbrev Z : 0 < dimension P
-  Z = dim-pos setting
-
-  abbrev T : Tree P (dimension P)
-  T = tree setting
-
   module _ (w : Board) (s : Calm setting w) where
     abbrev B : Ledger
     B = s .played .ledger
@@ -202,7 +195,7 @@ module _ {L : Limits} {P : ℕ} (setting : Setting L P) where
         → (a : ℕ) × ((a < P) × ((w .count a ≡ w .count u)
         × (agrees L (w .nodes a) (w .nodes a .pass) (w .nodes a .dim) ≡ true)))
     stuck f1 f2 f3 =
-        let r = no-board-sticks T (fieldLimit L) (s .played .ledger) (s .played .reached) u hu
+        let r = no-board-sticks (tree setting) (fieldLimit L) (s .played .ledger) (s .played .reached) u hu
         (s .calm (s .played .ledger .phase u))
         (λ y h. omega (arith, old y h, i .counts u, i .counts y)) rest under isNone in
         (r .0, (r .1 .0, (back (r .0) (r .1 .1 .0), agrees-of (r .0) (r .1 .0) (r .1 .1 .0) (r .1 .1 .1))))
@@ -217,10 +210,10 @@ module _ {L : Limits} {P : ℕ} (setting : Setting L P) where
             (sym (i .node a h .like .busy) ∙ idle-of f1 a h (back a e))
 
         isNone : (a : ℕ) → a < P → s .played .ledger .phase a ≡ s .played .ledger .phase u
-            → (s .played .ledger .pages (s .played .ledger .phase u) .nodes a .flag ≡ false) ⊎ Unheard T a
+            → (s .played .ledger .pages (s .played .ledger .phase u) .nodes a .flag ≡ false) ⊎ Unheard (tree setting) a
             (s .played .ledger .pages (s .played .ledger .phase u) .nodes a .step)
         isNone a h e =
-            subst (λ n. (s .played .ledger .pages n .nodes a .flag ≡ false) ⊎ Unheard T a
+            subst (λ n. (s .played .ledger .pages n .nodes a .flag ≡ false) ⊎ Unheard (tree setting) a
             (s .played .ledger .pages n .nodes a .step)) e
             (mute-of setting w (s .played) a h (mute-now f3 a h (back a e)))
 
@@ -249,16 +242,16 @@ module _ {L : Limits} {P : ℕ} (setting : Setting L P) where
         agrees-of : (a : ℕ) → a < P → s .played .ledger .phase a ≡ s .played .ledger .phase u
             → Agrees p (fieldLimit L) (s .played .ledger .pages (s .played .ledger .phase u) .nodes a)
             (s .played .ledger .pages (s .played .ledger .phase u) .nodes a .step)
-            (T .awaited (dimOf p (s .played .ledger .pages (s .played .ledger .phase u) .nodes a .step)) a)
+            (tree setting .awaited (dimOf p (s .played .ledger .pages (s .played .ledger .phase u) .nodes a .step)) a)
             → agrees L (w .nodes a) (w .nodes a .pass) (w .nodes a .dim) ≡ true
         agrees-of a h e g =
             by (i .node a h .pass) (subst (λ n. Agrees p (fieldLimit L) (s .played .ledger .pages n .nodes a)
             (s .played .ledger .pages n .nodes a .step)
-            (T .awaited (dimOf p (s .played .ledger .pages n .nodes a .step)) a)) (sym e) g)
+            (tree setting .awaited (dimOf p (s .played .ledger .pages n .nodes a .step)) a)) (sym e) g)
           where
             by : (w .nodes a .pass ≡ 1) ⊎ (w .nodes a .pass ≡ 2)
                 → Agrees p (fieldLimit L) (stateOf (s .played .ledger) a) (stateOf (s .played .ledger) a .step)
-                (T .awaited (dimOf p (stateOf (s .played .ledger) a .step)) a)
+                (tree setting .awaited (dimOf p (stateOf (s .played .ledger) a .step)) a)
                 → agrees L (w .nodes a) (w .nodes a .pass) (w .nodes a .dim) ≡ true
             by (inl q) g =
                 let at-is : stateOf (s .played .ledger) a .step ≡ w .nodes a .dim = sym (i .node a h .like .step)
@@ -266,7 +259,8 @@ module _ {L : Limits} {P : ℕ} (setting : Setting L P) where
                 subst (λ x. agrees L (w .nodes a) x (w .nodes a .dim) ≡ true) (sym q)
                 (agrees-first setting (s .played .ledger) (s .played .reached) a (w .count a) h (w .nodes a)
                 (i .node a h) (w .nodes a .dim) (i .node a h .low)
-                (subst (λ t. Agrees p (fieldLimit L) (stateOf (s .played .ledger) a) t (T .awaited (dimOf p t) a))
+                (subst (λ t. Agrees p (fieldLimit L) (stateOf (s .played .ledger) a) t
+                (tree setting .awaited (dimOf p t) a))
                 at-is g))
             by (inr q) g =
                 let at-is : stateOf (s .played .ledger) a .step ≡ p + w .nodes a .dim = sym (i .node a h .like .step)
@@ -274,7 +268,8 @@ module _ {L : Limits} {P : ℕ} (setting : Setting L P) where
                 subst (λ x. agrees L (w .nodes a) x (w .nodes a .dim) ≡ true) (sym q)
                 (agrees-second setting (s .played .ledger) (s .played .reached) a (w .count a) h (w .nodes a)
                 (i .node a h) (w .nodes a .dim) (i .node a h .low)
-                (subst (λ t. Agrees p (fieldLimit L) (stateOf (s .played .ledger) a) t (T .awaited (dimOf p t) a))
+                (subst (λ t. Agrees p (fieldLimit L) (stateOf (s .played .ledger) a) t
+                (tree setting .awaited (dimOf p t) a))
                 at-is g))
 
     pub lives-now : Lives L P w

@@ -17,7 +17,6 @@ use Rattle.node.specs.Calls.{stepNumber, firstOf, secondOf}
 use Rattle.node.specs.declared.Node.{Node}
 use Rattle.runs.specs.Board.{put, Load, work, frame, Item, Board, gave}
 use Rattle.cycle.proofs.Sums.{pick, update, update-all, update-same, update-other}
-use Rattle.cycle.proofs.Tree.{Tree}
 use Rattle.cycle.proofs.Exact.{Entry, sentAll, Entries}
 use Rattle.cycle.proofs.OnePhase.{message, report, State, dimOf, Content}
 use Rattle.cycle.proofs.Ledger.{Dated, Page, Ledger}
@@ -71,25 +70,24 @@ module _ {L : Limits} {P : ℕ} (setting : Setting L P) where
   abbrev pub p : ℕ
   p = dimension P
 
-  abbrev pub T : Tree P p
-  T = tree setting
-
   -- the node whose frame c awaits in step s
   abbrev pub awaitedIn : ℕ → ℕ → Option ℕ
-  awaitedIn s c = pick (decLt s (p + p)) (T .awaited (dimOf p s) c) none
+  awaitedIn s c = pick (decLt s (p + p)) (tree setting .awaited (dimOf p s) c) none
 
-  pub awaited-in : (s c : ℕ) → s < p + p → awaitedIn s c ≡ T .awaited (dimOf p s) c
+  pub awaited-in : (s c : ℕ) → s < p + p → awaitedIn s c ≡ tree setting .awaited (dimOf p s) c
   awaited-in s c h = go (decLt s (p + p))
     where
-      go : (d : Dec (s < p + p)) → pick {A = Option ℕ} d (T .awaited (dimOf p s) c) none ≡ T .awaited (dimOf p s) c
+      go : (d : Dec (s < p + p)) → pick {A = Option ℕ} d
+          (tree setting .awaited (dimOf p s) c) none ≡ tree setting .awaited (dimOf p s) c
       go (yes d) = refl
       go (no d) = absurd (d h)
 
-  pub awaited-below : (s c a : ℕ) → awaitedIn s c ≡ some a → (s < p + p) × (T .awaited (dimOf p s) c ≡ some a)
+  pub awaited-below : (s c a : ℕ) → awaitedIn s c ≡ some a
+      → (s < p + p) × (tree setting .awaited (dimOf p s) c ≡ some a)
   awaited-below s c a h = go (decLt s (p + p)) h
     where
-      go : (d : Dec (s < p + p)) → pick {A = Option ℕ} d (T .awaited (dimOf p s) c) none ≡ some a
-          → (s < p + p) × (T .awaited (dimOf p s) c ≡ some a)
+      go : (d : Dec (s < p + p)) → pick {A = Option ℕ} d (tree setting .awaited (dimOf p s) c) none ≡ some a
+          → (s < p + p) × (tree setting .awaited (dimOf p s) c ≡ some a)
       go (yes d) e = (d, e)
       go (no d) e = let z : _≡_ {A = ℕ} 0 1 = cc in absurd (omega arith)
 
