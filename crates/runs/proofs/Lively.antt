@@ -148,11 +148,11 @@ module _ {L : Limits} {P : ℕ} (setting : Setting L P) where
   p = dimension P
 
   module _ (w : Board) (s : Calm setting w) where
-    abbrev B : Ledger
-    B = s .played .ledger
+    abbrev ledger : Ledger
+    ledger = s .played .ledger
 
-    i : Sim setting w (s .played .ledger)
-    i = s .played .sim
+    abbrev sim : Sim setting w (s .played .ledger)
+    sim = s .played .sim
 
     ok : (a : ℕ) → a < P → valid L (w .nodes a) ≡ true
     ok a h = s .accepted a h
@@ -183,7 +183,7 @@ module _ {L : Limits} {P : ℕ} (setting : Setting L P) where
 
     idle-of : ((a : ℕ) → a < P → (w .count a ≡ w .count u) × (w .busy a ≡ true) → ⊥) → (a : ℕ) → a < P
         → w .count a ≡ w .count u → w .nodes a .busy ≡ false
-    idle-of f a h e = i .busy a h ∙ false-is (w .busy a) (λ q. f a h (e, q))
+    idle-of f a h e = sim .busy a h ∙ false-is (w .busy a) (λ q. f a h (e, q))
 
     mute-now : ((a : ℕ) → a < P → (w .count a ≡ w .count u) × (Due (w .nodes a)) → ⊥) → (a : ℕ) → a < P
         → w .count a ≡ w .count u → NoneDue L (w .nodes a)
@@ -195,80 +195,80 @@ module _ {L : Limits} {P : ℕ} (setting : Setting L P) where
         → (a : ℕ) × ((a < P) × ((w .count a ≡ w .count u)
         × (agrees L (w .nodes a) (w .nodes a .pass) (w .nodes a .dim) ≡ true)))
     stuck f1 f2 f3 =
-        let r = no-board-sticks (tree setting) (fieldLimit L) (s .played .ledger) (s .played .reached) u hu
-        (s .calm (s .played .ledger .phase u))
-        (λ y h. omega (arith, old y h, i .counts u, i .counts y)) rest under isNone in
+        let r = no-board-sticks (tree setting) (fieldLimit L) ledger (s .played .reached) u hu
+        (s .calm (ledger .phase u))
+        (λ y h. omega (arith, old y h, sim .counts u, sim .counts y)) rest under isNone in
         (r .0, (r .1 .0, (back (r .0) (r .1 .1 .0), agrees-of (r .0) (r .1 .0) (r .1 .1 .0) (r .1 .1 .1))))
       where
-        back : (a : ℕ) → s .played .ledger .phase a ≡ s .played .ledger .phase u → w .count a ≡ w .count u
-        back a e = i .counts a ∙ e ∙ sym (i .counts u)
+        back : (a : ℕ) → ledger .phase a ≡ ledger .phase u → w .count a ≡ w .count u
+        back a e = sim .counts a ∙ e ∙ sym (sim .counts u)
 
-        rest : (a : ℕ) → a < P → s .played .ledger .phase a ≡ s .played .ledger .phase u
-            → s .played .ledger .pages (s .played .ledger .phase u) .nodes a .busy ≡ false
+        rest : (a : ℕ) → a < P → ledger .phase a ≡ ledger .phase u
+            → ledger .pages (ledger .phase u) .nodes a .busy ≡ false
         rest a h e =
-            subst (λ n. s .played .ledger .pages n .nodes a .busy ≡ false) e
-            (sym (i .node a h .like .busy) ∙ idle-of f1 a h (back a e))
+            subst (λ n. ledger .pages n .nodes a .busy ≡ false) e
+            (sym (sim .node a h .like .busy) ∙ idle-of f1 a h (back a e))
 
-        isNone : (a : ℕ) → a < P → s .played .ledger .phase a ≡ s .played .ledger .phase u
-            → (s .played .ledger .pages (s .played .ledger .phase u) .nodes a .flag ≡ false) ⊎ Unheard (tree setting) a
-            (s .played .ledger .pages (s .played .ledger .phase u) .nodes a .step)
+        isNone : (a : ℕ) → a < P → ledger .phase a ≡ ledger .phase u
+            → (ledger .pages (ledger .phase u) .nodes a .flag ≡ false) ⊎ Unheard (tree setting) a
+            (ledger .pages (ledger .phase u) .nodes a .step)
         isNone a h e =
-            subst (λ n. (s .played .ledger .pages n .nodes a .flag ≡ false) ⊎ Unheard (tree setting) a
-            (s .played .ledger .pages n .nodes a .step)) e
+            subst (λ n. (ledger .pages n .nodes a .flag ≡ false) ⊎ Unheard (tree setting) a
+            (ledger .pages n .nodes a .step)) e
             (mute-of setting w (s .played) a h (mute-now f3 a h (back a e)))
 
-        under : All (λ t. (t .to < P) × (s .played .ledger .phase u < s .played .ledger .phase (t .to)))
-            (ofPhase (s .played .ledger .phase u) (s .played .ledger .items))
+        under : All (λ t. (t .to < P) × (ledger .phase u < ledger .phase (t .to)))
+            (ofPhase (ledger .phase u) (ledger .items))
         under =
-            phase-all (s .played .ledger .phase u)
-            (λ t. (t .to < P) × (s .played .ledger .phase u < s .played .ledger .phase (t .to)))
-            (s .played .ledger .items)
+            phase-all (ledger .phase u)
+            (λ t. (t .to < P) × (ledger .phase u < ledger .phase (t .to)))
+            (ledger .items)
             (pair-all (Carried setting) (λ m. (m .phase ≡ w .count u) × (w .count (m .to) ≡ w .count u) → ⊥)
-            (λ m. m .phase ≡ s .played .ledger .phase u
-            → (m .item .to < P) × (s .played .ledger .phase u < s .played .ledger .phase (m .item .to)))
-            (λ m t c f e. one m t c f e) (w .items) (s .played .ledger .items) (i .items) f2)
+            (λ m. m .phase ≡ ledger .phase u
+            → (m .item .to < P) × (ledger .phase u < ledger .phase (m .item .to)))
+            (λ m t c f e. one m t c f e) (w .items) (ledger .items) (sim .items) f2)
           where
             one : (m : Item) (t : Dated) → Carried setting m t
                 → ((m .phase ≡ w .count u) × (w .count (m .to) ≡ w .count u) → ⊥)
-                → t .phase ≡ s .played .ledger .phase u
-                → (t .item .to < P) × (s .played .ledger .phase u < s .played .ledger .phase (t .item .to))
+                → t .phase ≡ ledger .phase u
+                → (t .item .to < P) × (ledger .phase u < ledger .phase (t .item .to))
             one m t c f e =
                 let d : m .to < P = c .to-lt in
-                let z : w .count (m .to) ≡ s .played .ledger .phase (t .item .to) = i .counts (m .to)
-                ∙ ap (s .played .ledger .phase) (c .to) in
-                let ne : w .count (m .to) ≢ w .count u = λ y. f (c .phase ∙ e ∙ sym (i .counts u), y) in
-                (omega (arith, c .to), omega (arith, old (m .to) d, i .counts u, z, ne))
+                let z : w .count (m .to) ≡ ledger .phase (t .item .to) = sim .counts (m .to)
+                ∙ ap (ledger .phase) (c .to) in
+                let ne : w .count (m .to) ≢ w .count u = λ y. f (c .phase ∙ e ∙ sym (sim .counts u), y) in
+                (omega (arith, c .to), omega (arith, old (m .to) d, sim .counts u, z, ne))
 
-        agrees-of : (a : ℕ) → a < P → s .played .ledger .phase a ≡ s .played .ledger .phase u
-            → Agrees p (fieldLimit L) (s .played .ledger .pages (s .played .ledger .phase u) .nodes a)
-            (s .played .ledger .pages (s .played .ledger .phase u) .nodes a .step)
-            (tree setting .awaited (dimOf p (s .played .ledger .pages (s .played .ledger .phase u) .nodes a .step)) a)
+        agrees-of : (a : ℕ) → a < P → ledger .phase a ≡ ledger .phase u
+            → Agrees p (fieldLimit L) (ledger .pages (ledger .phase u) .nodes a)
+            (ledger .pages (ledger .phase u) .nodes a .step)
+            (tree setting .awaited (dimOf p (ledger .pages (ledger .phase u) .nodes a .step)) a)
             → agrees L (w .nodes a) (w .nodes a .pass) (w .nodes a .dim) ≡ true
         agrees-of a h e g =
-            by (i .node a h .pass) (subst (λ n. Agrees p (fieldLimit L) (s .played .ledger .pages n .nodes a)
-            (s .played .ledger .pages n .nodes a .step)
-            (tree setting .awaited (dimOf p (s .played .ledger .pages n .nodes a .step)) a)) (sym e) g)
+            by (sim .node a h .pass) (subst (λ n. Agrees p (fieldLimit L) (ledger .pages n .nodes a)
+            (ledger .pages n .nodes a .step)
+            (tree setting .awaited (dimOf p (ledger .pages n .nodes a .step)) a)) (sym e) g)
           where
             by : (w .nodes a .pass ≡ 1) ⊎ (w .nodes a .pass ≡ 2)
-                → Agrees p (fieldLimit L) (stateOf (s .played .ledger) a) (stateOf (s .played .ledger) a .step)
-                (tree setting .awaited (dimOf p (stateOf (s .played .ledger) a .step)) a)
+                → Agrees p (fieldLimit L) (stateOf ledger a) (stateOf ledger a .step)
+                (tree setting .awaited (dimOf p (stateOf ledger a .step)) a)
                 → agrees L (w .nodes a) (w .nodes a .pass) (w .nodes a .dim) ≡ true
             by (inl q) g =
-                let at-is : stateOf (s .played .ledger) a .step ≡ w .nodes a .dim = sym (i .node a h .like .step)
+                let at-is : stateOf ledger a .step ≡ w .nodes a .dim = sym (sim .node a h .like .step)
                 ∙ step-first p (w .nodes a .pass) (w .nodes a .dim) q in
                 subst (λ x. agrees L (w .nodes a) x (w .nodes a .dim) ≡ true) (sym q)
-                (agrees-first setting (s .played .ledger) (s .played .reached) a (w .count a) h (w .nodes a)
-                (i .node a h) (w .nodes a .dim) (i .node a h .low)
-                (subst (λ t. Agrees p (fieldLimit L) (stateOf (s .played .ledger) a) t
+                (agrees-first setting ledger (s .played .reached) a (w .count a) h (w .nodes a)
+                (sim .node a h) (w .nodes a .dim) (sim .node a h .low)
+                (subst (λ t. Agrees p (fieldLimit L) (stateOf ledger a) t
                 (tree setting .awaited (dimOf p t) a))
                 at-is g))
             by (inr q) g =
-                let at-is : stateOf (s .played .ledger) a .step ≡ p + w .nodes a .dim = sym (i .node a h .like .step)
+                let at-is : stateOf ledger a .step ≡ p + w .nodes a .dim = sym (sim .node a h .like .step)
                 ∙ step-second p (w .nodes a .pass) (w .nodes a .dim) q in
                 subst (λ x. agrees L (w .nodes a) x (w .nodes a .dim) ≡ true) (sym q)
-                (agrees-second setting (s .played .ledger) (s .played .reached) a (w .count a) h (w .nodes a)
-                (i .node a h) (w .nodes a .dim) (i .node a h .low)
-                (subst (λ t. Agrees p (fieldLimit L) (stateOf (s .played .ledger) a) t
+                (agrees-second setting ledger (s .played .reached) a (w .count a) h (w .nodes a)
+                (sim .node a h) (w .nodes a .dim) (sim .node a h .low)
+                (subst (λ t. Agrees p (fieldLimit L) (stateOf ledger a) t
                 (tree setting .awaited (dimOf p t) a))
                 at-is g))
 
@@ -286,8 +286,8 @@ module _ {L : Limits} {P : ℕ} (setting : Setting L P) where
         frame-le a h len l =
             let z : frameLength (dims (w .nodes a)) (w .nodes a .pass) (w .nodes a .dim) ≡ frameLength p
             (w .nodes a .pass) (w .nodes a .dim) =
-            ap (λ d. frameLength d (w .nodes a .pass) (w .nodes a .dim)) (ap dimension (i .node a h .nodes)) in
-            omega (arith, z, longest L P p (w .nodes a .pass) (w .nodes a .dim) (i .node a h .pass))
+            ap (λ d. frameLength d (w .nodes a .pass) (w .nodes a .dim)) (ap dimension (sim .node a h .nodes)) in
+            omega (arith, z, longest L P p (w .nodes a .pass) (w .nodes a .dim) (sim .node a h .pass))
 
         go : ((a : ℕ) × ((a < P) × ((w .count a ≡ w .count u) × (w .busy a ≡ true))))
             ⊎ ((a : ℕ) → a < P → (w .count a ≡ w .count u) × (w .busy a ≡ true) → ⊥)
@@ -299,7 +299,7 @@ module _ {L : Limits} {P : ℕ} (setting : Setting L P) where
         go (inl r) f2 f3 = Lives.busy (r .0) (r .1 .0, from-old (r .0) (r .1 .1 .0)) (r .1 .1 .1)
         go (inr f1) (inl r) f3 =
             Lives.underWay (r .0 .to) (
-              to-lt (w .items) (s .played .ledger .items) (i .items) (r .0) (r .1 .0),
+              to-lt (w .items) (ledger .items) (sim .items) (r .0) (r .1 .0),
               from-old (r .0 .to) (r .1 .1 .1),
             ) (r .0) (r .1 .0) refl (r .1 .1 .0 ∙ sym (r .1 .1 .1))
         go (inr f1) (inr f2) (inl r) =

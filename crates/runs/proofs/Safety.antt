@@ -98,11 +98,11 @@ module _ {L : Limits} {P : ℕ} (setting : Setting L P) where
   -- ---- each clause, of a board that is played
 
   module _ (w : Board) (q : Played setting w) where
-    abbrev B : Ledger
-    B = q .ledger
+    abbrev ledger : Ledger
+    ledger = q .ledger
 
-    i : Sim setting w (q .ledger)
-    i = q .sim
+    abbrev sim : Sim setting w (q .ledger)
+    sim = q .sim
 
     send-busy : (a b : ℕ) (y : Given Outcome) → SendWay L (w .nodes a) b y → y .answer ≡ done → w .nodes a .busy ≡ true
     send-busy a b y (SendWay.refused x s) e = done-not-refused x e
@@ -114,9 +114,9 @@ module _ {L : Limits} {P : ℕ} (setting : Setting L P) where
     -- in a phase that somebody has left, a node is idle
     left-idle : (a n b : ℕ) → a < P → n < w .count a → b < P → w .count b ≡ n → w .nodes b .busy ≡ false
     left-idle a n b ha l hb′ e =
-        let o = safe (tree setting) (fieldLimit L) (q .ledger) (q .reached) a n ha (omega (arith, i .counts a)) in
-        let z : n ≡ q .ledger .phase b = sym e ∙ i .counts b in
-        i .node b hb′ .like .busy ∙ subst (λ n. q .ledger .pages n .nodes b .busy ≡ false) z (o .idle b hb′)
+        let o = safe (tree setting) (fieldLimit L) ledger (q .reached) a n ha (omega (arith, sim .counts a)) in
+        let z : n ≡ ledger .phase b = sym e ∙ sim .counts b in
+        sim .node b hb′ .like .busy ∙ subst (λ n. ledger .pages n .nodes b .busy ≡ false) z (o .idle b hb′)
 
     -- what an event does to busy and count of a node
     data Change (e : Event) (a : ℕ) (w′ : Board) : Type 0 where
@@ -173,8 +173,8 @@ module _ {L : Limits} {P : ℕ} (setting : Setting L P) where
     take-phase x b m byte y old lw (TakeWay.refused n s) e = done-not-refused n e
     take-phase x b m byte y old lw (TakeWay.done v a1 a2 df cap) e =
         let j = message-of setting w q x b m old byte lw in (
-          same-phase setting w q x b m old byte lw (j .0) (j .1) df ∙ sym (i .counts b),
-          λ z h. omega (arith, not-behind setting w q x b m old byte lw (j .0) (j .1) z h, i .counts z),
+          same-phase setting w q x b m old byte lw (j .0) (j .1) df ∙ sym (sim .counts b),
+          λ z h. omega (arith, not-behind setting w q x b m old byte lw (j .0) (j .1) z h, sim .counts z),
         )
 
     awoken : (x b a : ℕ) (m : Item) (n : Node) → TakeDone L P w b (w .count b) (delivers x b)
@@ -249,7 +249,7 @@ module _ {L : Limits} {P : ℕ} (setting : Setting L P) where
     gone a len h y (CallWay.waits v b m z g) e = let z : _≡_ {A = ℕ} 0 1 = cc in absurd (omega arith)
     gone a len h y (CallWay.next v b m g d) e = let z : _≡_ {A = ℕ} 0 1 = cc in absurd (omega arith)
     gone a len h y (CallWay.second v b m z g d k) e = let z : _≡_ {A = ℕ} 0 1 = cc in absurd (omega arith)
-    gone a len h y (CallWay.single v b d) e = absurd (omega (arith, ap dimension (i .node a h .nodes), dim-pos setting))
+    gone a len h y (CallWay.single v b d) e = absurd (omega (arith, ap dimension (sim .node a h .nodes), dim-pos setting))
     gone a len h y (CallWay.leaves v b m z g d k) e =
         record {
           taken = none-left P (w .untaken) (w .sends) (w .items) (nx .played .ledger) (nx .played .marks)
@@ -276,8 +276,8 @@ module _ {L : Limits} {P : ℕ} (setting : Setting L P) where
               sends = w .sends;
             })
         nx =
-            leave-next setting w q a h len b m g (omega (arith, ap dimension (i .node a h .nodes), i .node a h .low, d))
-            (two (i .node a h .pass))
+            leave-next setting w q a h len b m g (omega (arith, ap dimension (sim .node a h .nodes), sim .node a h .low, d))
+            (two (sim .node a h .pass))
 
         up : nx .played .ledger .phase a ≡ suc (w .count a)
         up = sym (nx .played .sim .counts a) ∙ put-same (w .count) a (suc (w .count a))
@@ -291,9 +291,9 @@ module _ {L : Limits} {P : ℕ} (setting : Setting L P) where
         stays x z = sym (nx .played .sim .counts x) ∙ put-other (w .count) a (suc (w .count a)) x z
 
         idles′ : (x : ℕ) → x < P → w .count x ≡ w .count a → Dec (x ≡ a) → w .busy x ≡ false
-        idles′ x hx z (yes s) = sym (i .busy x hx) ∙ ap (λ x. w .nodes x .busy) s ∙ b
+        idles′ x hx z (yes s) = sym (sim .busy x hx) ∙ ap (λ x. w .nodes x .busy) s ∙ b
         idles′ x hx z (no s) =
-            sym (i .busy x hx) ∙ sym (ap (λ (n : Node). n .busy) (put-other (w .nodes) a n′ x s))
+            sym (sim .busy x hx) ∙ sym (ap (λ (n : Node). n .busy) (put-other (w .nodes) a n′ x s))
             ∙ nx .played .sim .node x hx .like .busy
             ∙ subst (λ n. nx .played .ledger .pages n .nodes x .busy ≡ false) (sym z ∙ sym (stays x s)) (o .idle x hx)
 
@@ -315,8 +315,8 @@ module _ {L : Limits} {P : ℕ} (setting : Setting L P) where
     pub is-safe : Safe L P w
     is-safe =
         record {
-          busySend = λ a b h e. sym (i .busy a h) ∙ node-busy a b e;
-          busyIs = λ a h. i .busy a h;
+          busySend = λ a b h e. sym (sim .busy a h) ∙ node-busy a b e;
+          busyIs = λ a h. sim .busy a h;
           wakes = wakes;
           leavesTaken = λ a len h e. gone-at a len h e .taken;
           leavesIdle = λ a len h e. gone-at a len h e .idle;
