@@ -71,13 +71,7 @@ pageLost w =
     }
 
 module _ {P p : ℕ} (tree : Tree P p) (limit : ℕ) where
-  abbrev pub Stp : Ledger → Ledger → Type 0
-  Stp = Step tree limit
-
-  abbrev pub Rch : Ledger → Type 0
-  Rch = Reached tree limit
-
-  module _ (b : Ledger) (r : Rch b) where
+  module _ (b : Ledger) (r : Reached tree limit b) where
     now : (a : ℕ) → stateOf b a .step < p + p
     now a = invariant tree limit b r .now a (b .phase a) refl
 
@@ -85,14 +79,14 @@ module _ {P p : ℕ} (tree : Tree P p) (limit : ℕ) where
     there a v n h = subst (λ u. u .step < p + p) (sym (update-same (b .pages n .nodes) a v)) h
 
     pub act-rest : (a : ℕ) → a < P
-        → Stp b (withState b a (withTallies (stateOf b a) false (stateOf b a .tallies)) (b .items))
+        → Step tree limit b (withState b a (withTallies (stateOf b a) false (stateOf b a .tallies)) (b .items))
     act-rest a h =
         Step.acts a _ (b .items) h (Turn.rests a h) (λ m q. refl)
         (λ y q. update-other (b .pages (b .phase a) .nodes) a _ y q) (there a _ (b .phase a) (now a))
 
     pub act-send : (a c j : ℕ) → a < P → c < P → j < p → Shell tree a c j → stateOf b a .busy ≡ true
         → length (b .pages (b .phase a) .senders) < limit
-        → Stp b (ledgerWith b (b .phase a)
+        → Step tree limit b (ledgerWith b (b .phase a)
         (pageSent (b .pages (b .phase a)) a c (withTallies (stateOf b a) true (bumpSent (stateOf b a .tallies) j)))
         (b .items ++ dated (b .phase a) (posts a message (c ∷ []))))
     act-send a c j h hc jp s bu l =
@@ -109,7 +103,8 @@ module _ {P p : ℕ} (tree : Tree P p) (limit : ℕ) where
 
     pub act-wait : (a : ℕ) → a < P → stateOf b a .busy ≡ false
         → (stateOf b a .flag ≡ false) ⊎ Unheard tree a (stateOf b a .step)
-        → Stp b (withState b a (atStep (stateOf b a) (stateOf b a .step) false (stateOf b a .agreed)) (b .items))
+        → Step tree limit b (withState b a (atStep (stateOf b a) (stateOf b a .step) false (stateOf b a .agreed))
+        (b .items))
     act-wait a h bu f =
         Step.acts a _ (b .items) h (Turn.waits a h bu f) (λ m q. refl)
         (λ y q. update-other (b .pages (b .phase a) .nodes) a _ y q) (there a _ (b .phase a) (now a))
@@ -120,7 +115,7 @@ module _ {P p : ℕ} (tree : Tree P p) (limit : ℕ) where
         → (p ≤ stateOf b a .step → t ≡ stateOf b a .agreed)
         → (suc (stateOf b a .step) ≡ p → t ≡ ownSums (stateOf b a .tallies) (stateOf b a .stored) p takenAll)
         → suc (stateOf b a .step) < p + p
-        → Stp b (withState b a (atStep (stateOf b a) (suc (stateOf b a .step)) true t) (b .items))
+        → Step tree limit b (withState b a (atStep (stateOf b a) (suc (stateOf b a .step)) true t) (b .items))
     act-move a t h bu f ag t1 t2 l =
         Step.acts a _ (b .items) h (Turn.moves a t h bu (now a) f ag t1 t2) (λ m q. refl)
         (λ y q. update-other (b .pages (b .phase a) .nodes) a _ y q) (there a _ (b .phase a) l)
@@ -131,7 +126,7 @@ module _ {P p : ℕ} (tree : Tree P p) (limit : ℕ) where
         → (p ≤ stateOf b a .step → t ≡ stateOf b a .agreed)
         → (suc (stateOf b a .step) ≡ p → t ≡ ownSums (stateOf b a .tallies) (stateOf b a .stored) p takenAll)
         → p + p ≤ suc (stateOf b a .step)
-        → Stp b (record {
+        → Step tree limit b (record {
           phase = update (b .phase) a (suc (b .phase a));
           pages = update (b .pages) (b .phase a)
               (pageWith (b .pages (b .phase a)) a (atStep (stateOf b a) (suc (stateOf b a .step)) true t));
@@ -146,7 +141,7 @@ module _ {P p : ℕ} (tree : Tree P p) (limit : ℕ) where
     pub act-put : (a : ℕ) (rs : List ℕ) → a < P → stateOf b a .busy ≡ false
         → ((c : ℕ) → c < P → tree .awaited (dimOf p (stateOf b a .step)) c ≡ some a
         → (xs : List ℕ) × ((ys : List ℕ) × (rs ≡ xs ++ c ∷ ys)))
-        → Stp b (withState b a (atStep (stateOf b a) (stateOf b a .step) false (stateOf b a .agreed))
+        → Step tree limit b (withState b a (atStep (stateOf b a) (stateOf b a .step) false (stateOf b a .agreed))
         (b .items ++ dated (b .phase a)
         (posts a (report (stateOf b a .step) (frameOf p (stateOf b a) (stateOf b a .step))) rs)))
     act-put a rs h bu k =
@@ -170,7 +165,7 @@ module _ {P p : ℕ} (tree : Tree P p) (limit : ℕ) where
 
     module _ (xs ys : List Dated) (n a c : ℕ) where
       pub act-lose : (l : Content) → b .items ≡ xs ++ record { phase = n; item = record { from = a; to = c; load = l } }
-          ∷ ys → Stp b (ledgerWith b n (pageLost (b .pages n)) (xs ++ ys))
+          ∷ ys → Step tree limit b (ledgerWith b n (pageLost (b .pages n)) (xs ++ ys))
       act-lose l e =
           Step.late n _ (xs ++ ys)
           (subst (λ is. Turn tree limit (phaseOf b n) (boardOf (pageLost (b .pages n)) is)) (sym (phase-append n xs ys))
@@ -182,7 +177,7 @@ module _ {P p : ℕ} (tree : Tree P p) (limit : ℕ) where
       pub act-drop : (s : ℕ) (x : Entries)
           → b .items ≡ xs ++ record { phase = n; item = record { from = a; to = c; load = report s x } } ∷ ys → c < P
           → n < b .phase c
-          → Stp b (ledgerWith b n (pageWith (b .pages n) c (b .pages n .nodes c)) (xs ++ ys))
+          → Step tree limit b (ledgerWith b n (pageWith (b .pages n) c (b .pages n .nodes c)) (xs ++ ys))
       act-drop s x e h l =
           Step.late n _ (xs ++ ys)
           (subst (λ is. Turn tree limit (phaseOf b n) (boardOf (pageWith (b .pages n) c (b .pages n .nodes c)) is))
@@ -195,7 +190,7 @@ module _ {P p : ℕ} (tree : Tree P p) (limit : ℕ) where
 
       pub act-take : (j : ℕ) → b .items ≡ xs ++ record { phase = n; item = record { from = a; to = c; load = message } }
           ∷ ys → n ≡ b .phase c → a < P → c < P → j < p → Shell tree c a j
-          → Stp b (ledgerWith b (b .phase c)
+          → Step tree limit b (ledgerWith b (b .phase c)
           (pageTaken (b .pages (b .phase c)) a c
           (atStep (withTallies (stateOf b c) true (bumpTaken (stateOf b c .tallies) j)) 0 true 0)) (xs ++ ys))
       act-take j e ph ha hc jp s =
@@ -217,7 +212,8 @@ module _ {P p : ℕ} (tree : Tree P p) (limit : ℕ) where
           (e : b .items ≡ xs ++ record { phase = n; item = record { from = a; to = c; load = report s x } } ∷ ys)
           (f : FirstDated xs a c) (ph : n ≡ b .phase c)
           (hc : c < P) (sp : s < p + p) (aw : tree .awaited (dimOf p s) c ≡ some a) where
-        pub act-store : stateOf b c .step ≤ s → Stp b (withState b c (withStored (stateOf b c) s x) (xs ++ ys))
+        pub act-store : stateOf b c .step ≤ s
+            → Step tree limit b (withState b c (withStored (stateOf b c) s x) (xs ++ ys))
         act-store l =
             Step.acts c _ (xs ++ ys) hc
             (subst (λ is. Turn tree limit (phaseOf b m)
@@ -232,7 +228,7 @@ module _ {P p : ℕ} (tree : Tree P p) (limit : ℕ) where
             m = b .phase c
 
         pub act-fall : (t : ℕ) → s < stateOf b c .step → (p ≤ s → t ≡ stateOf b c .agreed)
-            → Stp b (withState b c (atStep (withStored (stateOf b c) s x) s false t) (xs ++ ys))
+            → Step tree limit b (withState b c (atStep (withStored (stateOf b c) s x) s false t) (xs ++ ys))
         act-fall t l q =
             Step.acts c _ (xs ++ ys) hc
             (subst (λ is. Turn tree limit (phaseOf b m)

@@ -76,7 +76,7 @@ module _ {P p : ℕ} (tree : Tree P p) where
   abbrev pub SameRun : ℕ → ℕ → ℕ → Type 0
   SameRun k a y = (y < P) × (tree .low k y ≡ tree .low k a) × (tree .size k y ≡ tree .size k a)
 
-  pub wider : (k b w y : ℕ) → Meet (tree .low) (tree .size) k b w → InRun k b y → InRun (suc k) b y
+  wider : (k b w y : ℕ) → Meet (tree .low) (tree .size) k b w → InRun k b y → InRun (suc k) b y
   wider k b w y (Meet.right i j l) h = omega arith
   wider k b w y (Meet.left i j l) h = omega arith
 

@@ -28,12 +28,12 @@ pub data Growth (P : ℕ) (w w′ : Course) : Type 0 where
 abbrev pub Claims : ℕ → Course → ℕ → ℕ → ℕ → Type 0
 Claims P w y s T = Claim (w .senders) (totalTaken P w) (w .done y) y s T
 
-pub got-grows : (P : ℕ) (w w′ : Course) → Growth P w w′ → (y : ℕ) → w .taken y ≤ w′ .taken y
+got-grows : (P : ℕ) (w w′ : Course) → Growth P w w′ → (y : ℕ) → w .taken y ≤ w′ .taken y
 got-grows P w w′ (same a b c) y = omega (arith, b y)
 got-grows P w w′ (sends z zP a b n c) y = omega (arith, b y)
 got-grows P w w′ (takes-one a b c) y = b y
 
-pub claim-keep : (P : ℕ) (w w′ : Course) (y s T : ℕ) → Growth P w w′ → T ≤ length (w .senders) → Claims P w y s T
+claim-keep : (P : ℕ) (w w′ : Course) (y s T : ℕ) → Growth P w w′ → T ≤ length (w .senders) → Claims P w y s T
     → Claims P w′ y s T
 claim-keep P w w′ y s T (same a b c) t (over h) = over (rw a h)
 claim-keep P w w′ y s T (same a b c) t (quiet e f g d) =
@@ -62,7 +62,7 @@ pub record Claimed (P : ℕ) (w : Course) (low n T x : ℕ) : Type 0 where
   pub adds : x ≡ sum part low n
   pub claims : (y : ℕ) → low ≤ y → y < low + n → Claims P w y (part y) T
 
-pub at-most-keep : (P : ℕ) (w w′ : Course) (low n x : ℕ) → Growth P w w′ → AtMost w low n x → AtMost w′ low n x
+at-most-keep : (P : ℕ) (w w′ : Course) (low n x : ℕ) → Growth P w w′ → AtMost w low n x → AtMost w′ low n x
 at-most-keep P w w′ low n x e h = omega (arith, sum-le (w .taken) (w′ .taken) low n (λ i a b. got-grows P w w′ e i))
 
 pub claimed-keep : (P : ℕ) (w w′ : Course) (low n T x : ℕ) → totalTaken P w ≤ length (w .senders) → Growth P w w′

@@ -123,7 +123,7 @@ module _ {P p : ℕ} (tree : Tree P p) (limit : ℕ) where
       (phase-keeps tree limit (phaseOf b n) (boardOf w (ofPhase n ms)) g (i .fit n))
       (λ m q. subst (λ is. PhaseInvariant tree limit (boardOf (b .pages m) is)) (sym (o m q)) (i .fit m))
 
-  pub keeps : (b b′ : Ledger) → Step b b′ → Invariant b → Invariant b′
+  keeps : (b b′ : Ledger) → Step b b′ → Invariant b → Invariant b′
   keeps b b′ stay i = i
   keeps b b′ (acts a w ms h g o s l) i =
       record {

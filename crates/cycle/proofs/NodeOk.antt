@@ -165,7 +165,7 @@ module _ {P p : ℕ} (tree : Tree P p) (limit : ℕ) where
   agreed-of v k o (first w x l g c1 c2 c3 c4) = absurd (omega arith)
   agreed-of v k o (second w x l g c3 c5 c6) = rw g c5
 
-  pub tot-le : (b : PhaseBoard) (a : ℕ) (n : State) → a < P → NodeOk b a n → n .tallies ≡ b .nodes a .tallies
+  tot-le : (b : PhaseBoard) (a : ℕ) (n : State) → a < P → NodeOk b a n → n .tallies ≡ b .nodes a .tallies
       → p ≤ n .step → n .agreed ≤ totalTaken P (world b)
   tot-le b a n h ok e l =
       let q = rw (tree .low-top a h, tree .size-top a h) at (own-most b a n h ok e takenAll tt p (omega arith)) in

@@ -26,7 +26,7 @@ next-counts y n l h e =
     let b : count y (take (suc n) l) ≡ count y (take n l ++ (y ∷ [])) = rw (take-suc l n 0 h, e) refl in
     omega (arith, count-append y (take n l) (y ∷ []), update-same {A = ℕ} (λ j. 0) y 1)
 
-pub claim-make : (l : List ℕ) (R : ℕ) (Q : Type 0) (y T : ℕ) → T ≤ R → R ≤ length l → Q → Claim l R Q y (count y l) T
+claim-make : (l : List ℕ) (R : ℕ) (Q : Type 0) (y T : ℕ) → T ≤ R → R ≤ length l → Q → Claim l R Q y (count y l) T
 claim-make l R Q y T a b q = go (decLt (firsts l T y) (count y l)) (decLt T (length l))
   where
     go : Dec (firsts l T y < count y l) → Dec (T < length l) → Claim l R Q y (count y l) T

@@ -45,7 +45,7 @@ module _ {P p : ℕ} (tree : Tree P p) (limit : ℕ) where
   pub reach : (b : PhaseBoard) → PhaseInvariant b → totalTaken P (world b) ≤ length (b .senders)
   reach b i = omega (arith, i .covers)
 
-  pub frame-keep : (b b′ : PhaseBoard) → Growth P (world b) (world b′)
+  frame-keep : (b b′ : PhaseBoard) → Growth P (world b) (world b′)
       → ((y : ℕ) (f : Entry) → b .nodes y .tallies f ≤ b′ .nodes y .tallies f)
       → totalTaken P (world b) ≤ length (b .senders)
       → (s w : ℕ) (x : Entries) → FrameOk tree limit b s w x → FrameOk tree limit b′ s w x

@@ -106,7 +106,7 @@ sum-update f i v low (suc n) a b = go (λ b′. sum-update f i v low n a b′) (
 abbrev pub one : ℕ → ℕ → ℕ
 one x = update (λ j. 0) x 1
 
-pub sum-one : (x low n : ℕ) → low ≤ x → x < low + n → sum (one x) low n ≡ 1
+sum-one : (x low n : ℕ) → low ≤ x → x < low + n → sum (one x) low n ≡ 1
 sum-one x low n a b = let h = sum-update (λ j. 0) x 1 low n a b in let z = sum-zero low n in omega arith
 
 abbrev pub count : ℕ → List ℕ → ℕ
@@ -133,8 +133,8 @@ count-snoc-other xs x y n = omega (arith, count-append y xs (x ∷ []), update-o
 abbrev pub Below : ℕ → List ℕ → Type 0
 Below P l = (i : ℕ) → i < length l → getD l i 0 < P
 
-pub Below-take : (P n : ℕ) (l : List ℕ) → n ≤ length l → Below P l → Below P (take n l)
-Below-take P n l a b i h =
+below-take : (P n : ℕ) (l : List ℕ) → n ≤ length l → Below P l → Below P (take n l)
+below-take P n l a b i h =
     let e = length-take-le n l a in
     let k : i < n = omega arith in
     rw (getD-take n l i 0 k) (b i (omega arith))
@@ -148,7 +148,7 @@ sum-count P (x ∷ xs) b =
     omega arith
 
 pub sum-count-take : (P n : ℕ) (l : List ℕ) → n ≤ length l → Below P l → sum (λ y. count y (take n l)) 0 P ≡ n
-sum-count-take P n l a b = sum-count P (take n l) (Below-take P n l a b) ∙ length-take-le n l a
+sum-count-take P n l a b = sum-count P (take n l) (below-take P n l a b) ∙ length-take-le n l a
 
 -- the first n entries of a list that grows are the same
 pub take-snoc : (n : ℕ) (l : List ℕ) (x : ℕ) → n ≤ length l → take n (snoc l x) ≡ take n l

@@ -28,7 +28,7 @@ alike-sym p s none (some y) h = absurd h
 alike-sym p s (some x) none h = absurd h
 alike-sym p s (some x) (some y) h = λ f q. sym (h f q)
 
-pub like-sym : (p : ℕ) (v u : State) → Like p v u → Like p u v
+like-sym : (p : ℕ) (v u : State) → Like p v u → Like p u v
 like-sym p v u h =
     record {
       busy = sym (h .busy);

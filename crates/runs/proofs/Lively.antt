@@ -272,7 +272,7 @@ module _ {L : Limits} {P : ℕ} (setting : Setting L P) where
                 (tree setting .awaited (dimOf p t) a))
                 at-is g))
 
-    pub lives-now : Lives L P w
+    lives-now : Lives L P w
     lives-now =
         go (search-below (λ a. (w .count a ≡ w .count u) × (w .busy a ≡ true))
         (λ a. both-dec (ℕ-discrete (w .count a) (w .count u)) (true-dec (w .busy a))) P)

@@ -227,7 +227,7 @@ module _ (L : Limits) (one-node : 1 ≤ L .nodes) where
             (λ len q. subst (λ n. Goes L 1 (barrier L n len .answer)) (sym (i .node ∙ ap (only (i .phase)) e))
             (subst (λ (y : Given Barrier). Goes L 1 (y .answer)) (sym (call-idle (i .phase) len)) Goes.leaving))
 
-  pub lone-on : (w : Board) → Alone w → (es : List Event) → Alone (after L 1 w es)
+  lone-on : (w : Board) → Alone w → (es : List Event) → Alone (after L 1 w es)
   lone-on w i [] = i
   lone-on w i (e ∷ es) = lone-on (step L 1 w e) (went w i e .alone) es
 

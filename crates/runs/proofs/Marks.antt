@@ -22,14 +22,14 @@ abbrev pub hit : ℕ → Option ℕ → ℕ
 hit n none = 0
 hit n (some k) = pick (ℕ-discrete k n) 1 0
 
-pub hit-same : (n : ℕ) → hit n (some n) ≡ 1
+hit-same : (n : ℕ) → hit n (some n) ≡ 1
 hit-same n = go (ℕ-discrete n n)
   where
     go : (d : Dec (n ≡ n)) → pick {A = ℕ} d 1 0 ≡ 1
     go (yes d) = refl
     go (no d) = absurd (d refl)
 
-pub hit-other : (k n : ℕ) → k ≢ n → hit n (some k) ≡ 0
+hit-other : (k n : ℕ) → k ≢ n → hit n (some k) ≡ 0
 hit-other k n q = go (ℕ-discrete k n)
   where
     go : (d : Dec (k ≡ n)) → pick {A = ℕ} d 1 0 ≡ 0
@@ -65,7 +65,7 @@ apart-snoc (x ∷ xs) m h a = (
   apart-snoc xs m (h .1) (a .1),
 )
 
-pub frame-not-work : {A : Type 0} (m : Item) (bs : List ℕ) → m .load ≡ frame bs → IsWork m → A
+frame-not-work : {A : Type 0} (m : Item) (bs : List ℕ) → m .load ≡ frame bs → IsWork m → A
 frame-not-work m bs e w = let q = w .1 in let b = w .0 in go b q
   where
     go : {A : Type 0} (b : ℕ) → m .load ≡ work b → A

@@ -85,10 +85,10 @@ module _ {L : Limits} {P : ℕ} (setting : Setting L P) where
   unfolding begun
   begun-calm n = refl
 
-  pub one-more : (w : Board) → Played setting w → (e : Event) → Played setting (step L P w e)
+  one-more : (w : Board) → Played setting w → (e : Event) → Played setting (step L P w e)
   one-more w q e = next setting w q e .played
 
-  pub played-on : (w : Board) → Played setting w → (es : List Event) → Played setting (after L P w es)
+  played-on : (w : Board) → Played setting w → (es : List Event) → Played setting (after L P w es)
   played-on w q [] = q
   played-on w q (e ∷ es) = played-on (step L P w e) (one-more w q e) es
 
@@ -312,7 +312,7 @@ module _ {L : Limits} {P : ℕ} (setting : Setting L P) where
               (take-way L (w .nodes b) x byte) d .1 a h,
         )
 
-    pub is-safe : Safe L P w
+    is-safe : Safe L P w
     is-safe =
         record {
           busySend = λ a b h e. sym (sim .busy a h) ∙ node-busy a b e;

@@ -1,21 +1,19 @@
 -- Functions changed at one place, as the board and as the ledger has them.
-use mathlib.Core.Path.{_≡_, refl, sym, ap, subst}
+use mathlib.Core.Path.{_≡_, refl, sym, subst}
 use mathlib.Core.Logic.{_≢_}
 use mathlib.Core.Bool.{Bool, true, false}
-use Prim.Native.Nat.{ℕ, zero, suc, _+_}
+use Prim.Native.Nat.{ℕ}
 use native.Mathlib.Decide.{ℕ-discrete}
-use native.Mathlib.Omega.{arith}
 use lib.Dec.{eqb}
 use borrow.Author.Tests.{eqb-true, eqb-false, eq-eqb, ne-eqb}
 use Rattle.base.specs.Choice.{choose}
 use Rattle.base.proofs.Laws.{choose-yes, choose-no, cases}
-use Rattle.node.specs.Sums.{total}
 use Rattle.node.specs.Change.{at}
 use Rattle.runs.specs.Board.{put}
-use Rattle.cycle.proofs.Sums.{pick, update, sum}
+use Rattle.cycle.proofs.Sums.{pick, update}
 
 -- a choice by a test and one by a decision
-pub bridge : {A B : Type 0} (t : Bool) (d : Dec B) (x y u v : A) → (t ≡ true → B) → (t ≡ false → B → ⊥)
+bridge : {A B : Type 0} (t : Bool) (d : Dec B) (x y u v : A) → (t ≡ true → B) → (t ≡ false → B → ⊥)
     → (B → x ≡ u) → ((B → ⊥) → y ≡ v) → choose t x y ≡ pick d u v
 bridge true (yes b) x y u v f g p q = p b
 bridge true (no n) x y u v f g p q = absurd (n (f refl))
@@ -38,12 +36,3 @@ put-all F f i v at rest j =
 pub put-update : {A : Type 0} (f : ℕ → A) (i : ℕ) (v : A) (j : ℕ) → put f i v j ≡ update f i v j
 put-update f i v j =
     bridge (eqb j i) (ℕ-discrete j i) v (f j) v (f j) (eqb-true j i) (eqb-false j i) (λ b. refl) (λ n. refl)
-
--- ---- listed values and sums
-
-pub total-sum : (f : ℕ → ℕ) (n : ℕ) → total f n ≡ sum f 0 n
-total-sum f zero = refl
-total-sum f (suc n) =
-    let r = total-sum f n in
-    let z : f n ≡ f (0 + n) = ap f (omega arith) in
-    omega arith

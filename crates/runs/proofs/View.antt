@@ -249,7 +249,7 @@ agree-second L p n k e l a = go (awaited (n .nodes) k (n .number)) refl
 
 -- ---- what the calls change
 
-pub same-tal : (n n′ : Node) → n′ .nodes ≡ n .nodes → n′ .sent ≡ n .sent → n′ .taken ≡ n .taken → (f : Field)
+same-tal : (n n′ : Node) → n′ .nodes ≡ n .nodes → n′ .sent ≡ n .sent → n′ .taken ≡ n .taken → (f : Field)
     → tally n′ f ≡ tally n f
 same-tal n n′ a b c (sentIn m) = rw b refl
 same-tal n n′ a b c (takenIn m) = rw c refl
@@ -259,14 +259,14 @@ same-tal n n′ a b c allTaken = rw (a, c) refl
 -- a tally counted up in an array
 module _ {A : Type 0} (sel : A → ℕ) (l : List A) (d r : A) (m : ℕ) (h : m < length l)
     (e : sel r ≡ sel (getD l m d) + 1) where
-  pub bump-at : (j : ℕ) → sel (getD (set l m r) j d) ≡ update (λ i. sel (getD l i d)) m (suc (sel (getD l m d))) j
+  bump-at : (j : ℕ) → sel (getD (set l m r) j d) ≡ update (λ i. sel (getD l i d)) m (suc (sel (getD l m d))) j
   bump-at j = go (ℕ-discrete j m)
     where
       go : (q : Dec (j ≡ m)) → sel (getD (set l m r) j d) ≡ pick {A = ℕ} q (suc (sel (getD l m d))) (sel (getD l j d))
       go (yes q) = ap (λ i. sel (getD (set l m r) i d)) q ∙ ap sel (getD-set-same l m r d h) ∙ omega arith
       go (no q) = ap sel (getD-set-other l m j r d q)
 
-  pub bump-total : (p : ℕ) → m < p → total (λ j. sel (getD (set l m r) j d)) p ≡ suc (total (λ j. sel (getD l j d)) p)
+  bump-total : (p : ℕ) → m < p → total (λ j. sel (getD (set l m r) j d)) p ≡ suc (total (λ j. sel (getD l j d)) p)
   bump-total p b =
       let same = update-same (λ i. sel (getD l i d)) m (suc (sel (getD l m d))) in
       total-more (λ j. sel (getD l j d)) (λ j. sel (getD (set l m r) j d)) m p b (bump-at m ∙ same ∙ omega arith)
