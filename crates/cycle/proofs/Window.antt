@@ -104,10 +104,10 @@ module _ (awaited : ℕ → ℕ → Option ℕ) where
         window = all-mid (Close phase) xs ys m (subst (All (Close phase)) e (i .window)) .1;
       }
 
-  pub window-keeps : (phase : ℕ → ℕ) (holds : ℕ → ℕ → Bool) (items : List Dated) (phase′ : ℕ → ℕ)
-      (holds′ : ℕ → ℕ → Bool) (items′ : List Dated)
+  pub window-keeps : {phase : ℕ → ℕ} {holds : ℕ → ℕ → Bool} {items : List Dated} {phase′ : ℕ → ℕ}
+      {holds′ : ℕ → ℕ → Bool} {items′ : List Dated}
       → Move phase holds items phase′ holds′ items′ → Window phase holds items → Window phase′ holds′ items′
-  window-keeps phase holds items phase′ holds′ items′ (out m e w pa) i =
+  window-keeps {phase} {holds} {items} (out m e w pa) i =
       record {
         order = ordered-snoc items m (i .order) (all-map (Sent phase) (λ k. SameLink k m → k .phase ≤ m .phase)
             (λ k l s. let z : phase (m .item .from) ≡ phase (k .item .from) = ap phase (s .0) in omega arith) items
@@ -122,8 +122,8 @@ module _ (awaited : ℕ → ℕ → Option ℕ) where
         partner = all-append Partnered items (m ∷ []) (i .partner) (pa, tt);
         window = all-append (Close phase) items (m ∷ []) (i .window) ((λ s q. w), tt);
       }
-  window-keeps phase holds items phase′ holds′ items′ (off xs ys m e) i = window-off phase holds items xs ys m e i
-  window-keeps phase holds items phase′ holds′ items′ (store xs ys m s e f q p) i =
+  window-keeps {phase} {holds} {items} (off xs ys m e) i = window-off phase holds items xs ys m e i
+  window-keeps {phase} {holds} {items} (store xs ys m s e f q p) i =
       let r = window-off phase holds items xs ys m e i in
       record {
         order = r .order;
@@ -168,7 +168,7 @@ module _ (awaited : ℕ → ℕ → Option ℕ) where
           → phase c₀ ≤ phase a
       new-behind a t aw h (yes z) = let k = ap phase (from-is a t aw z) in omega (arith, sent-m, p)
       new-behind a t aw h (no z) = i .behind c₀ a t aw (sym (update-other (holds c₀) s true t z) ∙ h)
-  window-keeps phase holds items phase′ holds′ items′ (leave c st) i =
+  window-keeps {phase} {holds} {items} (leave c st) i =
       record {
         order = i .order;
         sent =

@@ -179,8 +179,7 @@ module _ {L : Limits} {P : ℕ} (setting : Setting L P) (w : Board) (play : Play
         subst (Window (awaitedIn setting) (ledger .phase) (hasStored ledger))
         (append-assoc ms (m ∷ []) (dated (ledger .phase a) (posts a (report s x) rs)))
         (win-posts x s rs (ms ++ (m ∷ [])) l (q .1)
-        (window-keeps (awaitedIn setting) (ledger .phase) (hasStored ledger) ms (ledger .phase) (hasStored ledger)
-        (ms ++ (m ∷ []))
+        (window-keeps (awaitedIn setting)
         (Move.out m refl (within-one (tree setting) (fieldLimit L) ledger reached c a (q .0 .0) h)
         (λ t e. let z : s ≡ t = cc in subst
         (λ t. awaitedIn setting t c ≡ some a) z (awaited-in setting s c l ∙ q .0 .1))) i))
@@ -232,12 +231,9 @@ module _ {L : Limits} {P : ℕ} (setting : Setting L P) (w : Board) (play : Play
                   (λ y z q. sim .busy y q ∙ sym (put-other (w .busy) a true y z));
               items = sim .items;
               win =
-                  window-same (awaitedIn setting) (update (ledger .phase) a (suc (ledger .phase a)))
-                  (update (hasStored ledger) a (λ s. false)) (hasStored after) (ledger .items)
+                  window-same
                   (λ c. hass c (ℕ-discrete c a))
-                  (window-keeps (awaitedIn setting) (ledger .phase) (hasStored ledger) (ledger .items)
-                  (update (ledger .phase) a (suc (ledger .phase a))) (update (hasStored ledger) a (λ s. false))
-                  (ledger .items) (Move.leave a stored-all) (sim .win));
+                  (window-keeps (awaitedIn setting) (Move.leave a stored-all) (sim .win));
               capped =
                   update-all (λ m w. (y : ℕ) → y < P → w .nodes y .tallies sentAll ≤ L .sends) (ledger .pages)
                   (ledger .phase a) u
@@ -247,7 +243,7 @@ module _ {L : Limits} {P : ℕ} (setting : Setting L P) (w : Board) (play : Play
                   (λ m z y q. sim .capped m y q);
             };
             marks =
-                marks-same P (w .untaken) (w .sends) (w .items) (w .items) ledger after marks (marks .named)
+                marks-same P marks (marks .named)
                 (marks .apart) (takes-same P ledger a u v (ledger .items) refl refl)
                 (log-same P ledger (ledger .phase a) u (ledger .items) refl);
           };
@@ -370,7 +366,7 @@ module _ {L : Limits} {P : ℕ} (setting : Setting L P) (w : Board) (play : Play
         (pair-posts (frameBytes (dims (w .nodes a)) (frameDue (w .nodes a))) (stateOf ledger a .step) x
         (receiversDue (w .nodes a)) (emitted setting a (w .count a) (w .nodes a) (stateOf ledger a)
         (hold setting w play a h) v) awaiting))
-        (window-same (awaitedIn setting) (ledger .phase) (hasStored ledger) _ ms
+        (window-same
         (stored-same setting w ledger sim a h
         (pageWith (ledger .pages (ledger .phase a)) a
         (atStep (stateOf ledger a) (stateOf ledger a .step) false (stateOf ledger a .agreed)))

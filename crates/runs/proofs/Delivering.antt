@@ -116,8 +116,7 @@ module _ {L : Limits} {P : ℕ} (setting : Setting L P) (w : Board) (play : Play
 
     off-win : Window (awaitedIn setting) (ledger .phase) (hasStored ledger) (twin .pre ++ twin .post)
     off-win =
-        window-keeps (awaitedIn setting) (ledger .phase) (hasStored ledger) (ledger .items) (ledger .phase)
-        (hasStored ledger) (twin .pre ++ twin .post) (Move.off (twin .pre) (twin .post) (twin .one) (twin .whole))
+        window-keeps (awaitedIn setting) (Move.off (twin .pre) (twin .post) (twin .one) (twin .whole))
         (sim .win)
 
     named-less : All (Named (w .untaken) (w .sends)) (place .pre ++ place .post)
@@ -155,8 +154,7 @@ module _ {L : Limits} {P : ℕ} (setting : Setting L P) (w : Board) (play : Play
                 (λ n y. update-all (λ n w. w .nodes y ≡ ledger .pages n .nodes y) (ledger .pages) (m .phase) u (nd y)
                 (λ n z. refl) n) off-win (w .untaken) (w .sends);
             marks =
-                marks-same P (w .untaken) (w .sends) (w .items) (place .pre ++ place .post) ledger
-                (ledgerWith ledger (m .phase) u (twin .pre ++ twin .post)) marks named-less apart-less
+                marks-same P marks named-less apart-less
                 (update-all (λ n w. sum (λ y. w .nodes y .tallies takenAll) 0 P ≡ sum
                 (λ y. ledger .pages n .nodes y .tallies takenAll) 0 P) (ledger .pages) (m .phase) u
                 (sum-ext (λ y. u .nodes y .tallies takenAll)
@@ -246,8 +244,7 @@ module _ {L : Limits} {P : ℕ} (setting : Setting L P) (w : Board) (play : Play
               sim =
                   acted setting w ledger sim b receiver-lt u v refl n′ ok′ (sim .capped (ledger .phase b) b receiver-lt)
                   (place .pre ++ place .post) ms pairs
-                  (window-same (awaitedIn setting) (ledger .phase) (hasStored ledger)
-                  (hasStored (ledgerWith ledger (ledger .phase b) u ms)) ms
+                  (window-same
                   (stored-same setting w ledger sim b receiver-lt u v refl n′ ok′
                   (sim .capped (ledger .phase b) b receiver-lt) ms
                   (λ s. refl)) off-win)
@@ -449,9 +446,7 @@ module _ {L : Limits} {P : ℕ} (setting : Setting L P) (w : Board) (play : Play
       stored-next v n tv sv nb ph awt st ok′ =
           turned-to setting w play (delivers a b) b receiver-lt v n (twin .pre ++ twin .post) tv st ok′
           (place .pre ++ place .post) pairs
-          (window-same (awaitedIn setting) (ledger .phase)
-          (update (hasStored ledger) b (update (hasStored ledger b) s true))
-          (hasStored (withState ledger b v (twin .pre ++ twin .post))) (twin .pre ++ twin .post)
+          (window-same
           (seats ledger b (pageWith (ledger .pages (ledger .phase b)) b v) (twin .pre ++ twin .post) v refl
           (λ z nd. (t : ℕ) → isSome (nd .stored t) ≡ update (hasStored ledger) b
           (update (hasStored ledger b) s true) z t)
@@ -460,8 +455,7 @@ module _ {L : Limits} {P : ℕ} (setting : Setting L P) (w : Board) (play : Play
           (update-same (hasStored ledger) b (update (hasStored ledger b) s true))))
           (λ z q t. sym (ap (λ (g : ℕ → Bool). g t)
           (update-other (hasStored ledger) b (update (hasStored ledger b) s true) z q))))
-          (window-keeps (awaitedIn setting) (ledger .phase) (hasStored ledger) (ledger .items) (ledger .phase)
-          (update (hasStored ledger) b (update (hasStored ledger b) s true)) (twin .pre ++ twin .post)
+          (window-keeps (awaitedIn setting)
           (Move.store (twin .pre) (twin .post)
           (record { phase = m .phase; item = record { from = a; to = b; load = report s x } }) s
           (whole (report s x) ln) first refl ph) (sim .win)))

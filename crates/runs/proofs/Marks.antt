@@ -86,10 +86,10 @@ module _ (P : ℕ) where
     pub apart : Apart is
 
   -- nothing sent, nothing taken
-  pub marks-same : (ut : ℕ → Option ℕ) (sd : ℕ) (is js : List Item) (B C : Ledger) → Marks ut sd is B
+  pub marks-same : {ut : ℕ → Option ℕ} {sd : ℕ} {is js : List Item} {B C : Ledger} → Marks ut sd is B
       → All (Named ut sd) js → Apart js
       → ((n : ℕ) → takesIn C n ≡ takesIn B n) → ((n : ℕ) → C .pages n .senders ≡ B .pages n .senders) → Marks ut sd js C
-  marks-same ut sd is js B C m na ap′ t l =
+  marks-same m na ap′ t l =
       record { tidy = m .tidy; sums = λ n. omega (arith, m .sums n, t n, ap length (l n)); named = na; apart = ap′ }
 
   pub less-named : (ut : ℕ → Option ℕ) (sd : ℕ) (xs ys : List Item) (m : Item) → All (Named ut sd) (xs ++ m ∷ ys)

@@ -100,7 +100,7 @@ module _ {L : Limits} {P : ℕ} (setting : Setting L P) (w : Board) (play : Play
               bu
               b1 b2 (w .untaken) (w .sends);
           marks =
-              marks-same P (w .untaken) (w .sends) (w .items) is ledger (withState ledger a v ms) marks na ap′
+              marks-same P marks na ap′
               (takes-same P ledger a (pageWith (ledger .pages (ledger .phase a)) a v) v ms refl
               (ap (λ (t : Entries). t takenAll) tv))
               (log-same P ledger (ledger .phase a) (pageWith (ledger .pages (ledger .phase a)) a v) ms refl);
@@ -124,8 +124,7 @@ module _ {L : Limits} {P : ℕ} (setting : Setting L P) (w : Board) (play : Play
       })
   turns-still e a h v n tv sv st ok bu b1 b2 =
       turned-to e a h v n (ledger .items) tv st ok (w .items) (sim .items)
-      (window-same (awaitedIn setting) (ledger .phase) (hasStored ledger)
-      (hasStored (withState ledger a v (ledger .items))) (ledger .items)
+      (window-same
       (stored-same setting w ledger sim a h (pageWith (ledger .pages (ledger .phase a)) a v) v refl n ok
       (subst (λ (t : Entries). t sentAll ≤ L .sends) (sym tv) (sim .capped (ledger .phase a) a h)) (ledger .items)
       (λ s. ap (λ (g : ℕ → Option Entries). g s) sv)) (sim .win))

@@ -111,12 +111,10 @@ module _ {L : Limits} {P : ℕ} (setting : Setting L P) (w : Board) (play : Play
                 },
                 tt,
               ))
-              (window-same (awaitedIn setting) (ledger .phase) (hasStored ledger)
-              (hasStored (ledgerWith ledger (ledger .phase a) u ms)) ms
+              (window-same
               (stored-same setting w ledger sim a h u v refl n′
               ok′ (omega (arith, less)) ms (λ s. refl))
-              (window-keeps (awaitedIn setting) (ledger .phase) (hasStored ledger) (ledger .items) (ledger .phase)
-              (hasStored ledger) ms (Move.out
+              (window-keeps (awaitedIn setting) (Move.out
               (record { phase = ledger .phase a; item = record { from = a; to = b; load = message } }) refl
               (within-one (tree setting) (fieldLimit L) ledger reached b a hb h)
               (λ s q. let z : _≡_ {A = ℕ} 0 1 = cc in absurd (omega arith))) (sim .win)))

@@ -54,9 +54,9 @@ seats B a u ms v e F at rest y =
         subst (F y) (sym (update-other (B .pages (B .phase a) .nodes) a v y z))
         (subst (λ m. F y (B .pages m .nodes y)) (sym q) (rest y z))
 
-pub window-same : (awaitedIn : ℕ → ℕ → Option ℕ) (ph : ℕ → ℕ) (h g : ℕ → ℕ → Bool) (ms : List Dated)
+pub window-same : {awaitedIn : ℕ → ℕ → Option ℕ} {ph : ℕ → ℕ} {h g : ℕ → ℕ → Bool} {ms : List Dated}
     → ((c s : ℕ) → g c s ≡ h c s) → Window awaitedIn ph h ms → Window awaitedIn ph g ms
-window-same awaitedIn ph h g ms e w =
+window-same e w =
     record {
       order = w .order;
       sent = w .sent;
@@ -204,7 +204,7 @@ module _ {L : Limits} {P : ℕ} (setting : Setting L P) where
         busy = i .busy;
         items = it;
         win =
-            window-same awaitedIn (B .phase) (hasStored B) _ ms
+            window-same
             (λ c s. ap (λ (nd : State). isSome (nd .stored s)) (e (B .phase c) c)) wi;
         capped = λ n y q. subst (λ (nd : State). nd .tallies sentAll ≤ L .sends) (sym (e n y)) (i .capped n y q);
       }

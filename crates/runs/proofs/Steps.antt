@@ -62,12 +62,10 @@ module _ {L : Limits} {P : ℕ} (setting : Setting L P) (w : Board) (play : Play
               (update (ledger .pages) (c .one .phase) u)
               (λ n y. update-all (λ n w. w .nodes y ≡ ledger .pages n .nodes y) (ledger .pages) (c .one .phase) u refl
               (λ n z. refl) n)
-              (window-keeps (awaitedIn setting) (ledger .phase) (hasStored ledger) (ledger .items) (ledger .phase)
-              (hasStored ledger) ms (Move.off (c .pre) (c .post) (c .one) (c .whole)) (sim .win)) (w .untaken)
+              (window-keeps (awaitedIn setting) (Move.off (c .pre) (c .post) (c .one) (c .whole)) (sim .win)) (w .untaken)
               (w .sends);
           marks =
-              marks-same P (w .untaken) (w .sends) (w .items) (pre ++ post) ledger
-              (ledgerWith ledger (c .one .phase) u ms) marks
+              marks-same P marks
               (less-named P (w .untaken) (w .sends) pre post m
               (subst (All (Named (w .untaken) (w .sends))) e (marks .named)))
               (less-apart P pre post m (subst Apart e (marks .apart)))
