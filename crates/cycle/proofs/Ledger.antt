@@ -1,22 +1,20 @@
 -- All phases: the ledger has a page for each phase, and with the items of that phase the page is a board of one phase.
 -- An event
--- acts on one page. Safety and "no board sticks" of the ledger.
+-- acts on one page, and keeps its invariant.
 use mathlib.Core.Path.{_≡_, refl, sym, ap, _∙_, subst}
-use mathlib.Core.Logic.{_≢_, _⊎_}
-use mathlib.Core.Bool.{Bool, true, false}
+use mathlib.Core.Logic.{_≢_}
+use mathlib.Core.Bool.{Bool, false}
 use mathlib.Core.List.{List, [], _∷_, _++_}
 use Prim.Native.Nat.{ℕ, suc, _+_, _≤_, _<_}
-use native.Mathlib.Decide.{ℕ-discrete, decLt}
+use native.Mathlib.Decide.{ℕ-discrete}
 use native.Mathlib.Omega.{arith}
 use lib.ListN.{length}
 use Rattle.cycle.proofs.Sums.{update, update-all, pick, sum}
 use Rattle.cycle.proofs.Tree.{Tree}
-use Rattle.cycle.proofs.Lists.{All, all-map}
 use Rattle.cycle.proofs.Exact.{takenAll}
-use Rattle.cycle.proofs.OnePhase.{Parcel, State, PhaseBoard, dimOf, Unheard, Turn, Agrees}
+use Rattle.cycle.proofs.OnePhase.{Parcel, State, PhaseBoard, Turn}
 use Rattle.cycle.proofs.PhaseInvariant.{PhaseInvariant}
 use Rattle.cycle.proofs.PhaseKept.{phase-keeps}
-use Rattle.cycle.proofs.NoStick.{no-stick}
 use Rattle.cycle.proofs.Opening.{fresh, start-ok}
 
 -- an item and the phase that it belongs to
@@ -105,9 +103,8 @@ module _ {P p : ℕ} (tree : Tree P p) (limit : ℕ) where
         → ((y : ℕ) → w .nodes y ≡ b .pages n .nodes y)
         → Step b (record { phase = b .phase; pages = update (b .pages) n w; items = ms })
 
-  -- each page has the invariant of a phase; a node is fresh in the phases ahead, at a step in its own, and past the
-  -- last step
-  -- in those behind
+  -- each page has the invariant of a phase; a node is fresh in the phases ahead, at a step in its own, and past the last
+  -- step in those behind
   pub record Invariant (b : Ledger) : Type 0 where
     pub fit : (n : ℕ) → PhaseInvariant tree limit (phaseOf b n)
     pub ahead : (y n : ℕ) → b .phase y < n → b .pages n .nodes y ≡ fresh
@@ -184,89 +181,20 @@ module _ {P p : ℕ} (tree : Tree P p) (limit : ℕ) where
 
   pub data Reached : Ledger → Type 0 where
     first : Reached opening
-    next : (b b′ : Ledger) → Reached b → Step b b′ → Reached b′
+    next : {b b′ : Ledger} → Reached b → Step b b′ → Reached b′
 
-  pub invariant : (b : Ledger) → Reached b → Invariant b
-  invariant b first =
+  pub reached-invariant : (b : Ledger) → Reached b → Invariant b
+  reached-invariant b first =
       record {
         fit = λ n. start-ok tree limit;
         ahead = λ y n l. refl;
         now = λ y n e. omega arith;
         past = λ y n l. absurd (omega arith);
       }
-  invariant b (next c b′ r s) = keeps c b′ s (invariant c r)
-
-  -- ---- SAFETY
-
-  idle-means : (b : Ledger) → Invariant b → (y n : ℕ) → b .pages n .nodes y .busy ≡ false → n ≤ b .phase y
-  idle-means b i y n e = go (decLt (b .phase y) n)
-    where
-      go : Dec (b .phase y < n) → n ≤ b .phase y
-      go (no l) = omega arith
-      go (yes l) =
-          let f = ap (λ v. v .busy) (i .ahead y n l) in let z : _≡_ {A = Bool} true false = sym f ∙ e in
-          let q : _≡_ {A = ℕ} 0 1 = cc in absurd (omega arith)
+  reached-invariant b (next {b = c} r s) = keeps c b s (reached-invariant c r)
 
   -- the phase is over: all taken, all idle, everybody there or past it
   pub record Over (b : Ledger) (n : ℕ) : Type 0 where
     pub taken : sum (λ y. b .pages n .nodes y .tallies takenAll) 0 P ≡ length (b .pages n .senders)
     pub idle : (y : ℕ) → y < P → b .pages n .nodes y .busy ≡ false
     pub reached : (y : ℕ) → y < P → n ≤ b .phase y
-
-  pub safe : (b : Ledger) → Reached b → (a n : ℕ) → a < P → n < b .phase a → Over b n
-  safe b r a n h l =
-      let i = invariant b r in
-      let q = i .fit n .quiet a h (i .past a n l) in
-      record {
-        taken = q .all-taken ∙ sym (q .all-sent);
-        idle = q .all-idle;
-        reached = λ y k. idle-means b i y n (q .all-idle y k);
-      }
-
-  -- the phases of two nodes are within one of one another
-  pub within-one : (b : Ledger) → Reached b → (a c : ℕ) → a < P → c < P → b .phase a ≤ suc (b .phase c)
-  within-one b r a c h k = go (decLt (suc (b .phase c)) (b .phase a))
-    where
-      go : Dec (suc (b .phase c) < b .phase a) → b .phase a ≤ suc (b .phase c)
-      go (no l) = omega arith
-      go (yes l) = absurd (omega (arith, safe b r a (suc (b .phase c)) h l .reached c k))
-
-  -- ---- NO BOARD STICKS: where nobody in the oldest phase is busy, has something of it under way to it, or would send,
-  -- a step
-  -- agrees
-
-  pub no-board-sticks : (b : Ledger) → Reached b → (u : ℕ) → u < P → b .pages (b .phase u) .lossy ≡ false
-      → ((y : ℕ) → y < P → b .phase u ≤ b .phase y)
-      → ((a : ℕ) → a < P → b .phase a ≡ b .phase u → b .pages (b .phase u) .nodes a .busy ≡ false)
-      → All (λ t. (t .to < P) × (b .phase u < b .phase (t .to))) (ofPhase (b .phase u) (b .items))
-      → ((a : ℕ) → a < P → b .phase a ≡ b .phase u
-      → (b .pages (b .phase u) .nodes a .flag ≡ false) ⊎ Unheard tree a (b .pages (b .phase u) .nodes a .step))
-      → (a : ℕ) × ((a < P) × ((b .phase a ≡ b .phase u) × Agrees p limit (b .pages (b .phase u) .nodes a)
-      (b .pages (b .phase u) .nodes a .step) (tree .awaited (dimOf p (b .pages (b .phase u) .nodes a .step)) a)))
-  no-board-sticks b r u hu whole old rest nothing nobody =
-      let q = no-stick tree limit (phaseOf b n) (i .fit n) whole resting
-      (all-map (λ t. (t .to < P) × (n < b .phase (t .to)))
-      (λ t. (t .to < P) × (p + p ≤ b .pages n .nodes (t .to) .step))
-      (λ t x. (x .0, i .past (t .to) n (x .1))) (ofPhase n (b .items)) nothing)
-      (λ a h l. nobody a h (here a h l)) u hu (i .now u n refl) in
-      (q .0, (q .1 .0, (here (q .0) (q .1 .0) (q .1 .1 .0), q .1 .1 .1)))
-    where
-      n : ℕ
-      n = b .phase u
-
-      i : Invariant b
-      i = invariant b r
-
-      here : (a : ℕ) → a < P → b .pages n .nodes a .step < p + p → b .phase a ≡ n
-      here a h l = go (decLt n (b .phase a))
-        where
-          go : Dec (n < b .phase a) → b .phase a ≡ n
-          go (yes k) = absurd (omega (arith, i .past a n k))
-          go (no k) = omega (arith, old a h)
-
-      resting : (a : ℕ) → a < P → b .pages n .nodes a .busy ≡ false
-      resting a h = go (decLt n (b .phase a))
-        where
-          go : Dec (n < b .phase a) → b .pages n .nodes a .busy ≡ false
-          go (yes k) = i .fit n .quiet a h (i .past a n k) .all-idle a h
-          go (no k) = rest a h (omega (arith, old a h))

@@ -24,6 +24,7 @@ pub mod NoStick
 -- All phases: safety, no board sticks, the window of phases, and each kind of event.
 pub mod Opening
 pub mod Ledger
+pub mod Reached
 pub mod Dating
 pub mod Window
 pub mod Events

@@ -23,7 +23,8 @@ use Rattle.cycle.proofs.Lists.{All}
 use Rattle.cycle.proofs.Exact.{sentAll, takenAll, Entries, ownSums}
 use Rattle.cycle.proofs.OnePhase.{report, State, posts, frameOf, dimOf, Unheard, Agrees, atStep}
 use Rattle.cycle.proofs.Opening.{fresh}
-use Rattle.cycle.proofs.Ledger.{Dated, Page, Ledger, Reached, invariant, within-one}
+use Rattle.cycle.proofs.Ledger.{Dated, Page, Ledger, Reached}
+use Rattle.cycle.proofs.Reached.{invariant, within-one}
 use Rattle.cycle.proofs.Window.{Window, Move, window-keeps}
 use Rattle.cycle.proofs.Partners.{Among}
 use Rattle.cycle.proofs.Dating.{dated}
@@ -99,7 +100,7 @@ module _ {L : Limits} {P : ℕ} (setting : Setting L P) (w : Board) (play : Play
         (sym dim-at)
         (agree-like p (view p n) (stateOf ledger a) (o .like) (fieldLimit L) (stateOf ledger a .step)
         (tree setting .awaited (n .dim) a)
-        (invariant (tree setting) (fieldLimit L) ledger reached .now a (ledger .phase a) refl)
+        (invariant reached .now a (ledger .phase a) refl)
         (subst (Agrees p (fieldLimit L) (view p n) (stateOf ledger a .step)) awaits
         (subst (λ s. Agrees p (fieldLimit L) (view p n) s (awaited (n .nodes) (n .dim) (n .number))) (o .like .step)
         (by (o .pass)))))
@@ -180,7 +181,7 @@ module _ {L : Limits} {P : ℕ} (setting : Setting L P) (w : Board) (play : Play
         (append-assoc ms (m ∷ []) (dated (ledger .phase a) (posts a (report s x) rs)))
         (win-posts x s rs (ms ++ (m ∷ [])) l (q .1)
         (window-keeps (awaitedIn setting)
-        (Move.out m refl (within-one (tree setting) (fieldLimit L) ledger reached c a (q .0 .0) h)
+        (Move.out m refl (within-one reached c a (q .0 .0) h)
         (λ t e. let z : s ≡ t = cc in subst
         (λ t. awaitedIn setting t c ≡ some a) z (awaited-in setting s c l ∙ q .0 .1))) i))
       where
@@ -214,8 +215,8 @@ module _ {L : Limits} {P : ℕ} (setting : Setting L P) (w : Board) (play : Play
         record {
           played = record {
             ledger = after;
-            reached = Reached.next ledger after reached
-                (act-leave (tree setting) (fieldLimit L) ledger reached a (stateOf ledger a .agreed) h (rest-of b)
+            reached = Reached.next reached
+                (act-leave reached a (stateOf ledger a .agreed) h (rest-of b)
                 (mute-of m)
                 (agree-of g) (λ q. refl) (λ q. absurd (omega (arith, at-is))) (omega (arith, at-is)));
             sim = record {
@@ -280,7 +281,7 @@ module _ {L : Limits} {P : ℕ} (setting : Setting L P) (w : Board) (play : Play
             (update-same (ledger .phase) a (suc (ledger .phase a)))
             ∙ ap (λ (w : Page). w .nodes a)
             (update-other (ledger .pages) (ledger .phase a) u (suc (ledger .phase a)) (λ q. omega arith))
-            ∙ invariant (tree setting) (fieldLimit L) ledger reached .ahead a (suc (ledger .phase a)) (omega arith)
+            ∙ invariant reached .ahead a (suc (ledger .phase a)) (omega arith)
 
         seat-y : (y : ℕ) → y ≢ a → stateOf after y ≡ stateOf ledger y
         seat-y y z =
@@ -339,7 +340,7 @@ module _ {L : Limits} {P : ℕ} (setting : Setting L P) (w : Board) (play : Play
                 → hasStored ledger a s ≡ true
             by q (yes l) =
                 agree-has (stateOf ledger a) s c (tree setting .awaited (dimOf p s) a) (q .1)
-                (invariant (tree setting) (fieldLimit L) ledger reached .fit
+                (invariant reached .fit
                 (ledger .phase a) .nodes-ok a h .agrees s l)
             by q (no l) =
                 let z : s ≡ stateOf ledger a .step = omega (arith, at-is, q .0) in
@@ -355,7 +356,7 @@ module _ {L : Limits} {P : ℕ} (setting : Setting L P) (w : Board) (play : Play
         turned-to setting w play (calls a len) a h
         (atStep (stateOf ledger a) (stateOf ledger a .step) false (stateOf ledger a .agreed))
         (at (w .nodes a) (w .nodes a .pass) (w .nodes a .dim) false (w .nodes a .agreed)) ms refl
-        (act-put (tree setting) (fieldLimit L) ledger reached a (receiversDue (w .nodes a)) h (rest-of b)
+        (act-put reached a (receiversDue (w .nodes a)) h (rest-of b)
         (λ c hc k. heard-by c hc k))
         hold-still (w .items ++ posted a (frameBytes (dims (w .nodes a)) (frameDue (w .nodes a))) (w .count a)
         (receiversDue (w .nodes a)))
@@ -374,7 +375,7 @@ module _ {L : Limits} {P : ℕ} (setting : Setting L P) (w : Board) (play : Play
         (at (w .nodes a) (w .nodes a .pass) (w .nodes a .dim) false (w .nodes a .agreed)) hold-still
         (sim .capped (ledger .phase a) a h) ms (λ s. refl))
         (win-posts x (stateOf ledger a .step) (receiversDue (w .nodes a)) (ledger .items)
-        (invariant (tree setting) (fieldLimit L) ledger reached .now a (ledger .phase a) refl) awaiting (sim .win)))
+        (invariant reached .now a (ledger .phase a) refl) awaiting (sim .win)))
         (w .busy) (sim .busy a h) (λ y z. refl)
         (frames-named P (w .untaken) (w .sends) (w .items) a (frameBytes (dims (w .nodes a)) (frameDue (w .nodes a)))
         (w .count a) (receiversDue (w .nodes a)) (marks .named))
@@ -401,13 +402,13 @@ module _ {L : Limits} {P : ℕ} (setting : Setting L P) (w : Board) (play : Play
         turns-still setting w play (calls a len) a h
         (atStep (stateOf ledger a) (stateOf ledger a .step) false (stateOf ledger a .agreed))
         (at (w .nodes a) (w .nodes a .pass) (w .nodes a .dim) false (w .nodes a .agreed)) refl refl
-        (act-wait (tree setting) (fieldLimit L) ledger reached a h (rest-of b) (mute-of m)) hold-still (w .busy)
+        (act-wait reached a h (rest-of b) (mute-of m)) hold-still (w .busy)
         (sim .busy a h) (λ y z. refl)
     call-next len q (CallWay.next v b m g d) =
         turns-still setting w play (calls a len) a h
         (atStep (stateOf ledger a) (suc (stateOf ledger a .step)) true (w .nodes a .agreed))
         (at (w .nodes a) (w .nodes a .pass) (suc (w .nodes a .dim)) true (w .nodes a .agreed)) refl refl
-        (act-move (tree setting) (fieldLimit L) ledger reached a (w .nodes a .agreed) h (rest-of b) (mute-of m)
+        (act-move reached a (w .nodes a .agreed) h (rest-of b) (mute-of m)
         (agree-of g) (λ z. hold setting w play a h .like .agreed)
         (λ z. absurd (not-last (hold setting w play a h .pass) z)) (lower (hold setting w play a h .pass)))
         (hold-at (w .nodes a .pass) (suc (w .nodes a .dim)) (suc (stateOf ledger a .step)) true (w .nodes a .agreed)
@@ -446,7 +447,7 @@ module _ {L : Limits} {P : ℕ} (setting : Setting L P) (w : Board) (play : Play
     call-next len q (CallWay.second v b m z g d e) =
         turns-still setting w play (calls a len) a h (atStep (stateOf ledger a) (suc (stateOf ledger a .step)) true t)
         (at (w .nodes a) 2 0 true t) refl refl
-        (act-move (tree setting) (fieldLimit L) ledger reached a t h (rest-of b) (mute-of m) (agree-of g)
+        (act-move reached a t h (rest-of b) (mute-of m) (agree-of g)
         (λ z. absurd (omega (arith, at-is, hold setting w play a h .low)))
         (λ z. total-is) (omega (arith, at-is, d′, dim-pos setting)))
         (hold-at 2 0 (suc (stateOf ledger a .step)) true t (inr refl) (dim-pos setting) (omega (arith, at-is, d′)))

@@ -21,7 +21,8 @@ use native.Mathlib.Nat.{mul-le-mul-right}
 use Rattle.cycle.proofs.Lists.{All, all-mid}
 use Rattle.cycle.proofs.Exact.{takenAll, Entries}
 use Rattle.cycle.proofs.OnePhase.{message, report, dimOf}
-use Rattle.cycle.proofs.Ledger.{ofPhase, phaseOf, invariant}
+use Rattle.cycle.proofs.Ledger.{ofPhase, phaseOf}
+use Rattle.cycle.proofs.Reached.{invariant}
 use Rattle.cycle.proofs.Window.{Partnered}
 use Rattle.cycle.proofs.Dating.{phase-mid}
 use Rattle.cycle.proofs.Events.{stateOf}
@@ -130,7 +131,7 @@ module _ {L : Limits} {P : ℕ} (setting : Setting L P) where
                 let cc′ = twin setting w q a b m e in
                 let wh = whole setting w q a b m e message (j .0) in
                 let r = taken-room (tree setting) (fieldLimit L) (L .sends) (phaseOf (q .ledger) (q .ledger .phase b))
-                (invariant (tree setting) (fieldLimit L) (q .ledger) (q .reached) .fit (q .ledger .phase b))
+                (invariant (q .reached) .fit (q .ledger .phase b))
                 (calm (q .ledger .phase b)) (λ y h. q .sim .capped (q .ledger .phase b) y h) a b la lb apart
                 (ofPhase (q .ledger .phase b) (cc′ .pre)) (ofPhase (q .ledger .phase b) (cc′ .post))
                 (ap (ofPhase (q .ledger .phase b)) wh ∙ phase-mid (q .ledger .phase b) (cc′ .pre) (cc′ .post) _ ph) in

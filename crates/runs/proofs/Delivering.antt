@@ -31,7 +31,8 @@ use Rattle.cycle.proofs.Exact.{takenAll, Entries}
 use Rattle.cycle.proofs.OnePhase.{message, report, State, dimOf, atStep, withStored, withTallies, bumpTaken, Content}
 use Rattle.cycle.proofs.OnePhase.{OnLink, Shell}
 use Rattle.cycle.proofs.Messages.{messages, messages-append}
-use Rattle.cycle.proofs.Ledger.{Dated, Page, Ledger, ofPhase, Step, Reached, invariant, safe, within-one}
+use Rattle.cycle.proofs.Ledger.{Dated, Page, Ledger, ofPhase, Step, Reached}
+use Rattle.cycle.proofs.Reached.{invariant, safe, within-one}
 use Rattle.cycle.proofs.Window.{Window, Move, window-keeps, Sent, Close}
 use Rattle.cycle.proofs.Dating.{FirstDated, phase-mid}
 use Rattle.cycle.proofs.Events.{stateOf, ledgerWith, withState, pageWith, pageTaken, pageLost, act-lose, act-drop}
@@ -133,7 +134,7 @@ module _ {L : Limits} {P : ℕ} (setting : Setting L P) (w : Board) (play : Play
         let q = all-mid (Sent (ledger .phase)) (twin .pre) (twin .post)
         (record { phase = m .phase; item = record { from = a; to = b; load = twin .one .item .load } })
         (subst (All (Sent (ledger .phase))) (whole (twin .one .item .load) refl) (sim .win .sent)) .0 in
-        omega (arith, within-one (tree setting) (fieldLimit L) ledger reached a b sender-lt receiver-lt)
+        omega (arith, within-one reached a b sender-lt receiver-lt)
 
     -- the item is off, and nothing else
     off-next : (u : Page) → Step (tree setting) (fieldLimit L) ledger
@@ -146,7 +147,7 @@ module _ {L : Limits} {P : ℕ} (setting : Setting L P) (w : Board) (play : Play
         record {
           played = record {
             ledger = ledgerWith ledger (m .phase) u (twin .pre ++ twin .post);
-            reached = Reached.next ledger _ reached st;
+            reached = Reached.next reached st;
             sim =
                 carried setting (gave w b (w .nodes b)) ledger (unmoved setting w ledger sim b)
                 (place .pre ++ place .post)
@@ -172,7 +173,7 @@ module _ {L : Limits} {P : ℕ} (setting : Setting L P) (w : Board) (play : Play
         (carries (gave w b (w .nodes b)) (without a b (w .items))) (λ q. held setting w play (delivers a b) b)
         (λ q. subst (λ l. Next setting w play (delivers a b) (carries (gave w b (w .nodes b)) l)) (sym (place .rest))
         (off-next (pageLost (ledger .pages (m .phase)))
-        (act-lose (tree setting) (fieldLimit L) ledger reached (twin .pre) (twin .post) (m .phase) a b
+        (act-lose reached (twin .pre) (twin .post) (m .phase) a b
         (twin .one .item .load)
         (whole (twin .one .item .load) refl)) (λ y. refl) refl (inr (bad (eqb-false x 7 q)))))
 
@@ -198,8 +199,8 @@ module _ {L : Limits} {P : ℕ} (setting : Setting L P) (w : Board) (play : Play
           go : Dec (m .phase < ledger .phase y) → ledger .phase y ≤ m .phase
           go (no l) = omega arith
           go (yes l) =
-              let o = safe (tree setting) (fieldLimit L) ledger reached y (m .phase) hy l in
-              let q = invariant (tree setting) (fieldLimit L) ledger reached .fit (m .phase) .covers in
+              let o = safe reached y (m .phase) hy l in
+              let q = invariant reached .fit (m .phase) .covers in
               let z : messages (ofPhase (m .phase) (ledger .items)) ≡ messages
               (ofPhase (m .phase) (twin .pre) ++ record { from = a; to = b; load = message } ∷ ofPhase (m .phase)
               (twin .post)) = ap messages (ap (ofPhase (m .phase)) (whole message lj)
@@ -238,8 +239,8 @@ module _ {L : Limits} {P : ℕ} (setting : Setting L P) (w : Board) (play : Play
           (record {
             played = record {
               ledger = ledgerWith ledger (ledger .phase b) u ms;
-              reached = Reached.next ledger _ reached
-                  (act-take (tree setting) (fieldLimit L) ledger reached (twin .pre) (twin .post) (m .phase) a b j
+              reached = Reached.next reached
+                  (act-take reached (twin .pre) (twin .post) (m .phase) a b j
                   (whole message lj) ph sender-lt receiver-lt jp shell);
               sim =
                   acted setting w ledger sim b receiver-lt u v refl n′ ok′ (sim .capped (ledger .phase b) b receiver-lt)
@@ -479,7 +480,7 @@ module _ {L : Limits} {P : ℕ} (setting : Setting L P) (w : Board) (play : Play
       frame-next q eq (FrameWay.late co d) =
           subst (λ l. Next setting w play (delivers a b) (carries (gave w b (w .nodes b)) l)) (sym (place .rest))
           (off-next (pageWith (ledger .pages (m .phase)) b (ledger .pages (m .phase) .nodes b))
-          (act-drop (tree setting) (fieldLimit L) ledger reached (twin .pre) (twin .post) (m .phase) a b s x
+          (act-drop reached (twin .pre) (twin .post) (m .phase) a b s x
           (whole (report s x) ln) receiver-lt
           (diff-late (m .phase) (ledger .phase b) not-ahead not-behind₂ (sym diff-is ∙ d)))
           (update-all (λ z nd. nd ≡ ledger .pages (m .phase) .nodes z) (ledger .pages (m .phase) .nodes) b
@@ -509,7 +510,7 @@ module _ {L : Limits} {P : ℕ} (setting : Setting L P) (w : Board) (play : Play
           (at (stored n F) (F .pass) (F .dim) false t) (stored n F)
           (λ l. stored-next (atStep (withStored (stateOf ledger b) s x) s false t)
           (at (stored n F) (F .pass) (F .dim) false t) refl refl busy-is ph aws
-          (act-fall (tree setting) (fieldLimit L) ledger reached (twin .pre) (twin .post) (m .phase) a b s x
+          (act-fall reached (twin .pre) (twin .post) (m .phase) a b s x
           (whole (report s x) ln) first ph receiver-lt s-lt aws t
           (omega (
             arith,
@@ -519,7 +520,7 @@ module _ {L : Limits} {P : ℕ} (setting : Setting L P) (w : Board) (play : Play
           )) t-is)
           (fallen hold-stored))
           (λ l. stored-next (withStored (stateOf ledger b) s x) (stored n F) refl refl busy-is ph aws
-          (act-store (tree setting) (fieldLimit L) ledger reached (twin .pre) (twin .post) (m .phase) a b s x
+          (act-store reached (twin .pre) (twin .post) (m .phase) a b s x
           (whole (report s x) ln) first ph receiver-lt s-lt aws
           (omega (
             arith,

@@ -26,7 +26,8 @@ use Rattle.cycle.proofs.Sums.{pick}
 use Rattle.cycle.proofs.Lists.{All}
 use Rattle.cycle.proofs.OnePhase.{Parcel, dimOf, Unheard, Agrees}
 use Rattle.cycle.proofs.AtRest.{least}
-use Rattle.cycle.proofs.Ledger.{Dated, Ledger, ofPhase, no-board-sticks}
+use Rattle.cycle.proofs.Ledger.{Dated, Ledger, ofPhase}
+use Rattle.cycle.proofs.Reached.{no-board-sticks}
 use Rattle.cycle.proofs.Events.{stateOf}
 use Rattle.runs.proofs.Setting.{Setting, tree}
 use Rattle.node.proofs.Ways.{NoneDue, call-sends, call-looks}
@@ -195,7 +196,7 @@ module _ {L : Limits} {P : ℕ} (setting : Setting L P) where
         → (a : ℕ) × ((a < P) × ((w .count a ≡ w .count u)
         × (agrees L (w .nodes a) (w .nodes a .pass) (w .nodes a .dim) ≡ true)))
     stuck f1 f2 f3 =
-        let r = no-board-sticks (tree setting) (fieldLimit L) ledger (s .played .reached) u hu
+        let r = no-board-sticks (s .played .reached) u hu
         (s .calm (ledger .phase u))
         (λ y h. omega (arith, old y h, sim .counts u, sim .counts y)) rest under isNone in
         (r .0, (r .1 .0, (back (r .0) (r .1 .1 .0), agrees-of (r .0) (r .1 .0) (r .1 .1 .0) (r .1 .1 .1))))

@@ -93,7 +93,7 @@ module _ {L : Limits} {P : ℕ} (setting : Setting L P) (w : Board) (play : Play
       record {
         played = record {
           ledger = withState ledger a v ms;
-          reached = Reached.next ledger (withState ledger a v ms) reached st;
+          reached = Reached.next reached st;
           sim =
               acted setting w ledger sim a h (pageWith (ledger .pages (ledger .phase a)) a v) v refl n ok
               (subst (λ (t : Entries). t sentAll ≤ L .sends) (sym tv) (sim .capped (ledger .phase a) a h)) is ms it wi

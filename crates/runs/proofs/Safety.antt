@@ -16,13 +16,12 @@ use Rattle.node.specs.Answers.{Given, Outcome, done, refused, Barrier, waits, l
 use Rattle.node.specs.Calls.{send, take, idle, frameIn}
 use Rattle.node.specs.Barrier.{barrier}
 use Rattle.node.specs.declared.Node.{Node}
-use Rattle.runs.specs.Board.{put, Load, work, frame, Item, Board, Event, sends, idles, calls, delivers, loses}
-use Rattle.runs.specs.Board.{start, oldest}
-use Rattle.runs.specs.Board.{without, gave, carries, afterSend, afterIdle, afterCall, offUnlessEarly, afterTake}
-use Rattle.runs.specs.Board.{afterFrame, delivered, deliveredOldest, step, after, run}
+use Rattle.runs.specs.Board.{put, Load, work, frame, Item, Board, Event, sends, idles, calls, delivers, loses, start, oldest}
+use Rattle.runs.specs.Board.{without, gave, carries, afterSend, afterIdle, afterCall, offUnlessEarly, afterTake, afterFrame, delivered, deliveredOldest, step, after, run}
 use Rattle.runs.specs.Claim.{SendDone, TakeDone, takes, Leaves, Safe}
 use Rattle.cycle.proofs.Sums.{sum-zero}
-use Rattle.cycle.proofs.Ledger.{Ledger, opening, Reached, safe, Over}
+use Rattle.cycle.proofs.Ledger.{Ledger, opening, Reached, Over}
+use Rattle.cycle.proofs.Reached.{safe}
 use Rattle.runs.proofs.Tools.{put-same, put-other}
 use Rattle.runs.proofs.Setting.{Setting, tree, dim-low, dim-pos}
 use Rattle.node.proofs.Ways.{SendWay, send-way, TakeWay, take-way, IdleWay, idle-way, FrameWay, frame-way, CallWay}
@@ -114,7 +113,7 @@ module _ {L : Limits} {P : ℕ} (setting : Setting L P) where
     -- in a phase that somebody has left, a node is idle
     left-idle : (a n b : ℕ) → a < P → n < w .count a → b < P → w .count b ≡ n → w .nodes b .busy ≡ false
     left-idle a n b ha l hb′ e =
-        let o = safe (tree setting) (fieldLimit L) ledger (q .reached) a n ha (omega (arith, sim .counts a)) in
+        let o = safe (q .reached) a n ha (omega (arith, sim .counts a)) in
         let z : n ≡ ledger .phase b = sym e ∙ sim .counts b in
         sim .node b hb′ .like .busy ∙ subst (λ n. ledger .pages n .nodes b .busy ≡ false) z (o .idle b hb′)
 
@@ -284,7 +283,7 @@ module _ {L : Limits} {P : ℕ} (setting : Setting L P) where
 
         o : Over (tree setting) (fieldLimit L) (nx .played .ledger) (w .count a)
         o =
-            safe (tree setting) (fieldLimit L) (nx .played .ledger) (nx .played .reached) a (w .count a) h
+            safe (nx .played .reached) a (w .count a) h
             (omega (arith, up))
 
         stays : (x : ℕ) → x ≢ a → nx .played .ledger .phase x ≡ w .count x

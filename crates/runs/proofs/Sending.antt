@@ -18,7 +18,8 @@ use native.Mathlib.Nat.{mul-le-mul-right}
 use Rattle.cycle.proofs.Sums.{sum-count, sum-ext, sum-less, count}
 use Rattle.cycle.proofs.Exact.{sentAll}
 use Rattle.cycle.proofs.OnePhase.{message, State, withTallies, bumpSent, Shell}
-use Rattle.cycle.proofs.Ledger.{Dated, Page, Ledger, Reached, invariant, within-one}
+use Rattle.cycle.proofs.Ledger.{Dated, Page, Ledger, Reached}
+use Rattle.cycle.proofs.Reached.{invariant, within-one}
 use Rattle.cycle.proofs.Window.{Move, window-keeps}
 use Rattle.cycle.proofs.Events.{stateOf, ledgerWith, pageSent, act-rest, act-send}
 use Rattle.runs.proofs.Tools.{put-same, put-other}
@@ -26,7 +27,7 @@ use Rattle.runs.proofs.Setting.{Setting, tree, dim-low, shell-ok, shell
 use Rattle.node.proofs.Ways.{SendWay, IdleWay}
 use Rattle.runs.proofs.View.{like-sent, like-idle}
 use Rattle.runs.proofs.Pairs.{pair-append}
-use Rattle.runs.proofs.Sim.{hasStored, window-same, awaitedIn, Holds, Carried, Sim, acted, stored-same}
+use Rattle.runs.proofs.Sim.{window-same, awaitedIn, Holds, Carried, Sim, acted, stored-same}
 use Rattle.runs.proofs.Marks.{Marks, marks-send}
 use Rattle.runs.proofs.Played.{Played, Next, lossy-same, held, turns-still, hold, dims-is}
 
@@ -54,7 +55,7 @@ module _ {L : Limits} {P : ℕ} (setting : Setting L P) (w : Board) (play : Play
   idle-next a h q (IdleWay.done v) =
       let o = hold setting w play a h in
       turns-still setting w play (idles a) a h (withTallies (stateOf ledger a) false (stateOf ledger a .tallies))
-      (withBusy (w .nodes a) false) refl refl (act-rest (tree setting) (fieldLimit L) ledger reached a h)
+      (withBusy (w .nodes a) false) refl refl (act-rest reached a h)
       (record {
         nodes = o .nodes;
         number = o .number;
@@ -74,7 +75,7 @@ module _ {L : Limits} {P : ℕ} (setting : Setting L P) (w : Board) (play : Play
   log-room : (a : ℕ) → a < P → stateOf ledger a .tallies sentAll < L .sends
       → length (ledger .pages (ledger .phase a) .senders) < fieldLimit L
   log-room a h l =
-      let f = invariant (tree setting) (fieldLimit L) ledger reached .fit (ledger .phase a) in
+      let f = invariant reached .fit (ledger .phase a) in
       let e = sum-count P (ledger .pages (ledger .phase a) .senders) (f .below) in
       let g = sum-ext (λ y. ledger .pages (ledger .phase a) .nodes y .tallies sentAll)
       (λ y. count y (ledger .pages (ledger .phase a) .senders)) 0 P (λ y x z. f .nodes-ok y (omega arith) .count-is) in
@@ -92,8 +93,8 @@ module _ {L : Limits} {P : ℕ} (setting : Setting L P) (w : Board) (play : Play
       record {
         played = record {
           ledger = ledgerWith ledger (ledger .phase a) u ms;
-          reached = Reached.next ledger (ledgerWith ledger (ledger .phase a) u ms) reached
-              (act-send (tree setting) (fieldLimit L) ledger reached a b j h hb jp shell (sym (o .like .busy) ∙ bu)
+          reached = Reached.next reached
+              (act-send reached a b j h hb jp shell (sym (o .like .busy) ∙ bu)
               (log-room a h less));
           sim =
               acted setting w ledger sim a h u v refl n′
@@ -116,7 +117,7 @@ module _ {L : Limits} {P : ℕ} (setting : Setting L P) (w : Board) (play : Play
               ok′ (omega (arith, less)) ms (λ s. refl))
               (window-keeps (awaitedIn setting) (Move.out
               (record { phase = ledger .phase a; item = record { from = a; to = b; load = message } }) refl
-              (within-one (tree setting) (fieldLimit L) ledger reached b a hb h)
+              (within-one reached b a hb h)
               (λ s q. let z : _≡_ {A = ℕ} 0 1 = cc in absurd (omega arith))) (sim .win)))
               (w .busy) (bu ∙ sym (sym (sim .busy a h) ∙ bu))
               (λ y z. refl) (put (w .untaken) (w .sends) (some (w .count a))) (suc (w .sends));

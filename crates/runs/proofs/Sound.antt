@@ -21,10 +21,8 @@ use Rattle.node.specs.Answers.{Given, Outcome, done, dropped, refused, Barrier,
 use Rattle.node.specs.Calls.{send, take, idle, frameIn}
 use Rattle.node.specs.Barrier.{frameDue, receiversDue, barrier}
 use Rattle.node.specs.declared.Node.{Node}
-use Rattle.runs.specs.Board.{put, Load, work, frame, Item, Board, Event, sends, idles, calls, delivers, loses}
-use Rattle.runs.specs.Board.{start, oldest}
-use Rattle.runs.specs.Board.{without, lessOne, gave, afterSend, afterIdle, posted, afterCall, offUnlessEarly}
-use Rattle.runs.specs.Board.{afterTake, afterFrame, delivered, deliveredOldest, step}
+use Rattle.runs.specs.Board.{put, Load, work, frame, Item, Board, Event, sends, idles, calls, delivers, loses, start, oldest}
+use Rattle.runs.specs.Board.{without, lessOne, gave, afterSend, afterIdle, posted, afterCall, offUnlessEarly, afterTake, afterFrame, delivered, deliveredOldest, step}
 use Rattle.frame.proofs.RoundTripAccepted.{Read}
 use Rattle.tree.specs.Lookups.{badBoard}
 use Rattle.node.proofs.Ways.{SendWay, send-way, CallWay, call-way}

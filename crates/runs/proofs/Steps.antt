@@ -21,7 +21,7 @@ use Rattle.cycle.proofs.Events.{ledgerWith, pageLost, act-lose}
 use Rattle.runs.proofs.Setting.{Setting, tree}
 use Rattle.node.proofs.Ways.{send-way, idle-way, call-way}
 use Rattle.runs.proofs.Pairs.{Pair, pair-append, Cut, cut, Lost, lost}
-use Rattle.runs.proofs.Sim.{hasStored, awaitedIn, Carried, Sim, carried}
+use Rattle.runs.proofs.Sim.{awaitedIn, Carried, Sim, carried}
 use Rattle.runs.proofs.Marks.{Named, Apart, Marks, marks-same, less-named, less-apart, log-same}
 use Rattle.runs.proofs.Played.{Played, Next, Mishap, stay}
 use Rattle.runs.proofs.Sending.{idle-next, send-next}
@@ -52,8 +52,8 @@ module _ {L : Limits} {P : ℕ} (setting : Setting L P) (w : Board) (play : Play
       record {
         played = record {
           ledger = ledgerWith ledger (c .one .phase) u ms;
-          reached = Reached.next ledger _ reached
-              (act-lose (tree setting) (fieldLimit L) ledger reached (c .pre) (c .post) (c .one .phase)
+          reached = Reached.next reached
+              (act-lose reached (c .pre) (c .post) (c .one .phase)
               (c .one .item .from)
               (c .one .item .to) (c .one .item .load) (c .whole));
           sim =
