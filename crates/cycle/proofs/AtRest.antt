@@ -1,6 +1,5 @@
 -- A board at rest: nobody busy, nothing under way to a node still in the phase, nobody with a frame to send. Then all
--- sums are
--- exact as far as everybody has come, and the step of the node that is least far agrees.
+-- sums are exact as far as everybody has come, and the step of the node that is least far agrees.
 use mathlib.Core.Path.{_≡_, refl, sym, ap, _∙_}
 use mathlib.Core.Option.{Option, none, some}
 use Prim.Native.Nat.{ℕ, zero, suc, _+_, _-_, _≤_, _<_}
@@ -173,8 +172,7 @@ module _ {P p : ℕ} (tree : Tree P p) (nodes : ℕ → State) (A : ℕ)
           meet-sum (tree .low) (tree .size) A a w
               (λ y. nodes y .tallies f) mt,
           small f v (suc A) a (omega arith) h,
-        ))
-        (λ last. omega (
+        )) (λ last. omega (
           arith,
           own sentAll tt,
           his sentAll tt,
@@ -222,8 +220,7 @@ module _ {P p : ℕ} (tree : Tree P p) (nodes : ℕ → State) (A : ℕ)
           meet-sum (tree .low) (tree .size) k a w
               (λ y. nodes y .tallies sentAll) mt,
           small sentAll tt (suc k) a (omega arith) h,
-        )))
-        (tot-R w hw (omega arith) ∙ sym (tot-R a h (omega arith)))
+        ))) (tot-R w hw (omega arith) ∙ sym (tot-R a h (omega arith)))
         (λ last. rw k-is (omega (arith, own, his, whole (omega arith), tot-R a h (omega arith))))
       where
         k-is : A - p ≡ k

@@ -199,8 +199,7 @@ module _ {P p : ℕ} {tree : Tree P p} {limit : ℕ} {b : Ledger} (r : Reached t
         (boardOf (pageTaken (b .pages m) a c
         (atStep (withTallies (stateOf b c) true (bumpTaken (stateOf b c .tallies) j)) 0 true 0)) is))
         (sym (phase-append m xs ys))
-        (Turn.takes (ofPhase m xs) (ofPhase m ys) a c j ha hc jp s (ap (ofPhase m) e ∙ phase-mid m xs ys _ ph)
-        (now c)))
+        (Turn.takes (ofPhase m xs) (ofPhase m ys) a c j ha hc jp s (ap (ofPhase m) e ∙ phase-mid m xs ys _ ph) (now c)))
         (λ k q. phase-mid-else k xs ys (record { phase = n; item = record { from = a; to = c; load = message } })
         (λ z. q (sym z ∙ ph)) ∙ ap (ofPhase k) (sym e)) (λ y q. update-other (b .pages m .nodes) c _ y q)
         (there c _ m (omega arith))

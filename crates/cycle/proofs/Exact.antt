@@ -1,6 +1,5 @@
 -- Where what every node has stored is what its partner would write now, the own sums of a node are the sums over its
--- run; and
--- where all work is taken, what one run has sent to its sibling the sibling has taken.
+-- run; and where all work is taken, what one run has sent to its sibling the sibling has taken.
 use mathlib.Core.Path.{_≡_, refl, sym, _∙_}
 use mathlib.Core.Option.{Option, none, some}
 use Prim.Native.Nat.{ℕ, zero, suc, _+_, _≤_, _<_}

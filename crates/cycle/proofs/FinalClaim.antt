@@ -14,8 +14,7 @@ abbrev pub firsts : List ℕ → ℕ → ℕ → ℕ
 firsts log T y = count y (take T log)
 
 -- The claim of y for T. log: the senders of the phase in order; R: all that is taken; Q: y is idle in the phase or has
--- left
--- it; s: what y says to have sent.
+-- left it; s: what y says to have sent.
 pub data Claim (log : List ℕ) (R : ℕ) (Q : Type 0) (y s T : ℕ) : Type 0 where
   over : firsts log T y < s → Claim log R Q y s T
   quiet : s ≡ firsts log T y → length log ≡ T → R ≡ T → Q → Claim log R Q y s T

@@ -51,8 +51,7 @@ claim-keep P w w′ y s T (takes-one a b c) t (quiet e f g d) = absurd (omega ar
 claim-keep P w w′ y s T (takes-one a b c) t (later e f g) = later (rw a e) (rw a f) (rw a g)
 
 -- A number in a frame of pass 1 is at most what the run of its sender has taken; a frame of pass 2 is a sum of claims.
--- The run
--- is the n nodes from low on.
+-- The run is the n nodes from low on.
 abbrev pub AtMost : Course → ℕ → ℕ → ℕ → Type 0
 AtMost w low n x = x ≤ sum (w .taken) low n
 

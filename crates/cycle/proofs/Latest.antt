@@ -1,6 +1,5 @@
 -- The invariant that no board sticks by: the latest frame of a step on a link, or the stored one if none is under way,
--- is what
--- its sender would write now.
+-- is what its sender would write now.
 use mathlib.Core.Path.{_≡_, refl, sym, ap, _∙_, fun-ext}
 use mathlib.Core.Logic.{_≢_, _⊎_, inl, inr}
 use mathlib.Core.Bool.{Bool, true, false}
@@ -145,8 +144,7 @@ module _ {P p : ℕ} (tree : Tree P p) where
       → (w d s : ℕ) → tree .awaited (dimOf p s) d ≡ some w → Recv b s w (xs ++ ys) d (update (b .nodes) c v d)
   recv-stores b xs ys a c s₀ x v e fi aw l ev w d s q =
       update-all (λ d u. tree .awaited (dimOf p s) d ≡ some w → Recv b s w (xs ++ ys) d u) (b .nodes) c v
-      (λ q u. (l, rw (ev, e) (here q (ℕ-discrete s s₀) (ℕ-discrete a w))))
-      (λ y n q u. (
+      (λ q u. (l, rw (ev, e) (here q (ℕ-discrete s s₀) (ℕ-discrete a w)))) (λ y n q u. (
         u,
         rw e (sym (latest-skip s w y xs ys i (b .nodes y .stored s)
             (λ o. newer-off s w y i o (λ z. n (sym (z .1)))))),
@@ -223,8 +221,7 @@ module _ {P p : ℕ} (tree : Tree P p) where
         u,
         rw e (sym (latest-skip s w y xs ys i (b .nodes y .stored s)
             (λ o. newer-off s w y i o (λ z. n (sym (z .1)))))),
-      )) d)
-      (λ d s h q sd. (sd, refl))
+      )) d) (λ d s h q sd. (sd, refl))
     where
       i : Parcel
       i = record { from = a; to = c; load = report s₀ x }
@@ -255,8 +252,7 @@ module _ {P p : ℕ} (tree : Tree P p) where
       → Latest (placed b a (atStep (b .nodes a) (suc (b .nodes a .step)) true T) (b .items))
   go-moves b j a T l f t =
       latest-keep b j a v (b .items)
-      (λ w d s h e. recv-same b a v (b .items) (λ s. refl) (λ u. l) (λ w d s o. refl) w d s)
-      (λ d s h q sd. (
+      (λ w d s h e. recv-same b a v (b .items) (λ s. refl) (λ u. l) (λ w d s o. refl) w d s) (λ d s h q sd. (
         stood (b .nodes a) a d s h q f (near s sd (ℕ-discrete s (b .nodes a .step))),
         frame-same p (b .nodes a) v s refl (λ i k. refl) (λ k. t (omega (arith, upto s sd))),
       ))

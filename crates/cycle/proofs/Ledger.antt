@@ -1,6 +1,5 @@
 -- All phases: the ledger has a page for each phase, and with the items of that phase the page is a board of one phase.
--- An event
--- acts on one page, and keeps its invariant.
+-- An event acts on one page, and keeps its invariant.
 use mathlib.Core.Path.{_≡_, refl, sym, ap, _∙_, subst}
 use mathlib.Core.Logic.{_≢_}
 use mathlib.Core.Bool.{Bool, false}
@@ -103,8 +102,8 @@ module _ {P p : ℕ} (tree : Tree P p) (limit : ℕ) where
         → ((y : ℕ) → w .nodes y ≡ b .pages n .nodes y)
         → Step b (record { phase = b .phase; pages = update (b .pages) n w; items = ms })
 
-  -- each page has the invariant of a phase; a node is fresh in the phases ahead, at a step in its own, and past the last
-  -- step in those behind
+  -- each page has the invariant of a phase; a node is fresh in the phases ahead, at a step in its own, and past the
+  -- last step in those behind
   pub record Invariant (b : Ledger) : Type 0 where
     pub fit : (n : ℕ) → PhaseInvariant tree limit (phaseOf b n)
     pub ahead : (y n : ℕ) → b .phase y < n → b .pages n .nodes y ≡ fresh

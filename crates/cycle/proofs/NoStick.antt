@@ -1,6 +1,5 @@
 -- A board of one phase on which nobody is busy, nothing is under way to a node in the phase, and nobody would send, has
--- a node
--- whose step agrees.
+-- a node whose step agrees.
 use mathlib.Core.Path.{_≡_, refl, sym, ap, _∙_, subst}
 use mathlib.Core.Logic.{_⊎_, inl, inr}
 use mathlib.Core.Bool.{false}

@@ -90,8 +90,7 @@ module _ {P p : ℕ} (tree : Tree P p) (limit : ℕ) where
   ParcelOk b i = ContentOk b (i .from) (i .load)
 
   -- a node: its stored frames are right, T is what the frames of pass 1 give, the steps before its own agree, and its
-  -- totals
-  -- are what it has sent and what it has taken
+  -- totals are what it has sent and what it has taken
   pub record NodeOk (b : PhaseBoard) (a : ℕ) (v : State) : Type 0 where
     pub stored-ok : (s : ℕ) → s < p + p → StoredOk b s (tree .awaited (dimOf p s) a) (v .stored s)
     pub agreed-is : p ≤ v .step → v .agreed ≡ ownSums (v .tallies) (v .stored) p takenAll

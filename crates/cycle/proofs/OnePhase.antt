@@ -1,6 +1,6 @@
 -- One phase alone: a node that has not come to the phase yet is a fresh, busy one that does nothing, and one that has
--- left it
--- is at step p + p. Steps are counted through: pass 1, dimension k is step k; pass 2, dimension k is step p + k.
+-- left it is at step p + p. Steps are counted through: pass 1, dimension k is step k; pass 2, dimension k is step p +
+-- k.
 use mathlib.Core.Path.{_≡_}
 use mathlib.Core.Logic.{_⊎_}
 use mathlib.Core.Bool.{Bool, true, false}
@@ -34,8 +34,7 @@ pub record State : Type 0 where
   pub stored : ℕ → Option Entries
 
 -- The nodes and the items under way. History: the senders in order, how much each has sent to each and taken from each,
--- and
--- whether something was lost.
+-- and whether something was lost.
 pub record PhaseBoard : Type 0 where
   pub nodes : ℕ → State
   pub items : List Parcel

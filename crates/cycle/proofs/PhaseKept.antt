@@ -90,8 +90,7 @@ module _ {P p : ℕ} (tree : Tree P p) (limit : ℕ) where
       (λ i k q. t (omega arith)))
       (i .items-ok) refl (λ y z. refl) (λ q. not-busy tree limit v bu q)
       (λ q. subst (λ T. Quiet (b .senders) (totalTaken P (world b)) P (world b .done) T) (sym (t (omega arith)))
-      (quiet-now b i a h bu (v .step - p) (omega arith) (omega arith) ag))
-      la
+      (quiet-now b i a h bu (v .step - p) (omega arith) (omega arith) ag)) la
     where
       v : State
       v = b .nodes a
@@ -136,13 +135,11 @@ module _ {P p : ℕ} (tree : Tree P p) (limit : ℕ) where
           waits-keep tree limit b i a h bu (b .items ++ posts a q rs)
           (all-append (ParcelOk tree limit b) (b .items) (posts a q rs) (i .items-ok)
           (all-posts tree limit b a q rs (frame-ok tree limit b a h (i .nodes-ok a h) (reach tree limit b i) bu
-          (b .nodes a .step) l (omega arith))))
-          (omega (
+          (b .nodes a .step) l (omega arith)))) (omega (
             arith,
             messages-append (b .items) (posts a q rs),
             messages-reports a (b .nodes a .step) (frameOf p (b .nodes a) (b .nodes a .step)) rs,
-          ))
-          (λ y z. omega (
+          )) (λ y z. omega (
             arith,
             messages-on-append y z (b .items) (posts a q rs),
             messages-on-reports y z a (b .nodes a .step) (frameOf p (b .nodes a) (b .nodes a .step)) rs,

@@ -1,5 +1,5 @@
--- What every ledger that is reached has: a phase that somebody has left is over, phases are within one of one another, and no
--- board sticks.
+-- What every ledger that is reached has: a phase that somebody has left is over, phases are within one of one another,
+-- and no board sticks.
 use mathlib.Core.Path.{_≡_, refl, sym, ap, _∙_}
 use mathlib.Core.Logic.{_⊎_}
 use mathlib.Core.Bool.{Bool, true, false}

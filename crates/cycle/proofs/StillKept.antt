@@ -146,8 +146,7 @@ module _ {P p : ℕ} (tree : Tree P p) (limit : ℕ) where
   waits-keep b i a h bu is its j1 j2 la =
       local b i a (atStep v (v .step) false (v .agreed)) is h refl
       (λ q. q) (placed-ok b a v (v .step) false (v .agreed) ok (ok .step-le) (ok .agreed-is) (ok .agrees)
-      (λ i k q. refl))
-      its j1 j2 (λ q. not-busy v bu q) (i .quiet a h) la
+      (λ i k q. refl)) its j1 j2 (λ q. not-busy v bu q) (i .quiet a h) la
     where
       v : State
       v = b .nodes a

@@ -97,8 +97,7 @@ module _ {L : Limits} {P : ℕ} (setting : Setting L P) (w : Board) (play : Play
         (tree setting .awaited (dimOf p (stateOf ledger a .step)) a)
     agree-of g =
         subst (λ d. Agrees p (fieldLimit L) (stateOf ledger a) (stateOf ledger a .step) (tree setting .awaited d a))
-        (sym dim-at)
-        (agree-like p (view p n) (stateOf ledger a) (o .like) (fieldLimit L) (stateOf ledger a .step)
+        (sym dim-at) (agree-like p (view p n) (stateOf ledger a) (o .like) (fieldLimit L) (stateOf ledger a .step)
         (tree setting .awaited (n .dim) a)
         (invariant reached .now a (ledger .phase a) refl)
         (subst (Agrees p (fieldLimit L) (view p n) (stateOf ledger a .step)) awaits
@@ -216,8 +215,7 @@ module _ {L : Limits} {P : ℕ} (setting : Setting L P) (w : Board) (play : Play
           played = record {
             ledger = after;
             reached = Reached.next reached
-                (act-leave reached a (stateOf ledger a .agreed) h (rest-of b)
-                (mute-of m)
+                (act-leave reached a (stateOf ledger a .agreed) h (rest-of b) (mute-of m)
                 (agree-of g) (λ q. refl) (λ q. absurd (omega (arith, at-is))) (omega (arith, at-is)));
             sim = record {
               counts =
@@ -232,8 +230,7 @@ module _ {L : Limits} {P : ℕ} (setting : Setting L P) (w : Board) (play : Play
                   (λ y z q. sim .busy y q ∙ sym (put-other (w .busy) a true y z));
               items = sim .items;
               win =
-                  window-same
-                  (λ c. hass c (ℕ-discrete c a))
+                  window-same (λ c. hass c (ℕ-discrete c a))
                   (window-keeps (awaitedIn setting) (Move.leave a stored-all) (sim .win));
               capped =
                   update-all (λ m w. (y : ℕ) → y < P → w .nodes y .tallies sentAll ≤ L .sends) (ledger .pages)
@@ -366,8 +363,7 @@ module _ {L : Limits} {P : ℕ} (setting : Setting L P) (w : Board) (play : Play
         (posts a (report (stateOf ledger a .step) x) (receiversDue (w .nodes a)))) (sim .items)
         (pair-posts (frameBytes (dims (w .nodes a)) (frameDue (w .nodes a))) (stateOf ledger a .step) x
         (receiversDue (w .nodes a)) (emitted setting a (w .count a) (w .nodes a) (stateOf ledger a)
-        (hold setting w play a h) v) awaiting))
-        (window-same
+        (hold setting w play a h) v) awaiting)) (window-same
         (stored-same setting w ledger sim a h
         (pageWith (ledger .pages (ledger .phase a)) a
         (atStep (stateOf ledger a) (stateOf ledger a .step) false (stateOf ledger a .agreed)))
@@ -395,8 +391,7 @@ module _ {L : Limits} {P : ℕ} (setting : Setting L P) (w : Board) (play : Play
             (receiversDue (w .nodes a))
         awaiting =
             subst (λ d. All (λ c. (c < P) × (tree setting .awaited d c ≡ some a)) (receiversDue (w .nodes a)))
-            (sym dim-at)
-            (subst (All (λ c. (c < P) × (tree setting .awaited (w .nodes a .dim) c ≡ some a))) (sym rcv-is)
+            (sym dim-at) (subst (All (λ c. (c < P) × (tree setting .awaited (w .nodes a .dim) c ≡ some a))) (sym rcv-is)
             (receivers-await setting (w .nodes a .dim) a h))
     call-next len q (CallWay.waits v b m z g) =
         turns-still setting w play (calls a len) a h
@@ -451,8 +446,7 @@ module _ {L : Limits} {P : ℕ} (setting : Setting L P) (w : Board) (play : Play
         (λ z. absurd (omega (arith, at-is, hold setting w play a h .low)))
         (λ z. total-is) (omega (arith, at-is, d′, dim-pos setting)))
         (hold-at 2 0 (suc (stateOf ledger a .step)) true t (inr refl) (dim-pos setting) (omega (arith, at-is, d′)))
-        (w .busy)
-        (sim .busy a h) (λ y z. refl)
+        (w .busy) (sim .busy a h) (λ y z. refl)
       where
         t : ℕ
         t = own (w .nodes a) (dims (w .nodes a)) allTaken

@@ -32,8 +32,7 @@ pub take-clear : (L : Limits) (n : Node) (a byte x : ℕ) → valid L n ≡ true
     → take L n a byte .answer ≡ refused x → x ≡ 7
 unfolding take
 take-clear L n a byte x v l ne (inl d) r e =
-    not-refused x
-    (sym (rw (
+    not-refused x (sym (rw (
       v,
       lt-leb (n .nodes) a l,
       ne-eqb a (n .number) ne,

@@ -117,8 +117,7 @@ module _ {L : Limits} {P : ℕ} (setting : Setting L P) (w : Board) (play : Play
 
     off-win : Window (awaitedIn setting) (ledger .phase) (hasStored ledger) (twin .pre ++ twin .post)
     off-win =
-        window-keeps (awaitedIn setting) (Move.off (twin .pre) (twin .post) (twin .one) (twin .whole))
-        (sim .win)
+        window-keeps (awaitedIn setting) (Move.off (twin .pre) (twin .post) (twin .one) (twin .whole)) (sim .win)
 
     named-less : All (Named (w .untaken) (w .sends)) (place .pre ++ place .post)
     named-less =
@@ -244,8 +243,7 @@ module _ {L : Limits} {P : ℕ} (setting : Setting L P) (w : Board) (play : Play
                   (whole message lj) ph sender-lt receiver-lt jp shell);
               sim =
                   acted setting w ledger sim b receiver-lt u v refl n′ ok′ (sim .capped (ledger .phase b) b receiver-lt)
-                  (place .pre ++ place .post) ms pairs
-                  (window-same
+                  (place .pre ++ place .post) ms pairs (window-same
                   (stored-same setting w ledger sim b receiver-lt u v refl n′ ok′
                   (sim .capped (ledger .phase b) b receiver-lt) ms
                   (λ s. refl)) off-win)
@@ -395,8 +393,7 @@ module _ {L : Limits} {P : ℕ} (setting : Setting L P) (w : Board) (play : Play
                     (subst (λ t. Like p (view p (withFirst n (set (n .first) (F .dim) (firstOf F))))
                     (withStored (stateOf ledger b) t x)) at-is
                     (like-first p n (stateOf ledger b) (dims-is setting w play b receiver-lt) (o .like) (F .dim)
-                    (firstOf F) x
-                    (y .low) (omega (arith, o .firsts, y .low, dim-low setting)) refl
+                    (firstOf F) x (y .low) (omega (arith, o .firsts, y .low, dim-low setting)) refl
                     (λ f h. y .first q f (subst (λ t. Has p t (fieldOf f)) at-is h))));
               })
             where
@@ -421,8 +418,7 @@ module _ {L : Limits} {P : ℕ} (setting : Setting L P) (w : Board) (play : Play
                     subst (λ t. Like p (view p (withSecond n (set (n .second) (F .dim) (secondOf F))))
                     (withStored (stateOf ledger b) t x)) at-is
                     (like-second p n (stateOf ledger b) (dims-is setting w play b receiver-lt) (o .like) (F .dim)
-                    (secondOf F) x
-                    (y .low) (omega (arith, o .seconds, y .low, dim-low setting)) refl
+                    (secondOf F) x (y .low) (omega (arith, o .seconds, y .low, dim-low setting)) refl
                     (λ f h. y .second q f (subst (λ t. Has p t (fieldOf f)) at-is h)));
               })
             where
@@ -446,8 +442,7 @@ module _ {L : Limits} {P : ℕ} (setting : Setting L P) (w : Board) (play : Play
           })
       stored-next v n tv sv nb ph awt st ok′ =
           turned-to setting w play (delivers a b) b receiver-lt v n (twin .pre ++ twin .post) tv st ok′
-          (place .pre ++ place .post) pairs
-          (window-same
+          (place .pre ++ place .post) pairs (window-same
           (seats ledger b (pageWith (ledger .pages (ledger .phase b)) b v) (twin .pre ++ twin .post) v refl
           (λ z nd. (t : ℕ) → isSome (nd .stored t) ≡ update (hasStored ledger) b
           (update (hasStored ledger b) s true) z t)
@@ -511,18 +506,15 @@ module _ {L : Limits} {P : ℕ} (setting : Setting L P) (w : Board) (play : Play
           (λ l. stored-next (atStep (withStored (stateOf ledger b) s x) s false t)
           (at (stored n F) (F .pass) (F .dim) false t) refl refl busy-is ph aws
           (act-fall reached (twin .pre) (twin .post) (m .phase) a b s x
-          (whole (report s x) ln) first ph receiver-lt s-lt aws t
-          (omega (
+          (whole (report s x) ln) first ph receiver-lt s-lt aws t (omega (
             arith,
             ltb-true (stepNumber (dims n) (F .pass) (F .dim))
                 (stepNumber (dims n) (n .pass) (n .dim)) l,
             steps,
-          )) t-is)
-          (fallen hold-stored))
+          )) t-is) (fallen hold-stored))
           (λ l. stored-next (withStored (stateOf ledger b) s x) (stored n F) refl refl busy-is ph aws
           (act-store reached (twin .pre) (twin .post) (m .phase) a b s x
-          (whole (report s x) ln) first ph receiver-lt s-lt aws
-          (omega (
+          (whole (report s x) ln) first ph receiver-lt s-lt aws (omega (
             arith,
             ltb-false (stepNumber (dims n) (F .pass) (F .dim))
                 (stepNumber (dims n) (n .pass) (n .dim)) l,

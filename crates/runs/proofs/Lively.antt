@@ -222,8 +222,7 @@ module _ {L : Limits} {P : ℕ} (setting : Setting L P) where
             (ofPhase (ledger .phase u) (ledger .items))
         under =
             phase-all (ledger .phase u)
-            (λ t. (t .to < P) × (ledger .phase u < ledger .phase (t .to)))
-            (ledger .items)
+            (λ t. (t .to < P) × (ledger .phase u < ledger .phase (t .to))) (ledger .items)
             (pair-all (Carried setting) (λ m. (m .phase ≡ w .count u) × (w .count (m .to) ≡ w .count u) → ⊥)
             (λ m. m .phase ≡ ledger .phase u
             → (m .item .to < P) × (ledger .phase u < ledger .phase (m .item .to)))
@@ -261,8 +260,7 @@ module _ {L : Limits} {P : ℕ} (setting : Setting L P) where
                 (agrees-first setting ledger (s .played .reached) a (w .count a) h (w .nodes a)
                 (sim .node a h) (w .nodes a .dim) (sim .node a h .low)
                 (subst (λ t. Agrees p (fieldLimit L) (stateOf ledger a) t
-                (tree setting .awaited (dimOf p t) a))
-                at-is g))
+                (tree setting .awaited (dimOf p t) a)) at-is g))
             by (inr q) g =
                 let at-is : stateOf ledger a .step ≡ p + w .nodes a .dim = sym (sim .node a h .like .step)
                 ∙ step-second p (w .nodes a .pass) (w .nodes a .dim) q in
@@ -270,8 +268,7 @@ module _ {L : Limits} {P : ℕ} (setting : Setting L P) where
                 (agrees-second setting ledger (s .played .reached) a (w .count a) h (w .nodes a)
                 (sim .node a h) (w .nodes a .dim) (sim .node a h .low)
                 (subst (λ t. Agrees p (fieldLimit L) (stateOf ledger a) t
-                (tree setting .awaited (dimOf p t) a))
-                at-is g))
+                (tree setting .awaited (dimOf p t) a)) at-is g))
 
     lives-now : Lives L P w
     lives-now =

@@ -144,8 +144,7 @@ module _ (P : ℕ) where
       (sum-ext (λ y. update (B .pages (B .phase a) .nodes) a v y .tallies takenAll)
       (λ y. B .pages (B .phase a) .nodes y .tallies takenAll) 0 P
       (λ y k l. update-all (λ y nd. nd .tallies takenAll ≡ B .pages (B .phase a) .nodes y .tallies takenAll)
-      (B .pages (B .phase a) .nodes) a v q (λ y z. refl) y)))
-      (λ m z. refl)
+      (B .pages (B .phase a) .nodes) a v q (λ y z. refl) y))) (λ m z. refl)
 
   pub log-same : (B : Ledger) (n : ℕ) (u : Page) (ms : List Dated) → u .senders ≡ B .pages n .senders → (m : ℕ)
       → ledgerWith B n u ms .pages m .senders ≡ B .pages m .senders

@@ -123,8 +123,7 @@ module _ {L : Limits} {P : ℕ} (setting : Setting L P) (w : Board) (play : Play
         sends = w .sends;
       })
   turns-still e a h v n tv sv st ok bu b1 b2 =
-      turned-to e a h v n (ledger .items) tv st ok (w .items) (sim .items)
-      (window-same
+      turned-to e a h v n (ledger .items) tv st ok (w .items) (sim .items) (window-same
       (stored-same setting w ledger sim a h (pageWith (ledger .pages (ledger .phase a)) a v) v refl n ok
       (subst (λ (t : Entries). t sentAll ≤ L .sends) (sym tv) (sim .capped (ledger .phase a) a h)) (ledger .items)
       (λ s. ap (λ (g : ℕ → Option Entries). g s) sv)) (sim .win))

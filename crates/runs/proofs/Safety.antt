@@ -16,8 +16,10 @@ use Rattle.node.specs.Answers.{Given, Outcome, done, refused, Barrier, waits, l
 use Rattle.node.specs.Calls.{send, take, idle, frameIn}
 use Rattle.node.specs.Barrier.{barrier}
 use Rattle.node.specs.declared.Node.{Node}
-use Rattle.runs.specs.Board.{put, Load, work, frame, Item, Board, Event, sends, idles, calls, delivers, loses, start, oldest}
-use Rattle.runs.specs.Board.{without, gave, carries, afterSend, afterIdle, afterCall, offUnlessEarly, afterTake, afterFrame, delivered, deliveredOldest, step, after, run}
+use Rattle.runs.specs.Board.{put, Load, work, frame, Item, Board, Event, sends, idles, calls, delivers, loses}
+use Rattle.runs.specs.Board.{start, oldest}
+use Rattle.runs.specs.Board.{without, gave, carries, afterSend, afterIdle, afterCall, offUnlessEarly, afterTake}
+use Rattle.runs.specs.Board.{afterFrame, delivered, deliveredOldest, step, after, run}
 use Rattle.runs.specs.Claim.{SendDone, TakeDone, takes, Leaves, Safe}
 use Rattle.cycle.proofs.Sums.{sum-zero}
 use Rattle.cycle.proofs.Ledger.{Ledger, opening, Reached, Over}
@@ -248,7 +250,8 @@ module _ {L : Limits} {P : ℕ} (setting : Setting L P) where
     gone a len h y (CallWay.waits v b m z g) e = let z : _≡_ {A = ℕ} 0 1 = cc in absurd (omega arith)
     gone a len h y (CallWay.next v b m g d) e = let z : _≡_ {A = ℕ} 0 1 = cc in absurd (omega arith)
     gone a len h y (CallWay.second v b m z g d k) e = let z : _≡_ {A = ℕ} 0 1 = cc in absurd (omega arith)
-    gone a len h y (CallWay.single v b d) e = absurd (omega (arith, ap dimension (sim .node a h .nodes), dim-pos setting))
+    gone a len h y (CallWay.single v b d) e =
+        absurd (omega (arith, ap dimension (sim .node a h .nodes), dim-pos setting))
     gone a len h y (CallWay.leaves v b m z g d k) e =
         record {
           taken = none-left P (w .untaken) (w .sends) (w .items) (nx .played .ledger) (nx .played .marks)
@@ -275,7 +278,8 @@ module _ {L : Limits} {P : ℕ} (setting : Setting L P) where
               sends = w .sends;
             })
         nx =
-            leave-next setting w q a h len b m g (omega (arith, ap dimension (sim .node a h .nodes), sim .node a h .low, d))
+            leave-next setting w q a h len b m g
+            (omega (arith, ap dimension (sim .node a h .nodes), sim .node a h .low, d))
             (two (sim .node a h .pass))
 
         up : nx .played .ledger .phase a ≡ suc (w .count a)

@@ -111,9 +111,7 @@ module _ {L : Limits} {P : ℕ} (setting : Setting L P) (w : Board) (play : Play
                   load = ap (λ (n : Node). n .phase) (put-same (w .nodes) a n′) ∙ o .phase;
                 },
                 tt,
-              ))
-              (window-same
-              (stored-same setting w ledger sim a h u v refl n′
+              )) (window-same (stored-same setting w ledger sim a h u v refl n′
               ok′ (omega (arith, less)) ms (λ s. refl))
               (window-keeps (awaitedIn setting) (Move.out
               (record { phase = ledger .phase a; item = record { from = a; to = b; load = message } }) refl

@@ -1,6 +1,5 @@
 -- Every state of a board is accepted, after any run; and what is under way is not to its sender, a frame being one that
--- the
--- reader accepts.
+-- the reader accepts.
 use mathlib.Core.Path.{_≡_, refl, sym, _∙_, subst}
 use mathlib.Core.Logic.{_≢_}
 use mathlib.Core.Bool.{true, false}
@@ -21,8 +20,10 @@ use Rattle.node.specs.Answers.{Given, Outcome, done, dropped, refused, Barrier,
 use Rattle.node.specs.Calls.{send, take, idle, frameIn}
 use Rattle.node.specs.Barrier.{frameDue, receiversDue, barrier}
 use Rattle.node.specs.declared.Node.{Node}
-use Rattle.runs.specs.Board.{put, Load, work, frame, Item, Board, Event, sends, idles, calls, delivers, loses, start, oldest}
-use Rattle.runs.specs.Board.{without, lessOne, gave, afterSend, afterIdle, posted, afterCall, offUnlessEarly, afterTake, afterFrame, delivered, deliveredOldest, step}
+use Rattle.runs.specs.Board.{put, Load, work, frame, Item, Board, Event, sends, idles, calls, delivers, loses}
+use Rattle.runs.specs.Board.{start, oldest}
+use Rattle.runs.specs.Board.{without, lessOne, gave, afterSend, afterIdle, posted, afterCall, offUnlessEarly}
+use Rattle.runs.specs.Board.{afterTake, afterFrame, delivered, deliveredOldest, step}
 use Rattle.frame.proofs.RoundTripAccepted.{Read}
 use Rattle.tree.specs.Lookups.{badBoard}
 use Rattle.node.proofs.Ways.{SendWay, send-way, CallWay, call-way}
@@ -118,8 +119,7 @@ module _ {L : Limits} {P : ℕ} (setting : Setting L P) where
         (λ h. idle-valid L (w .nodes a) (ok a h))) (λ z. ok)
     accepted-step (calls a room) =
         let r = barrier L (w .nodes a) room in
-        cases Accepted (ltb a P) _ _
-        (λ z.
+        cases Accepted (ltb a P) _ _ (λ z.
         given a (r .node) _ (after-call (gave w a (r .node)) a (w .nodes a) (r .answer))
         (λ h. barrier-valid L (w .nodes a) (ok a h) (setting .fit .room) room)) (λ z. ok)
     accepted-step (delivers a b) = oldest-one a b (oldest a b (w .items))

@@ -62,7 +62,8 @@ module _ {L : Limits} {P : ℕ} (setting : Setting L P) (w : Board) (play : Play
               (update (ledger .pages) (c .one .phase) u)
               (λ n y. update-all (λ n w. w .nodes y ≡ ledger .pages n .nodes y) (ledger .pages) (c .one .phase) u refl
               (λ n z. refl) n)
-              (window-keeps (awaitedIn setting) (Move.off (c .pre) (c .post) (c .one) (c .whole)) (sim .win)) (w .untaken)
+              (window-keeps (awaitedIn setting) (Move.off (c .pre) (c .post) (c .one) (c .whole)) (sim .win))
+              (w .untaken)
               (w .sends);
           marks =
               marks-same P marks

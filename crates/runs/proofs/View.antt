@@ -215,8 +215,7 @@ agree-first L p n k e l a = go (awaited (n .nodes) k (n .number)) refl
         (slots-first p n k l ∙ choose-yes (some (firstEntries (firstAt n k))) none (c .stored))
         (sym (own-is p n k (omega arith) (sentTo k)) ∙ c .sent)
         (sym (own-is p n k (omega arith) (takenFrom k)) ∙ c .taken)
-        (λ f h. omega (arith, own-is p n k (omega arith) f, c .within (fieldOf f) (shown f h)))
-        (λ z. omega (
+        (λ f h. omega (arith, own-is p n k (omega arith) f, c .within (fieldOf f) (shown f h))) (λ z. omega (
           arith,
           own-is p n k (omega arith) sentAll,
           own-is p n k (omega arith) takenAll,
