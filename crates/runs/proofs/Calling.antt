@@ -364,7 +364,7 @@ module _ {L : Limits} {P : ℕ} (setting : Setting L P) (w : Board) (play : Play
         (pair-posts (frameBytes (dims (w .nodes a)) (frameDue (w .nodes a))) (stateOf ledger a .step) x
         (receiversDue (w .nodes a)) (emitted setting a (w .count a) (w .nodes a) (stateOf ledger a)
         (hold setting w play a h) v) awaiting)) (window-same
-        (stored-same setting w ledger sim a h
+        (stored-same setting sim a h
         (pageWith (ledger .pages (ledger .phase a)) a
         (atStep (stateOf ledger a) (stateOf ledger a .step) false (stateOf ledger a .agreed)))
         (atStep (stateOf ledger a) (stateOf ledger a .step) false (stateOf ledger a .agreed)) refl

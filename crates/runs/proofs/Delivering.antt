@@ -148,7 +148,7 @@ module _ {L : Limits} {P : ℕ} (setting : Setting L P) (w : Board) (play : Play
             ledger = ledgerWith ledger (m .phase) u (twin .pre ++ twin .post);
             reached = Reached.next reached st;
             sim =
-                carried setting (gave w b (w .nodes b)) ledger (unmoved setting w ledger sim b)
+                carried setting (unmoved setting sim b)
                 (place .pre ++ place .post)
                 (twin .pre ++ twin .post) pairs (update (ledger .pages) (m .phase) u)
                 (λ n y. update-all (λ n w. w .nodes y ≡ ledger .pages n .nodes y) (ledger .pages) (m .phase) u (nd y)
@@ -242,9 +242,9 @@ module _ {L : Limits} {P : ℕ} (setting : Setting L P) (w : Board) (play : Play
                   (act-take reached (twin .pre) (twin .post) (m .phase) a b j
                   (whole message lj) ph sender-lt receiver-lt jp shell);
               sim =
-                  acted setting w ledger sim b receiver-lt u v refl n′ ok′ (sim .capped (ledger .phase b) b receiver-lt)
+                  acted setting sim b receiver-lt u v refl n′ ok′ (sim .capped (ledger .phase b) b receiver-lt)
                   (place .pre ++ place .post) ms pairs (window-same
-                  (stored-same setting w ledger sim b receiver-lt u v refl n′ ok′
+                  (stored-same setting sim b receiver-lt u v refl n′ ok′
                   (sim .capped (ledger .phase b) b receiver-lt) ms
                   (λ s. refl)) off-win)
                   (put (w .busy) b true) (sym (put-same (w .busy) b true))

@@ -151,12 +151,12 @@ module _ (P : ℕ) where
   log-same B n u ms e = update-all (λ m w. w .senders ≡ B .pages m .senders) (B .pages) n u e (λ m z. refl)
 
   -- a message goes out
-  pub marks-send : (ut : ℕ → Option ℕ) (sd : ℕ) (is : List Item) (B : Ledger) → Marks ut sd is B
+  pub marks-send : {ut : ℕ → Option ℕ} {sd : ℕ} {is : List Item} {B : Ledger} → Marks ut sd is B
       → (a c : ℕ) (v : State) (ms : List Dated) (m : Item) → v .tallies takenAll ≡ stateOf B a .tallies takenAll
       → m .name ≡ sd → m .phase ≡ B .phase a
       → Marks (put ut sd (some (m .phase))) (suc sd) (is ++ (m ∷ []))
       (ledgerWith B (B .phase a) (pageSent (B .pages (B .phase a)) a c v) ms)
-  marks-send ut sd is B k a c v ms m tv nm ph =
+  marks-send {ut} {sd} {is} {B} k a c v ms m tv nm ph =
       record {
         tidy = λ i l. put-other ut sd (some (m .phase)) i (omega arith) ∙ k .tidy i (omega arith);
         sums = λ n. sums n;
@@ -283,9 +283,9 @@ module _ (P : ℕ) where
           )
 
   -- all of a phase taken: no mark of it is left
-  pub none-left : (ut : ℕ → Option ℕ) (sd : ℕ) (is : List Item) (B : Ledger) → Marks ut sd is B → (n : ℕ)
+  pub none-left : {ut : ℕ → Option ℕ} {sd : ℕ} {is : List Item} {B : Ledger} → Marks ut sd is B → (n : ℕ)
       → takesIn B n ≡ length (B .pages n .senders) → (i : ℕ) → ut i ≢ some n
-  none-left ut sd is B k n e i q = go (decLt i sd)
+  none-left {ut} {sd} {is} {B} k n e i q = go (decLt i sd)
     where
       go : Dec (i < sd) → ⊥
       go (yes l) = omega (arith, k .sums n, sum-at (λ i. hit n (ut i)) sd i l, ap (hit n) q, hit-same n)

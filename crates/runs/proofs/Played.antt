@@ -73,7 +73,7 @@ module _ {L : Limits} {P : ℕ} (setting : Setting L P) (w : Board) (play : Play
         played = record {
           ledger = ledger;
           reached = reached;
-          sim = unmoved setting w ledger sim a;
+          sim = unmoved setting sim a;
           marks = marks;
         };
         calm = inl (λ n. refl);
@@ -95,7 +95,7 @@ module _ {L : Limits} {P : ℕ} (setting : Setting L P) (w : Board) (play : Play
           ledger = withState ledger a v ms;
           reached = Reached.next reached st;
           sim =
-              acted setting w ledger sim a h (pageWith (ledger .pages (ledger .phase a)) a v) v refl n ok
+              acted setting sim a h (pageWith (ledger .pages (ledger .phase a)) a v) v refl n ok
               (subst (λ (t : Entries). t sentAll ≤ L .sends) (sym tv) (sim .capped (ledger .phase a) a h)) is ms it wi
               bu
               b1 b2 (w .untaken) (w .sends);
@@ -124,7 +124,7 @@ module _ {L : Limits} {P : ℕ} (setting : Setting L P) (w : Board) (play : Play
       })
   turns-still e a h v n tv sv st ok bu b1 b2 =
       turned-to e a h v n (ledger .items) tv st ok (w .items) (sim .items) (window-same
-      (stored-same setting w ledger sim a h (pageWith (ledger .pages (ledger .phase a)) a v) v refl n ok
+      (stored-same setting sim a h (pageWith (ledger .pages (ledger .phase a)) a v) v refl n ok
       (subst (λ (t : Entries). t sentAll ≤ L .sends) (sym tv) (sim .capped (ledger .phase a) a h)) (ledger .items)
       (λ s. ap (λ (g : ℕ → Option Entries). g s) sv)) (sim .win))
       bu b1 b2 (marks .named) (marks .apart)

@@ -254,7 +254,7 @@ module _ {L : Limits} {P : ℕ} (setting : Setting L P) where
         absurd (omega (arith, ap dimension (sim .node a h .nodes), dim-pos setting))
     gone a len h y (CallWay.leaves v b m z g d k) e =
         record {
-          taken = none-left P (w .untaken) (w .sends) (w .items) (nx .played .ledger) (nx .played .marks)
+          taken = none-left P (nx .played .marks)
               (w .count a) (o .taken);
           idle = λ x hx z. idles′ x hx z (ℕ-discrete x a);
           reached = λ x hx. reach x hx (ℕ-discrete x a);

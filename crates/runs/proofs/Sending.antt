@@ -97,7 +97,7 @@ module _ {L : Limits} {P : ℕ} (setting : Setting L P) (w : Board) (play : Play
               (act-send reached a b j h hb jp shell (sym (o .like .busy) ∙ bu)
               (log-room a h less));
           sim =
-              acted setting w ledger sim a h u v refl n′
+              acted setting sim a h u v refl n′
               ok′ (omega (arith, less))
               (w .items ++ (item ∷ [])) ms
               (pair-append (Carried setting) (w .items) (item ∷ []) (ledger .items)
@@ -111,7 +111,7 @@ module _ {L : Limits} {P : ℕ} (setting : Setting L P) (w : Board) (play : Play
                   load = ap (λ (n : Node). n .phase) (put-same (w .nodes) a n′) ∙ o .phase;
                 },
                 tt,
-              )) (window-same (stored-same setting w ledger sim a h u v refl n′
+              )) (window-same (stored-same setting sim a h u v refl n′
               ok′ (omega (arith, less)) ms (λ s. refl))
               (window-keeps (awaitedIn setting) (Move.out
               (record { phase = ledger .phase a; item = record { from = a; to = b; load = message } }) refl
@@ -119,7 +119,7 @@ module _ {L : Limits} {P : ℕ} (setting : Setting L P) (w : Board) (play : Play
               (λ s q. let z : _≡_ {A = ℕ} 0 1 = cc in absurd (omega arith))) (sim .win)))
               (w .busy) (bu ∙ sym (sym (sim .busy a h) ∙ bu))
               (λ y z. refl) (put (w .untaken) (w .sends) (some (w .count a))) (suc (w .sends));
-          marks = marks-send P (w .untaken) (w .sends) (w .items) ledger marks a b v ms item refl refl (sim .counts a);
+          marks = marks-send P marks a b v ms item refl refl (sim .counts a);
         };
         calm = inl (lossy-same ledger (ledger .phase a) u ms refl);
       }

@@ -140,7 +140,7 @@ module _ {L : Limits} {P : ℕ} (setting : Setting L P) where
 
   -- ---- a node has changed in its phase
 
-  module _ (w : Board) (B : Ledger) (i : Sim w B) (a : ℕ) (h : a < P) (u : Page) (v : State)
+  module _ {w : Board} {B : Ledger} (i : Sim w B) (a : ℕ) (h : a < P) (u : Page) (v : State)
       (e : u .nodes ≡ update (B .pages (B .phase a) .nodes) a v)
       (n : Node) (ok : Holds a (w .count a) n v) (cap : v .tallies sentAll ≤ L .sends) where
     pub acted : (is : List Item) (ms : List Dated) → Pair Carried is ms
@@ -175,8 +175,8 @@ module _ {L : Limits} {P : ℕ} (setting : Setting L P) where
         (λ y z s. refl)
 
   -- a refused call gives the state back
-  pub unmoved : (w : Board) (B : Ledger) → Sim w B → (a : ℕ) → Sim (gave w a (w .nodes a)) B
-  unmoved w B i a =
+  pub unmoved : {w : Board} {B : Ledger} → Sim w B → (a : ℕ) → Sim (gave w a (w .nodes a)) B
+  unmoved {w} {B} i a =
       record {
         counts = i .counts;
         node =
@@ -191,13 +191,13 @@ module _ {L : Limits} {P : ℕ} (setting : Setting L P) where
       }
 
   -- other items and other history
-  pub carried : (w : Board) (B : Ledger) → Sim w B → (is : List Item) (ms : List Dated) → Pair Carried is ms
+  pub carried : {w : Board} {B : Ledger} → Sim w B → (is : List Item) (ms : List Dated) → Pair Carried is ms
       → (ps : ℕ → Page) → ((n y : ℕ) → ps n .nodes y ≡ B .pages n .nodes y)
       → Window awaitedIn (B .phase) (hasStored B) ms
       → (ut : ℕ → Option ℕ) (sd : ℕ)
       → Sim (record { nodes = w .nodes; items = is; count = w .count; busy = w .busy; untaken = ut; sends = sd })
       (record { phase = B .phase; pages = ps; items = ms })
-  carried w B i is ms it ps e wi ut sd =
+  carried {w} {B} i is ms it ps e wi ut sd =
       record {
         counts = i .counts;
         node = λ y q. subst (Holds y (w .count y) (w .nodes y)) (sym (e (B .phase y) y)) (i .node y q);

@@ -57,7 +57,7 @@ module _ {L : Limits} {P : ℕ} (setting : Setting L P) (w : Board) (play : Play
               (c .one .item .from)
               (c .one .item .to) (c .one .item .load) (c .whole));
           sim =
-              carried setting w ledger sim (pre ++ post) ms
+              carried setting sim (pre ++ post) ms
               (pair-append (Carried setting) pre post (c .pre) (c .post) (c .before) (c .after))
               (update (ledger .pages) (c .one .phase) u)
               (λ n y. update-all (λ n w. w .nodes y ≡ ledger .pages n .nodes y) (ledger .pages) (c .one .phase) u refl
