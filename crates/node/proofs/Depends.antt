@@ -34,12 +34,19 @@ use Rattle.node.proofs.Bound.{due-first, due-second}
 
 -- ---- what the sums and the agreement of a step depend on
 
+pub record Same (P a : ℕ) (s : List Sent) (t : List Taken) (P′ a′ : ℕ) (s′ : List Sent) (t′ : List Taken) : Type 0 where
+  pub nodes : P′ ≡ P
+  pub number : a′ ≡ a
+  pub sent : s′ ≡ s
+  pub taken : t′ ≡ t
+
 -- the same node of the same board, with the same tallies
-pub record Alike (n n′ : Node) : Type 0 where
-  pub nodes : n′ .nodes ≡ n .nodes
-  pub number : n′ .number ≡ n .number
-  pub sent : n′ .sent ≡ n .sent
-  pub taken : n′ .taken ≡ n .taken
+abbrev pub Alike : Node → Node → Type 0
+Alike n n′ =
+    Same (n .nodes) (n .number) (n .sent) (n .taken) (n′ .nodes) (n′ .number) (n′ .sent) (n′ .taken)
+
+pub alike : (n : Node) → Alike n n
+alike n = record { nodes = refl; number = refl; sent = refl; taken = refl }
 
 module _ (n n′ : Node) (a : Alike n n′) where
   pub tally-same : (f : Field) → tally n′ f ≡ tally n f
@@ -157,45 +164,33 @@ module _ (n : Node) (k : ℕ) (x : Confirm) where
 -- ---- the own sums after a change
 
 module _ (n : Node) where
-  pub alike-busy : (b : Bool) → Alike n (withBusy n b)
-  alike-busy b = record { nodes = refl; number = refl; sent = refl; taken = refl }
-
-  pub alike-at : (pass dim : ℕ) (flag : Bool) (agreed : ℕ) → Alike n (at n pass dim flag agreed)
-  alike-at pass dim flag agreed = record { nodes = refl; number = refl; sent = refl; taken = refl }
-
-  pub alike-first : (l : List Stored) → Alike n (withFirst n l)
-  alike-first l = record { nodes = refl; number = refl; sent = refl; taken = refl }
-
-  pub alike-second : (l : List Confirm) → Alike n (withSecond n l)
-  alike-second l = record { nodes = refl; number = refl; sent = refl; taken = refl }
-
   module _ (k : ℕ) (f : Field) where
     pub own-busy : (b : Bool) → own (withBusy n b) k f ≡ own n k f
-    own-busy b = own-same n _ (alike-busy b) k (λ j l. refl) f
+    own-busy b = own-same n _ (alike n) k (λ j l. refl) f
 
     pub own-at : (pass dim : ℕ) (flag : Bool) (agreed : ℕ) → own (at n pass dim flag agreed) k f ≡ own n k f
-    own-at pass dim flag agreed = own-same n _ (alike-at pass dim flag agreed) k (λ j l. refl) f
+    own-at pass dim flag agreed = own-same n _ (alike n) k (λ j l. refl) f
 
     -- a frame stored at or after the dimension, and any of pass 2
     pub own-first : (j : ℕ) (x : Stored) → k ≤ j → own (storeFirst n j x) k f ≡ own n k f
-    own-first j x l = own-same n _ (alike-first _) k (λ i h. first-elsewhere n j x i (λ e. omega arith)) f
+    own-first j x l = own-same n _ (alike n) k (λ i h. first-elsewhere n j x i (λ e. omega arith)) f
 
     pub own-second : (l : List Confirm) → own (withSecond n l) k f ≡ own n k f
-    own-second l = own-same n _ (alike-second l) k (λ i h. refl) f
+    own-second l = own-same n _ (alike n) k (λ i h. refl) f
 
   module _ (k : ℕ) where
     pub issued-busy : (b : Bool) → ownIssued (withBusy n b) k ≡ ownIssued n k
-    issued-busy b = issued-same n _ (alike-busy b) k (λ j l. refl)
+    issued-busy b = issued-same n _ (alike n) k (λ j l. refl)
 
     pub issued-at : (pass dim : ℕ) (flag : Bool) (agreed : ℕ)
         → ownIssued (at n pass dim flag agreed) k ≡ ownIssued n k
-    issued-at pass dim flag agreed = issued-same n _ (alike-at pass dim flag agreed) k (λ j l. refl)
+    issued-at pass dim flag agreed = issued-same n _ (alike n) k (λ j l. refl)
 
     pub issued-first : (l : List Stored) → ownIssued (withFirst n l) k ≡ ownIssued n k
-    issued-first l = issued-same n _ (alike-first l) k (λ i h. refl)
+    issued-first l = issued-same n _ (alike n) k (λ i h. refl)
 
     pub issued-second : (j : ℕ) (x : Confirm) → k ≤ j → ownIssued (storeSecond n j x) k ≡ ownIssued n k
-    issued-second j x l = issued-same n _ (alike-second _) k (λ i h. second-elsewhere n j x i (λ e. omega arith))
+    issued-second j x l = issued-same n _ (alike n) k (λ i h. second-elsewhere n j x i (λ e. omega arith))
 
 -- ---- the tallies after a message is sent or taken
 
@@ -320,7 +315,7 @@ got-way n f (inr e) =
 -- it is still the same node with the same tallies, in its phase, and busy if it was
 pub got-keeps : {n : Node} {f : Frame} {n′ : Node} → GotWay n f n′
     → Alike n n′ × (n′ .phase ≡ n .phase) × (n′ .busy ≡ n .busy)
-got-keeps (firstBack e l) = (record { nodes = refl; number = refl; sent = refl; taken = refl }, refl, refl)
-got-keeps (firstStay e l) = (record { nodes = refl; number = refl; sent = refl; taken = refl }, refl, refl)
-got-keeps (secondBack e l) = (record { nodes = refl; number = refl; sent = refl; taken = refl }, refl, refl)
-got-keeps (secondStay e l) = (record { nodes = refl; number = refl; sent = refl; taken = refl }, refl, refl)
+got-keeps {n} (firstBack e l) = (alike n, refl, refl)
+got-keeps {n} (firstStay e l) = (alike n, refl, refl)
+got-keeps {n} (secondBack e l) = (alike n, refl, refl)
+got-keeps {n} (secondStay e l) = (alike n, refl, refl)

@@ -7,3 +7,5 @@ pub mod Depends
 pub mod Moving
 pub mod Storing
 pub mod ValidOut
+pub mod Passes
+pub mod Sizes

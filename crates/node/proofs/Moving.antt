@@ -2,14 +2,12 @@
 use mathlib.Core.Path.{_≡_, refl, sym, ap, _∙_, subst}
 use mathlib.Core.Logic.{_≢_, _⊎_, inl, inr}
 use mathlib.Core.Bool.{Bool, true, false}
-use Prim.Native.Nat.{ℕ, zero, suc, _+_, _^_, _≤_, _<_}
+use Prim.Native.Nat.{ℕ, suc, _+_, _^_, _≤_, _<_}
 use native.Mathlib.Decide.{ℕ-discrete}
 use native.Mathlib.Omega.{arith}
-use lib.ListN.{getD}
 use borrow.Author.Tests.{eq-eqb}
-use Rattle.base.specs.Choice.{list}
 use Rattle.base.specs.Limits.{Limits, fieldLimit, takenLimit, width}
-use Rattle.base.proofs.Laws.{clash, list-at}
+use Rattle.base.proofs.Laws.{clash, list-at, list-one}
 use Rattle.tree.specs.Tree.{dimension}
 use Rattle.tree.specs.Lookups.{badBoard}
 use Rattle.frame.specs.Frame.{sentNumber, takenNumber, numberOk}
@@ -26,26 +24,20 @@ use Rattle.node.proofs.Totals.{total-zero}
 use Rattle.node.proofs.Valid.{Valid, stepOf, step-first, step-second, Room}
 use Rattle.node.proofs.Valid.{holds, FirstFits, SecondFits, first-ok, second-ok}
 use Rattle.node.proofs.Bound.{own-low}
-use Rattle.node.proofs.Depends.{alike-busy, alike-at, first-same, second-same, own-busy, own-at}
+use Rattle.node.proofs.Depends.{alike, first-same, second-same, own-busy, own-at}
 use Rattle.node.proofs.Depends.{sent-else, sent-up, taken-else, taken-up}
 
 -- ---- a fresh node
-
--- a list of one value has it everywhere
-all-alike : {A : Type 0} (start count : ℕ) (x : A) (i : ℕ) → getD (list start count (λ m. x)) i x ≡ x
-all-alike start zero x i = refl
-all-alike start (suc count) x zero = refl
-all-alike start (suc count) x (suc i) = all-alike (suc start) count x i
 
 module _ (L : Limits) (P number phase : ℕ) where
   abbrev new : Node
   new = freshIn P number phase
 
   none-sent : (m : ℕ) → tally new (sentIn m) ≡ 0
-  none-sent m = ap (λ (x : Sent). x .0) (all-alike 0 width (sentNumber 0) m)
+  none-sent m = ap (λ (x : Sent). x .0) (list-one 0 width (sentNumber 0) m)
 
   none-taken : (m : ℕ) → tally new (takenIn m) ≡ 0
-  none-taken m = ap (λ (x : Taken). x .0) (all-alike 0 width (takenNumber 0) m)
+  none-taken m = ap (λ (x : Taken). x .0) (list-one 0 width (takenNumber 0) m)
 
   none-first : (k : ℕ) → k < width → firstOk L new k ≡ true
   none-first k h =
@@ -158,9 +150,9 @@ module _ (L : Limits) (n : Node) (v : Valid L n) where
         first = v .first;
         second = v .second;
         before-first =
-            λ k l r. first-same n (withBusy n false) (alike-busy n false) L k (λ j h. refl) ∙ v .before-first k l r;
+            λ k l r. first-same n (withBusy n false) (alike n) L k (λ j h. refl) ∙ v .before-first k l r;
         before-second =
-            λ k r. second-same n (withBusy n false) (alike-busy n false) L k (λ j h. refl) refl ∙ v .before-second k r;
+            λ k r. second-same n (withBusy n false) (alike n) L k (λ j h. refl) refl ∙ v .before-second k r;
         busy = λ e. clash (sym e);
       }
 
@@ -183,7 +175,7 @@ module _ (L : Limits) (n : Node) (v : Valid L n) (idle : n .busy ≡ false) wher
   unfolding firstOk secondOk
   at-facts pass dim flag agreed w =
       let m = at n pass dim flag agreed in
-      let a = alike-at n pass dim flag agreed in
+      let a = alike n in
       record {
         board = v .board;
         number = v .number;

