@@ -73,38 +73,40 @@ frame-not-work m bs e w = let q = w .1 in let b = w .0 in go b q
 
 -- a message is marked untaken, with its phase
 abbrev pub Named : (ℕ → Option ℕ) → ℕ → Item → Type 0
-Named ut sd m = IsWork m → (m .name < sd) × (ut (m .name) ≡ some (m .phase))
+Named untaken sends m = IsWork m → (m .name < sends) × (untaken (m .name) ≡ some (m .phase))
 
 module _ (P : ℕ) where
   abbrev pub takesIn : Ledger → ℕ → ℕ
   takesIn B n = sum (λ y. B .pages n .nodes y .tallies takenAll) 0 P
 
-  pub record Marks (ut : ℕ → Option ℕ) (sd : ℕ) (is : List Item) (B : Ledger) : Type 0 where
-    pub tidy : (i : ℕ) → sd ≤ i → ut i ≡ none
-    pub sums : (n : ℕ) → sum (λ i. hit n (ut i)) 0 sd + takesIn B n ≡ length (B .pages n .senders)
-    pub named : All (Named ut sd) is
+  pub record Marks (untaken : ℕ → Option ℕ) (sends : ℕ) (is : List Item) (B : Ledger) : Type 0 where
+    pub tidy : (i : ℕ) → sends ≤ i → untaken i ≡ none
+    pub sums : (n : ℕ) → sum (λ i. hit n (untaken i)) 0 sends + takesIn B n ≡ length (B .pages n .senders)
+    pub named : All (Named untaken sends) is
     pub apart : Apart is
 
   -- nothing sent, nothing taken
-  pub marks-same : {ut : ℕ → Option ℕ} {sd : ℕ} {is js : List Item} {B C : Ledger} → Marks ut sd is B
-      → All (Named ut sd) js → Apart js
-      → ((n : ℕ) → takesIn C n ≡ takesIn B n) → ((n : ℕ) → C .pages n .senders ≡ B .pages n .senders) → Marks ut sd js C
+  pub marks-same : {untaken : ℕ → Option ℕ} {sends : ℕ} {is js : List Item} {B C : Ledger} → Marks untaken sends is B
+      → All (Named untaken sends) js → Apart js
+      → ((n : ℕ) → takesIn C n ≡ takesIn B n) → ((n : ℕ) → C .pages n .senders ≡ B .pages n .senders)
+      → Marks untaken sends js C
   marks-same m na ap′ t l =
       record { tidy = m .tidy; sums = λ n. omega (arith, m .sums n, t n, ap length (l n)); named = na; apart = ap′ }
 
-  pub less-named : (ut : ℕ → Option ℕ) (sd : ℕ) (xs ys : List Item) (m : Item) → All (Named ut sd) (xs ++ m ∷ ys)
-      → All (Named ut sd) (xs ++ ys)
-  less-named ut sd xs ys m h = all-mid (Named ut sd) xs ys m h .1
+  pub less-named : (untaken : ℕ → Option ℕ) (sends : ℕ) (xs ys : List Item) (m : Item)
+      → All (Named untaken sends) (xs ++ m ∷ ys)
+      → All (Named untaken sends) (xs ++ ys)
+  less-named untaken sends xs ys m h = all-mid (Named untaken sends) xs ys m h .1
 
   pub less-apart : (xs ys : List Item) (m : Item) → Apart (xs ++ m ∷ ys) → Apart (xs ++ ys)
   less-apart = apart-less
 
   -- frames go out
-  pub frames-named : (ut : ℕ → Option ℕ) (sd : ℕ) (xs : List Item) (a : ℕ) (bs : List ℕ) (c : ℕ) (rs : List ℕ)
-      → All (Named ut sd) xs → All (Named ut sd) (xs ++ posted a bs c rs)
-  frames-named ut sd xs a bs c rs h = all-append (Named ut sd) xs (posted a bs c rs) h (new rs)
+  pub frames-named : (untaken : ℕ → Option ℕ) (sends : ℕ) (xs : List Item) (a : ℕ) (bs : List ℕ) (c : ℕ) (rs : List ℕ)
+      → All (Named untaken sends) xs → All (Named untaken sends) (xs ++ posted a bs c rs)
+  frames-named untaken sends xs a bs c rs h = all-append (Named untaken sends) xs (posted a bs c rs) h (new rs)
     where
-      new : (rs : List ℕ) → All (Named ut sd) (posted a bs c rs)
+      new : (rs : List ℕ) → All (Named untaken sends) (posted a bs c rs)
       new [] = tt
       new (r ∷ rs) =
           ((λ w. frame-not-work (record { from = a; to = r; load = frame bs; phase = c; name = 0 }) bs refl w), new rs)
@@ -151,40 +153,43 @@ module _ (P : ℕ) where
   log-same B n u ms e = update-all (λ m w. w .senders ≡ B .pages m .senders) (B .pages) n u e (λ m z. refl)
 
   -- a message goes out
-  pub marks-send : {ut : ℕ → Option ℕ} {sd : ℕ} {is : List Item} {B : Ledger} → Marks ut sd is B
+  pub marks-send : {untaken : ℕ → Option ℕ} {sends : ℕ} {is : List Item} {B : Ledger} → Marks untaken sends is B
       → (a c : ℕ) (v : State) (ms : List Dated) (m : Item) → v .tallies takenAll ≡ stateOf B a .tallies takenAll
-      → m .name ≡ sd → m .phase ≡ B .phase a
-      → Marks (put ut sd (some (m .phase))) (suc sd) (is ++ (m ∷ []))
+      → m .name ≡ sends → m .phase ≡ B .phase a
+      → Marks (put untaken sends (some (m .phase))) (suc sends) (is ++ (m ∷ []))
       (ledgerWith B (B .phase a) (pageSent (B .pages (B .phase a)) a c v) ms)
-  marks-send {ut} {sd} {is} {B} k a c v ms m tv nm ph =
+  marks-send {untaken} {sends} {is} {B} k a c v ms m tv nm ph =
       record {
-        tidy = λ i l. put-other ut sd (some (m .phase)) i (omega arith) ∙ k .tidy i (omega arith);
+        tidy = λ i l. put-other untaken sends (some (m .phase)) i (omega arith) ∙ k .tidy i (omega arith);
         sums = λ n. sums n;
-        named = all-append (Named ut′ (suc sd)) is (m ∷ [])
-            (all-map (Named ut sd) (Named ut′ (suc sd))
+        named = all-append (Named untaken′ (suc sends)) is (m ∷ [])
+            (all-map (Named untaken sends) (Named untaken′ (suc sends))
             (λ x h w. let q = h w in (
               omega (arith, q .0),
-              put-other ut sd (some (m .phase)) (x .name) (omega (arith, q .0)) ∙ q .1,
+              put-other untaken sends (some (m .phase)) (x .name) (omega (arith, q .0)) ∙ q .1,
             )) is (k .named))
-            ((λ w. (omega arith, ap ut′ nm ∙ put-same ut sd (some (m .phase)))), tt);
+            ((λ w. (omega arith, ap untaken′ nm ∙ put-same untaken sends (some (m .phase)))), tt);
         apart =
-            apart-snoc is m (k .apart) (all-map (Named ut sd) (λ x. IsWork x → IsWork m → m .name ≢ x .name)
+            apart-snoc is m (k .apart) (all-map (Named untaken sends) (λ x. IsWork x → IsWork m → m .name ≢ x .name)
             (λ x h w y q. let z = h w .0 in omega arith) is (k .named));
       }
     where
-      ut′ : ℕ → Option ℕ
-      ut′ = put ut sd (some (m .phase))
+      untaken′ : ℕ → Option ℕ
+      untaken′ = put untaken sends (some (m .phase))
 
       C : Ledger
       C = ledgerWith B (B .phase a) (pageSent (B .pages (B .phase a)) a c v) ms
 
-      old : (n : ℕ) → sum (λ i. hit n (put ut sd (some (m .phase)) i)) 0 sd ≡ sum (λ i. hit n (ut i)) 0 sd
+      old : (n : ℕ) → sum (λ i. hit n (put untaken sends (some (m .phase)) i)) 0 sends ≡ sum
+          (λ i. hit n (untaken i)) 0 sends
       old n =
-          sum-ext (λ i. hit n (put ut sd (some (m .phase)) i)) (λ i. hit n (ut i)) 0 sd
-          (λ i x y. ap (hit n) (put-other ut sd (some (m .phase)) i (omega arith)))
+          sum-ext (λ i. hit n (put untaken sends (some (m .phase)) i)) (λ i. hit n (untaken i)) 0 sends
+          (λ i x y. ap (hit n) (put-other untaken sends (some (m .phase)) i (omega arith)))
 
-      new : (n : ℕ) → hit n (put ut sd (some (m .phase)) (0 + sd)) ≡ hit n (some (B .phase a))
-      new n = let z : 0 + sd ≡ sd = omega arith in rw z (ap (hit n) (put-same ut sd (some (m .phase)) ∙ ap some ph))
+      new : (n : ℕ) → hit n (put untaken sends (some (m .phase)) (0 + sends)) ≡ hit n (some (B .phase a))
+      new n =
+          let z : 0 + sends ≡ sends = omega arith in
+          rw z (ap (hit n) (put-same untaken sends (some (m .phase)) ∙ ap some ph))
 
       logs : (n : ℕ) → length (ledgerWith B (B .phase a) (pageSent (B .pages (B .phase a)) a c v) ms .pages n .senders)
           ≡ length (B .pages n .senders) + hit n (some (B .phase a))
@@ -194,7 +199,7 @@ module _ (P : ℕ) where
           (omega (arith, length-snoc (B .pages (B .phase a) .senders) a, hit-same (B .phase a)))
           (λ n z. omega (arith, hit-other (B .phase a) n (λ q. z (sym q))))
 
-      sums : (n : ℕ) → sum (λ i. hit n (put ut sd (some (m .phase)) i)) 0 (suc sd) + takesIn
+      sums : (n : ℕ) → sum (λ i. hit n (put untaken sends (some (m .phase)) i)) 0 (suc sends) + takesIn
           (ledgerWith B (B .phase a) (pageSent (B .pages (B .phase a)) a c v) ms) n
           ≡ length (ledgerWith B (B .phase a) (pageSent (B .pages (B .phase a)) a c v) ms .pages n .senders)
       sums n =
@@ -208,42 +213,44 @@ module _ (P : ℕ) where
           )
 
   -- a message is taken
-  pub marks-take : (ut : ℕ → Option ℕ) (sd : ℕ) (xs ys : List Item) (m : Item) (B : Ledger)
-      → Marks ut sd (xs ++ m ∷ ys) B → IsWork m → (a c : ℕ) (v : State) (ms : List Dated) → c < P
+  pub marks-take : (untaken : ℕ → Option ℕ) (sends : ℕ) (xs ys : List Item) (m : Item) (B : Ledger)
+      → Marks untaken sends (xs ++ m ∷ ys) B → IsWork m → (a c : ℕ) (v : State) (ms : List Dated) → c < P
       → m .phase ≡ B .phase c
       → v .tallies takenAll ≡ suc (stateOf B c .tallies takenAll)
-      → Marks (put ut (m .name) none) sd (xs ++ ys)
+      → Marks (put untaken (m .name) none) sends (xs ++ ys)
       (ledgerWith B (B .phase c) (pageTaken (B .pages (B .phase c)) a c v) ms)
-  marks-take ut sd xs ys m B k w a c v ms hc ph tv =
+  marks-take untaken sends xs ys m B k w a c v ms hc ph tv =
       record {
-        tidy = λ i l. put-other ut (m .name) none i (omega (arith, mine .0)) ∙ k .tidy i l;
+        tidy = λ i l. put-other untaken (m .name) none i (omega (arith, mine .0)) ∙ k .tidy i l;
         sums = sums;
-        named = both (xs ++ ys) (less-named ut sd xs ys m (k .named)) (apart-from xs ys m (k .apart));
+        named = both (xs ++ ys) (less-named untaken sends xs ys m (k .named)) (apart-from xs ys m (k .apart));
         apart = apart-less xs ys m (k .apart);
       }
     where
-      mine : (m .name < sd) × (ut (m .name) ≡ some (m .phase))
-      mine = all-mid (Named ut sd) xs ys m (k .named) .0 w
+      mine : (m .name < sends) × (untaken (m .name) ≡ some (m .phase))
+      mine = all-mid (Named untaken sends) xs ys m (k .named) .0 w
 
-      both : (zs : List Item) → All (Named ut sd) zs → All (λ k. IsWork m → IsWork k → k .name ≢ m .name) zs
-          → All (Named (put ut (m .name) none) sd) zs
+      both : (zs : List Item) → All (Named untaken sends) zs → All (λ k. IsWork m → IsWork k → k .name ≢ m .name) zs
+          → All (Named (put untaken (m .name) none) sends) zs
       both [] a b = tt
       both (z ∷ zs) a b =
-          ((λ q. (a .0 q .0, put-other ut (m .name) none (z .name) (b .0 w q) ∙ a .0 q .1)), both zs (a .1) (b .1))
+          ((λ q. (a .0 q .0, put-other untaken (m .name) none (z .name) (b .0 w q) ∙ a .0 q .1)), both zs (a .1) (b .1))
 
-      gone : (n : ℕ) → sum (λ i. hit n (put ut (m .name) none i)) 0 sd + hit n (some (B .phase c)) ≡ sum
-          (λ i. hit n (ut i)) 0 sd
+      gone : (n : ℕ) → sum (λ i. hit n (put untaken (m .name) none i)) 0 sends + hit n (some (B .phase c)) ≡ sum
+          (λ i. hit n (untaken i)) 0 sends
       gone n =
-          let e = sum-ext (λ i. hit n (put ut (m .name) none i)) (update (λ i. hit n (ut i)) (m .name) 0) 0 sd
-          (λ i x y. ap (hit n) (put-update ut (m .name) none i) ∙ pull i) in
-          let s = sum-update (λ i. hit n (ut i)) (m .name) 0 0 sd zero-le (omega (arith, mine .0)) in
-          let h : hit n (ut (m .name)) ≡ hit n (some (B .phase c)) = ap (hit n) (mine .1 ∙ ap some ph) in
+          let e = sum-ext (λ i. hit n (put untaken (m .name) none i))
+          (update (λ i. hit n (untaken i)) (m .name) 0) 0 sends
+          (λ i x y. ap (hit n) (put-update untaken (m .name) none i) ∙ pull i) in
+          let s = sum-update (λ i. hit n (untaken i)) (m .name) 0 0 sends zero-le (omega (arith, mine .0)) in
+          let h : hit n (untaken (m .name)) ≡ hit n (some (B .phase c)) = ap (hit n) (mine .1 ∙ ap some ph) in
           omega arith
         where
-          pull : (i : ℕ) → hit n (update ut (m .name) none i) ≡ update (λ i. hit n (ut i)) (m .name) 0 i
+          pull : (i : ℕ) → hit n (update untaken (m .name) none i) ≡ update (λ i. hit n (untaken i)) (m .name) 0 i
           pull i = go (ℕ-discrete i (m .name))
             where
-              go : (d : Dec (i ≡ m .name)) → hit n (pick {A = Option ℕ} d none (ut i)) ≡ pick {A = ℕ} d 0 (hit n (ut i))
+              go : (d : Dec (i ≡ m .name)) → hit n (pick {A = Option ℕ} d none (untaken i)) ≡ pick {A = ℕ} d 0
+                  (hit n (untaken i))
               go (yes d) = refl
               go (no d) = refl
 
@@ -270,7 +277,7 @@ module _ (P : ℕ) where
               go (yes d) = refl
               go (no d) = refl
 
-      sums : (n : ℕ) → sum (λ i. hit n (put ut (m .name) none i)) 0 sd + takesIn
+      sums : (n : ℕ) → sum (λ i. hit n (put untaken (m .name) none i)) 0 sends + takesIn
           (ledgerWith B (B .phase c) (pageTaken (B .pages (B .phase c)) a c v) ms) n
           ≡ length (ledgerWith B (B .phase c) (pageTaken (B .pages (B .phase c)) a c v) ms .pages n .senders)
       sums n =
@@ -283,11 +290,12 @@ module _ (P : ℕ) where
           )
 
   -- all of a phase taken: no mark of it is left
-  pub none-left : {ut : ℕ → Option ℕ} {sd : ℕ} {is : List Item} {B : Ledger} → Marks ut sd is B → (n : ℕ)
-      → takesIn B n ≡ length (B .pages n .senders) → (i : ℕ) → ut i ≢ some n
-  none-left {ut} {sd} {is} {B} k n e i q = go (decLt i sd)
+  pub none-left : {untaken : ℕ → Option ℕ} {sends : ℕ} {is : List Item} {B : Ledger} → Marks untaken sends is B
+      → (n : ℕ)
+      → takesIn B n ≡ length (B .pages n .senders) → (i : ℕ) → untaken i ≢ some n
+  none-left {untaken} {sends} {is} {B} k n e i q = go (decLt i sends)
     where
-      go : Dec (i < sd) → ⊥
-      go (yes l) = omega (arith, k .sums n, sum-at (λ i. hit n (ut i)) sd i l, ap (hit n) q, hit-same n)
+      go : Dec (i < sends) → ⊥
+      go (yes l) = omega (arith, k .sums n, sum-at (λ i. hit n (untaken i)) sends i l, ap (hit n) q, hit-same n)
       go (no l) =
           let z : none ≡ some n = sym (k .tidy i (omega arith)) ∙ q in let y : _≡_ {A = ℕ} 0 1 = cc in omega arith

@@ -145,10 +145,18 @@ module _ {L : Limits} {P : ℕ} (setting : Setting L P) where
       (n : Node) (ok : Holds a (w .count a) n v) (cap : v .tallies sentAll ≤ L .sends) where
     pub acted : (is : List Item) (ms : List Dated) → Pair Carried is ms
         → Window awaitedIn (B .phase) (hasStored (ledgerWith B (B .phase a) u ms)) ms
-        → (bu : ℕ → Bool) → n .busy ≡ bu a → ((y : ℕ) → y ≢ a → bu y ≡ w .busy y) → (ut : ℕ → Option ℕ) (sd : ℕ)
-        → Sim (record { nodes = put (w .nodes) a n; items = is; count = w .count; busy = bu; untaken = ut; sends = sd })
+        → (busy : ℕ → Bool) → n .busy ≡ busy a → ((y : ℕ) → y ≢ a → busy y ≡ w .busy y)
+        → (untaken : ℕ → Option ℕ) (sends : ℕ)
+        → Sim (record {
+          nodes = put (w .nodes) a n;
+          items = is;
+          count = w .count;
+          busy = busy;
+          untaken = untaken;
+          sends = sends;
+        })
         (ledgerWith B (B .phase a) u ms)
-    acted is ms it wi bu b1 b2 ut sd =
+    acted is ms it wi busy b1 b2 untaken sends =
         record {
           counts = i .counts;
           node =
@@ -156,7 +164,8 @@ module _ {L : Limits} {P : ℕ} (setting : Setting L P) where
               (λ q. subst (λ n. Holds a (w .count a) n v) (sym (put-same (w .nodes) a n)) ok)
               (λ y z q. subst (λ n. Holds y (w .count y) n (stateOf B y)) (sym (put-other (w .nodes) a n y z))
               (i .node y q));
-          busy = put-all (λ y n. y < P → n .busy ≡ bu y) (w .nodes) a n (λ q. b1) (λ y z q. i .busy y q ∙ sym (b2 y z));
+          busy =
+              put-all (λ y n. y < P → n .busy ≡ busy y) (w .nodes) a n (λ q. b1) (λ y z q. i .busy y q ∙ sym (b2 y z));
           items = it;
           win = wi;
           capped =
@@ -194,10 +203,17 @@ module _ {L : Limits} {P : ℕ} (setting : Setting L P) where
   pub carried : {w : Board} {B : Ledger} → Sim w B → (is : List Item) (ms : List Dated) → Pair Carried is ms
       → (ps : ℕ → Page) → ((n y : ℕ) → ps n .nodes y ≡ B .pages n .nodes y)
       → Window awaitedIn (B .phase) (hasStored B) ms
-      → (ut : ℕ → Option ℕ) (sd : ℕ)
-      → Sim (record { nodes = w .nodes; items = is; count = w .count; busy = w .busy; untaken = ut; sends = sd })
+      → (untaken : ℕ → Option ℕ) (sends : ℕ)
+      → Sim (record {
+        nodes = w .nodes;
+        items = is;
+        count = w .count;
+        busy = w .busy;
+        untaken = untaken;
+        sends = sends;
+      })
       (record { phase = B .phase; pages = ps; items = ms })
-  carried {w} {B} i is ms it ps e wi ut sd =
+  carried {w} {B} i is ms it ps e wi untaken sends =
       record {
         counts = i .counts;
         node = λ y q. subst (Holds y (w .count y) (w .nodes y)) (sym (e (B .phase y) y)) (i .node y q);
