@@ -140,10 +140,7 @@ module _ {L : Limits} {P : ℕ} (setting : Setting L P) (w : Board) (play : Play
           phase = o .phase;
           pass = q;
           low = l;
-          sents = o .sents;
-          takens = o .takens;
-          firsts = o .firsts;
-          seconds = o .seconds;
+          sized = o .sized;
           like = like-at p (w .nodes a) (stateOf ledger a) (dims-is setting w play a h) (o .like) pass d f t s e;
         }
 
@@ -296,10 +293,7 @@ module _ {L : Limits} {P : ℕ} (setting : Setting L P) (w : Board) (play : Play
                   ∙ next-byte (w .count a);
               pass = inl refl;
               low = dim-pos setting;
-              sents = refl;
-              takens = refl;
-              firsts = refl;
-              seconds = refl;
+              sized = record { sent = refl; taken = refl; first = refl; second = refl };
               like =
                   like-fresh p (w .nodes a .nodes) (w .nodes a .number) ((w .nodes a .phase + 1) % 256)
                   (dims-is setting w play a h) (dim-low setting);

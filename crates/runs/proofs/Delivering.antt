@@ -305,14 +305,17 @@ module _ {L : Limits} {P : ℕ} (setting : Setting L P) (w : Board) (play : Play
                 phase = o .phase;
                 pass = inl refl;
                 low = dim-pos setting;
-                sents = o .sents;
-                takens = length-set (w .nodes b .taken) j _
-                    ∙ o .takens;
-                firsts = o .firsts;
-                seconds = o .seconds;
+                sized =
+                    record {
+                      sent = o .sized .sent;
+                      taken = length-set (w .nodes b .taken) j _
+                          ∙ o .sized .taken;
+                      first = o .sized .first;
+                      second = o .sized .second;
+                    };
                 like =
                     like-taken p (w .nodes b) (stateOf ledger b) (dims-is setting w play b receiver-lt) (o .like) j jp
-                    (omega (arith, o .takens, jp, dim-low setting));
+                    (omega (arith, o .sized .taken, jp, dim-low setting));
               }
 
     -- ---- a frame
@@ -382,18 +385,21 @@ module _ {L : Limits} {P : ℕ} (setting : Setting L P) (w : Board) (play : Play
                 phase = o .phase;
                 pass = o .pass;
                 low = o .low;
-                sents = o .sents;
-                takens = o .takens;
-                firsts = length-set (n .first) (F .dim) _
-                    ∙ o .firsts;
-                seconds = o .seconds;
+                sized =
+                    record {
+                      sent = o .sized .sent;
+                      taken = o .sized .taken;
+                      first = length-set (n .first) (F .dim) _
+                          ∙ o .sized .first;
+                      second = o .sized .second;
+                    };
                 like =
                     subst (λ d. Like p (view p (withFirst n (set (n .first) (F .dim) (firstOf F))))
                     (withStored (stateOf ledger b) s x)) (sym (dims-is setting w play b receiver-lt))
                     (subst (λ t. Like p (view p (withFirst n (set (n .first) (F .dim) (firstOf F))))
                     (withStored (stateOf ledger b) t x)) at-is
                     (like-first p n (stateOf ledger b) (dims-is setting w play b receiver-lt) (o .like) (F .dim)
-                    (firstOf F) x (y .low) (omega (arith, o .firsts, y .low, dim-low setting)) refl
+                    (firstOf F) x (y .low) (omega (arith, o .sized .first, y .low, dim-low setting)) refl
                     (λ f h. y .first q f (subst (λ t. Has p t (fieldOf f)) at-is h))));
               })
             where
@@ -409,16 +415,18 @@ module _ {L : Limits} {P : ℕ} (setting : Setting L P) (w : Board) (play : Play
                 phase = o .phase;
                 pass = o .pass;
                 low = o .low;
-                sents = o .sents;
-                takens = o .takens;
-                firsts = o .firsts;
-                seconds = length-set (n .second) (F .dim) _
-                    ∙ o .seconds;
+                sized =
+                    record {
+                      sent = o .sized .sent;
+                      taken = o .sized .taken;
+                      first = o .sized .first;
+                      second = length-set (n .second) (F .dim) _ ∙ o .sized .second;
+                    };
                 like =
                     subst (λ t. Like p (view p (withSecond n (set (n .second) (F .dim) (secondOf F))))
                     (withStored (stateOf ledger b) t x)) at-is
                     (like-second p n (stateOf ledger b) (dims-is setting w play b receiver-lt) (o .like) (F .dim)
-                    (secondOf F) x (y .low) (omega (arith, o .seconds, y .low, dim-low setting)) refl
+                    (secondOf F) x (y .low) (omega (arith, o .sized .second, y .low, dim-low setting)) refl
                     (λ f h. y .second q f (subst (λ t. Has p t (fieldOf f)) at-is h)));
               })
             where
@@ -568,10 +576,7 @@ module _ {L : Limits} {P : ℕ} (setting : Setting L P) (w : Board) (play : Play
                 phase = o .phase;
                 pass = y .pass;
                 low = y .low;
-                sents = o .sents;
-                takens = o .takens;
-                firsts = o .firsts;
-                seconds = o .seconds;
+                sized = o .sized;
                 like =
                     like-at p (stored (w .nodes b) F) (withStored (stateOf ledger b) s x) (ap dimension (o .nodes))
                     (o .like) (F .pass) (F .dim) false (choose (eqb (F .pass) 1) 0 (w .nodes b .agreed)) s (y .step);

@@ -60,10 +60,7 @@ module _ {L : Limits} {P : ℕ} (setting : Setting L P) where
                 phase = refl;
                 pass = inl refl;
                 low = dim-pos setting;
-                sents = refl;
-                takens = refl;
-                firsts = refl;
-                seconds = refl;
+                sized = record { sent = refl; taken = refl; first = refl; second = refl };
                 like = like-fresh (dimension P) P y 0 refl (dim-low setting);
               };
           busy = λ y q. refl;

@@ -62,10 +62,7 @@ module _ {L : Limits} {P : ℕ} (setting : Setting L P) (w : Board) (play : Play
         phase = o .phase;
         pass = o .pass;
         low = o .low;
-        sents = o .sents;
-        takens = o .takens;
-        firsts = o .firsts;
-        seconds = o .seconds;
+        sized = o .sized;
         like = like-idle p (w .nodes a) (stateOf ledger a) (dims-is setting w play a h) (o .like);
       })
       (put (w .busy) a false) (sym (put-same (w .busy) a false)) (λ y z. put-other (w .busy) a false y z)
@@ -189,11 +186,15 @@ module _ {L : Limits} {P : ℕ} (setting : Setting L P) (w : Board) (play : Play
             phase = o .phase;
             pass = o .pass;
             low = o .low;
-            sents = length-set (n .sent) j _ ∙ o .sents;
-            takens = o .takens;
-            firsts = o .firsts;
-            seconds = o .seconds;
+            sized =
+                record {
+                  sent = length-set (n .sent) j _
+                      ∙ o .sized .sent;
+                  taken = o .sized .taken;
+                  first = o .sized .first;
+                  second = o .sized .second;
+                };
             like =
                 like-sent p n (stateOf ledger a) (dims-is setting w play a h) (o .like) j jp
-                (omega (arith, o .sents, jp, dim-low setting)) bu;
+                (omega (arith, o .sized .sent, jp, dim-low setting)) bu;
           }

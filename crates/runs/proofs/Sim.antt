@@ -25,6 +25,7 @@ use Rattle.cycle.proofs.Events.{stateOf, ledgerWith}
 use Rattle.runs.proofs.Tools.{put-same, put-other, put-all}
 use Rattle.runs.proofs.Setting.{Setting, tree}
 use Rattle.node.proofs.Clauses.{Has}
+use Rattle.node.proofs.Sizes.{Sized}
 use Rattle.runs.proofs.View.{fieldOf, firstEntries, secondEntries, view, Like}
 use Rattle.runs.proofs.Pairs.{Pair}
 
@@ -98,10 +99,7 @@ module _ {L : Limits} {P : ℕ} (setting : Setting L P) where
     pub phase : n .phase ≡ c % 256
     pub pass : (n .pass ≡ 1) ⊎ (n .pass ≡ 2)
     pub low : n .dim < p
-    pub sents : length (n .sent) ≡ width
-    pub takens : length (n .taken) ≡ width
-    pub firsts : length (n .first) ≡ width
-    pub seconds : length (n .second) ≡ width
+    pub sized : Sized n
     pub like : Like p (view p n) u
 
   -- a frame of a, of phase c, says what the report of step s does
