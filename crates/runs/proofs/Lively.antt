@@ -40,13 +40,18 @@ use Rattle.runs.proofs.Calm.{Calm, calm-run}
 
 -- ---- looking for one
 
-search-below : (G : ℕ → Type 0) → ((a : ℕ) → Dec (G a)) → (n : ℕ)
-    → ((a : ℕ) × ((a < n) × G a)) ⊎ ((a : ℕ) → a < n → G a → ⊥)
+-- a number below n with G, and that there is none
+abbrev SomeBelow : ℕ → (ℕ → Type 0) → Type 0
+SomeBelow n G = (a : ℕ) × ((a < n) × G a)
+
+abbrev NoneBelow : ℕ → (ℕ → Type 0) → Type 0
+NoneBelow n G = (a : ℕ) → a < n → G a → ⊥
+
+search-below : (G : ℕ → Type 0) → ((a : ℕ) → Dec (G a)) → (n : ℕ) → SomeBelow n G ⊎ NoneBelow n G
 search-below G d zero = inr (λ a l g. omega arith)
 search-below G d (suc n) = go (search-below G d n) (d n)
   where
-    go : ((a : ℕ) × ((a < n) × G a)) ⊎ ((a : ℕ) → a < n → G a → ⊥) → Dec (G n)
-        → ((a : ℕ) × ((a < suc n) × G a)) ⊎ ((a : ℕ) → a < suc n → G a → ⊥)
+    go : SomeBelow n G ⊎ NoneBelow n G → Dec (G n) → SomeBelow (suc n) G ⊎ NoneBelow (suc n) G
     go (inl r) e = inl (r .0, (omega (arith, r .1 .0), r .1 .1))
     go (inr f) (yes g) = inl (n, (omega arith, g))
     go (inr f) (no h) = inr (λ a l g. at a l g (ℕ-discrete a n))
@@ -182,23 +187,33 @@ module _ {L : Limits} {P : ℕ} (setting : Setting L P) where
     from-old : (a : ℕ) → w .count a ≡ w .count u → (y : ℕ) → y < P → w .count a ≤ w .count y
     from-old a e y h = omega (arith, old y h)
 
-    idle-of : ((a : ℕ) → a < P → (w .count a ≡ w .count u) × (w .busy a ≡ true) → ⊥) → (a : ℕ) → a < P
+    -- in the oldest phase: node a is busy; an item of it is under way to a node in it; node a has a frame to send
+    abbrev Working : ℕ → Type 0
+    Working a = (w .count a ≡ w .count u) × (w .busy a ≡ true)
+
+    abbrev Coming : Item → Type 0
+    Coming m = (m .phase ≡ w .count u) × (w .count (m .to) ≡ w .count u)
+
+    abbrev Sending : ℕ → Type 0
+    Sending a = (w .count a ≡ w .count u) × Due (w .nodes a)
+
+    idle-of : NoneBelow P Working → (a : ℕ) → a < P
         → w .count a ≡ w .count u → w .nodes a .busy ≡ false
     idle-of f a h e = sim .busy a h ∙ false-is (w .busy a) (λ q. f a h (e, q))
 
-    mute-now : ((a : ℕ) → a < P → (w .count a ≡ w .count u) × (Due (w .nodes a)) → ⊥) → (a : ℕ) → a < P
+    mute-now : NoneBelow P Sending → (a : ℕ) → a < P
         → w .count a ≡ w .count u → NoneDue L (w .nodes a)
     mute-now f a h e = none-due L (w .nodes a) (λ q. f a h (e, q))
 
-    stuck : ((a : ℕ) → a < P → (w .count a ≡ w .count u) × (w .busy a ≡ true) → ⊥)
-        → All (λ m. (m .phase ≡ w .count u) × (w .count (m .to) ≡ w .count u) → ⊥) (w .items)
-        → ((a : ℕ) → a < P → (w .count a ≡ w .count u) × (Due (w .nodes a)) → ⊥)
+    stuck : NoneBelow P Working
+        → All (λ m. Coming m → ⊥) (w .items)
+        → NoneBelow P Sending
         → (a : ℕ) × ((a < P) × ((w .count a ≡ w .count u)
         × (agrees L (w .nodes a) (w .nodes a .pass) (w .nodes a .dim) ≡ true)))
     stuck f1 f2 f3 =
         let r = no-board-sticks (s .played .reached) u hu
         (s .calm (ledger .phase u))
-        (λ y h. omega (arith, old y h, sim .counts u, sim .counts y)) rest under isNone in
+        (λ y h. omega (arith, old y h, sim .counts u, sim .counts y)) rest under nobody in
         (r .0, (r .1 .0, (back (r .0) (r .1 .1 .0), agrees-of (r .0) (r .1 .0) (r .1 .1 .0) (r .1 .1 .1))))
       where
         back : (a : ℕ) → ledger .phase a ≡ ledger .phase u → w .count a ≡ w .count u
@@ -210,10 +225,10 @@ module _ {L : Limits} {P : ℕ} (setting : Setting L P) where
             subst (λ n. ledger .pages n .nodes a .busy ≡ false) e
             (sym (sim .node a h .like .busy) ∙ idle-of f1 a h (back a e))
 
-        isNone : (a : ℕ) → a < P → ledger .phase a ≡ ledger .phase u
+        nobody : (a : ℕ) → a < P → ledger .phase a ≡ ledger .phase u
             → (ledger .pages (ledger .phase u) .nodes a .flag ≡ false) ⊎ Unheard (tree setting) a
             (ledger .pages (ledger .phase u) .nodes a .step)
-        isNone a h e =
+        nobody a h e =
             subst (λ n. (ledger .pages n .nodes a .flag ≡ false) ⊎ Unheard (tree setting) a
             (ledger .pages n .nodes a .step)) e
             (mute-of setting w (s .played) a h (mute-now f3 a h (back a e)))
@@ -223,13 +238,13 @@ module _ {L : Limits} {P : ℕ} (setting : Setting L P) where
         under =
             phase-all (ledger .phase u)
             (λ t. (t .to < P) × (ledger .phase u < ledger .phase (t .to))) (ledger .items)
-            (pair-all (Carried setting) (λ m. (m .phase ≡ w .count u) × (w .count (m .to) ≡ w .count u) → ⊥)
+            (pair-all (Carried setting) (λ m. Coming m → ⊥)
             (λ m. m .phase ≡ ledger .phase u
             → (m .item .to < P) × (ledger .phase u < ledger .phase (m .item .to)))
             (λ m t c f e. one m t c f e) (w .items) (ledger .items) (sim .items) f2)
           where
             one : (m : Item) (t : Dated) → Carried setting m t
-                → ((m .phase ≡ w .count u) × (w .count (m .to) ≡ w .count u) → ⊥)
+                → (Coming m → ⊥)
                 → t .phase ≡ ledger .phase u
                 → (t .item .to < P) × (ledger .phase u < ledger .phase (t .item .to))
             one m t c f e =
@@ -272,11 +287,11 @@ module _ {L : Limits} {P : ℕ} (setting : Setting L P) where
 
     lives-now : Lives L P w
     lives-now =
-        go (search-below (λ a. (w .count a ≡ w .count u) × (w .busy a ≡ true))
+        go (search-below Working
         (λ a. both-dec (ℕ-discrete (w .count a) (w .count u)) (true-dec (w .busy a))) P)
-        (search-list (λ m. (m .phase ≡ w .count u) × (w .count (m .to) ≡ w .count u))
+        (search-list Coming
         (λ m. both-dec (ℕ-discrete (m .phase) (w .count u)) (ℕ-discrete (w .count (m .to)) (w .count u))) (w .items))
-        (search-below (λ a. (w .count a ≡ w .count u) × (Due (w .nodes a)))
+        (search-below Sending
         (λ a. both-dec (ℕ-discrete (w .count a) (w .count u)) (due? (w .nodes a))) P)
       where
         frame-le : (a : ℕ) → a < P → (len : ℕ) → frameLength (dimension P) 1 0 ≤ len
@@ -287,12 +302,12 @@ module _ {L : Limits} {P : ℕ} (setting : Setting L P) where
             ap (λ d. frameLength d (w .nodes a .pass) (w .nodes a .dim)) (ap dimension (sim .node a h .nodes)) in
             omega (arith, z, longest L P p (w .nodes a .pass) (w .nodes a .dim) (sim .node a h .pass))
 
-        go : ((a : ℕ) × ((a < P) × ((w .count a ≡ w .count u) × (w .busy a ≡ true))))
-            ⊎ ((a : ℕ) → a < P → (w .count a ≡ w .count u) × (w .busy a ≡ true) → ⊥)
-            → ((m : Item) × (List·Memᴰ m (w .items) × ((m .phase ≡ w .count u) × (w .count (m .to) ≡ w .count u))))
-            ⊎ All (λ m. (m .phase ≡ w .count u) × (w .count (m .to) ≡ w .count u) → ⊥) (w .items)
-            → ((a : ℕ) × ((a < P) × ((w .count a ≡ w .count u) × (Due (w .nodes a)))))
-            ⊎ ((a : ℕ) → a < P → (w .count a ≡ w .count u) × (Due (w .nodes a)) → ⊥)
+        go : SomeBelow P Working
+            ⊎ NoneBelow P Working
+            → ((m : Item) × (List·Memᴰ m (w .items) × Coming m))
+            ⊎ All (λ m. Coming m → ⊥) (w .items)
+            → SomeBelow P Sending
+            ⊎ NoneBelow P Sending
             → Lives L P w
         go (inl r) f2 f3 = Lives.busy (r .0) (r .1 .0, from-old (r .0) (r .1 .1 .0)) (r .1 .1 .1)
         go (inr f1) (inl r) f3 =
