@@ -85,8 +85,7 @@ module _ {P p : ℕ} {tree : Tree P p} {limit : ℕ} {b : Ledger} (r : Reached t
       (λ y q. update-other (b .pages (b .phase a) .nodes) a _ y q) (there a _ (b .phase a) (now a))
 
   pub act-send : (a c j : ℕ) → a < P → c < P → j < p → Shell tree a c j → stateOf b a .busy ≡ true
-      → length (b .pages (b .phase a) .senders) < limit
-      → Step tree limit b (ledgerWith b (b .phase a)
+      → length (b .pages (b .phase a) .senders) < limit → Step tree limit b (ledgerWith b (b .phase a)
       (pageSent (b .pages (b .phase a)) a c (withTallies (stateOf b a) true (bumpSent (stateOf b a .tallies) j)))
       (b .items ++ dated (b .phase a) (posts a message (c ∷ []))))
   act-send a c j h hc jp s bu l =
@@ -176,8 +175,7 @@ module _ {P p : ℕ} {tree : Tree P p} {limit : ℕ} {b : Ledger} (r : Reached t
 
     pub act-drop : (s : ℕ) (x : Entries)
         → b .items ≡ xs ++ record { phase = n; item = record { from = a; to = c; load = report s x } } ∷ ys → c < P
-        → n < b .phase c
-        → Step tree limit b (ledgerWith b n (pageWith (b .pages n) c (b .pages n .nodes c)) (xs ++ ys))
+        → n < b .phase c → Step tree limit b (ledgerWith b n (pageWith (b .pages n) c (b .pages n .nodes c)) (xs ++ ys))
     act-drop s x e h l =
         Step.late n _ (xs ++ ys)
         (subst (λ is. Turn tree limit (phaseOf b n) (boardOf (pageWith (b .pages n) c (b .pages n .nodes c)) is))

@@ -55,8 +55,7 @@ module _ {P p : ℕ} (tree : Tree P p) where
   abbrev pub Latest : PhaseBoard → Type 0
   Latest b =
       (w c s : ℕ) → c < P → s < p + p → tree .awaited (dimOf p s) c ≡ some w → Stands (b .nodes w) s
-      → b .nodes c .step < p + p
-      → latest s w c (b .items) (b .nodes c .stored s) ≡ some (frameOf p (b .nodes w) s)
+      → b .nodes c .step < p + p → latest s w c (b .items) (b .nodes c .stored s) ≡ some (frameOf p (b .nodes w) s)
 
   -- a busy node stands by nothing
   abbrev pub BusyAtStart : PhaseBoard → Type 0
@@ -76,8 +75,7 @@ module _ {P p : ℕ} (tree : Tree P p) where
   latest-keep : (b : PhaseBoard) → Latest b → (a : ℕ) (v : State) (is : List Parcel)
       → ((w c s : ℕ) → c < P → tree .awaited (dimOf p s) c ≡ some w → Recv b s w is c (update (b .nodes) a v c))
       → ((c s : ℕ) → c < P → tree .awaited (dimOf p s) c ≡ some a → Stands v s
-      → Stands (b .nodes a) s × (frameOf p v s ≡ frameOf p (b .nodes a) s))
-      → Latest (placed b a v is)
+      → Stands (b .nodes a) s × (frameOf p v s ≡ frameOf p (b .nodes a) s)) → Latest (placed b a v is)
   latest-keep b j a v is r t w c s h l e sd u =
       let q = r w c s h e u in
       let z = update-all (λ w n. tree .awaited (dimOf p s) c ≡ some w → Stands n s

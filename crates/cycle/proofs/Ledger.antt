@@ -98,8 +98,7 @@ module _ {P p : ℕ} (tree : Tree P p) (limit : ℕ) where
         })
     -- a frame that comes late goes
     late : (n : ℕ) (w : Page) (ms : List Dated) → Turn tree limit (phaseOf b n) (boardOf w (ofPhase n ms))
-        → ((m : ℕ) → m ≢ n → ofPhase m ms ≡ ofPhase m (b .items))
-        → ((y : ℕ) → w .nodes y ≡ b .pages n .nodes y)
+        → ((m : ℕ) → m ≢ n → ofPhase m ms ≡ ofPhase m (b .items)) → ((y : ℕ) → w .nodes y ≡ b .pages n .nodes y)
         → Step b (record { phase = b .phase; pages = update (b .pages) n w; items = ms })
 
   -- each page has the invariant of a phase; a node is fresh in the phases ahead, at a step in its own, and past the

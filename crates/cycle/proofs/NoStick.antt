@@ -366,8 +366,7 @@ module _ {P p : ℕ} (tree : Tree P p) (limit : ℕ) where
             ∙ top (λ y. b .nodes y .tallies takenAll) w hw
 
     -- NO STICK: some node in the phase agrees, so it would move or leave on a barrier call
-    pub no-stick : (a : ℕ) × ((a < P)
-        × ((b .nodes a .step < p + p) × Agrees p limit (b .nodes a) (b .nodes a .step)
+    pub no-stick : (a : ℕ) × ((a < P) × ((b .nodes a .step < p + p) × Agrees p limit (b .nodes a) (b .nodes a .step)
         (tree .awaited (dimOf p (b .nodes a .step)) a)))
     no-stick = (
       a,

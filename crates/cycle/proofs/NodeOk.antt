@@ -171,8 +171,7 @@ module _ {P p : ℕ} (tree : Tree P p) (limit : ℕ) where
       omega (arith, ok .agreed-is l)
 
   pub second-ok : (b : PhaseBoard) (a : ℕ) (n : State) → a < P → NodeOk b a n → n .tallies ≡ b .nodes a .tallies
-      → totalTaken P (world b) ≤ length (b .senders) → b .nodes a .busy ≡ false
-      → (k : ℕ) → k ≤ p → p ≤ n .step
+      → totalTaken P (world b) ≤ length (b .senders) → b .nodes a .busy ≡ false → (k : ℕ) → k ≤ p → p ≤ n .step
       → ((j : ℕ) → j < k → Agreed tree (n .agreed) (tree .awaited j a) (confirmedIn (n .stored (p + j))))
       → Claimed P (world b) (tree .low k a) (tree .size k a) (n .agreed)
       (ownSums (n .tallies) (λ i. n .stored (p + i)) k sentAll)

@@ -87,8 +87,7 @@ module _ {P p : ℕ} (tree : Tree P p) (limit : ℕ) where
       ))
 
   pub less : (b : PhaseBoard) → PhaseInvariant tree limit b → (xs ys : List Parcel) (t : Parcel)
-      → b .items ≡ xs ++ t ∷ ys
-      → ParcelOk tree limit b t × All (ParcelOk tree limit b) (xs ++ ys)
+      → b .items ≡ xs ++ t ∷ ys → ParcelOk tree limit b t × All (ParcelOk tree limit b) (xs ++ ys)
   less b i xs ys t e =
       all-mid (ParcelOk tree limit b) xs ys t (subst (λ is. All (ParcelOk tree limit b) is) e (i .items-ok))
 
@@ -139,8 +138,7 @@ module _ {P p : ℕ} (tree : Tree P p) (limit : ℕ) where
 
   pub waits-keep : (b : PhaseBoard) → PhaseInvariant tree limit b → (a : ℕ) → a < P → b .nodes a .busy ≡ false
       → (is : List Parcel) → All (ParcelOk tree limit b) is → messages is ≡ messages (b .items)
-      → ((y z : ℕ) → messages-on y z is ≡ messages-on y z (b .items))
-      → (b .lossy ≡ false → Latest tree
+      → ((y z : ℕ) → messages-on y z is ≡ messages-on y z (b .items)) → (b .lossy ≡ false → Latest tree
       (placed b a (atStep (b .nodes a) (b .nodes a .step) false (b .nodes a .agreed)) is))
       → PhaseInvariant tree limit (placed b a (atStep (b .nodes a) (b .nodes a .step) false (b .nodes a .agreed)) is)
   waits-keep b i a h bu is its j1 j2 la =
@@ -187,8 +185,7 @@ module _ {P p : ℕ} (tree : Tree P p) (limit : ℕ) where
       → (xs ys : List Parcel) (a c s₀ : ℕ) (x : Entries) (s : ℕ) (f : Bool) (T : ℕ) → c < P → s₀ < p + p
       → b .items ≡ xs ++ record { from = a; to = c; load = report s₀ x } ∷ ys
       → b .nodes c .step < p + p → tree .awaited (dimOf p s₀) c ≡ some a → s ≤ s₀ → s ≤ b .nodes c .step
-      → (p ≤ s → T ≡ b .nodes c .agreed)
-      → (b .nodes c .busy ≡ true → (s ≡ 0) × (f ≡ true))
+      → (p ≤ s → T ≡ b .nodes c .agreed) → (b .nodes c .busy ≡ true → (s ≡ 0) × (f ≡ true))
       → (b .lossy ≡ false → Latest tree (placed b c (atStep (withStored (b .nodes c) s₀ x) s f T) (xs ++ ys)))
       → PhaseInvariant tree limit (placed b c (atStep (withStored (b .nodes c) s₀ x) s f T) (xs ++ ys))
   stores-keep b i xs ys a c s₀ x s f T h sp e l aw m n t b0 la =

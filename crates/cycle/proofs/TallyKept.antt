@@ -54,9 +54,7 @@ module _ {P p : ℕ} (tree : Tree P p) (limit : ℕ) where
   -- ---- a send
 
   pub send-keep : (b : PhaseBoard) → PhaseInvariant tree limit b → (a c j : ℕ) → a < P → c < P → j < p
-      → Shell tree a c j
-      → b .nodes a .busy ≡ true → length (b .senders) < limit
-      → (b .lossy ≡ false → Latest tree
+      → Shell tree a c j → b .nodes a .busy ≡ true → length (b .senders) < limit → (b .lossy ≡ false → Latest tree
       (changed b a (withTallies (b .nodes a) true (bumpSent (b .nodes a .tallies) j))
       (b .items ++ posts a message (c ∷ [])) (snoc (b .senders) a) (oneMore (b .sentBetween) a c) (b .takenBetween)))
       → PhaseInvariant tree limit (changed b a (withTallies (b .nodes a) true (bumpSent (b .nodes a .tallies) j))
@@ -176,8 +174,7 @@ module _ {P p : ℕ} (tree : Tree P p) (limit : ℕ) where
       at y (no d) = refl
 
   pub take-keep : (b : PhaseBoard) → PhaseInvariant tree limit b → (xs ys : List Parcel) (a c j : ℕ) → c < P → j < p
-      → Shell tree c a j → b .items ≡ xs ++ record { from = a; to = c; load = message } ∷ ys
-      → b .nodes c .step < p + p
+      → Shell tree c a j → b .items ≡ xs ++ record { from = a; to = c; load = message } ∷ ys → b .nodes c .step < p + p
       → (b .lossy ≡ false → Latest tree
       (changed b c (atStep (withTallies (b .nodes c) true (bumpTaken (b .nodes c .tallies) j)) 0 true 0) (xs ++ ys)
       (b .senders) (b .sentBetween) (oneMore (b .takenBetween) a c)))

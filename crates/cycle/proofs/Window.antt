@@ -201,8 +201,7 @@ module _ (awaited : ℕ → ℕ → Option ℕ) where
           omega (arith, h (m .item .from) s aw′ (refl, z))
       one m s aw w h (no z) = omega (arith, update-other phase c (suc (phase c)) (m .item .to) z)
 
-      both : (ms : List Dated) → All Partnered ms
-          → All (Close phase) ms
+      both : (ms : List Dated) → All Partnered ms → All (Close phase) ms
           → ((a s : ℕ) → awaited s c ≡ some a → All (Later phase a c) ms)
           → All (Close (update phase c (suc (phase c)))) ms
       both [] pa wi he = tt

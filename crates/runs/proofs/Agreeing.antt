@@ -45,8 +45,7 @@ slot-yes false y x e = let z : _≡_ {A = ℕ} 0 1 = cc in absurd (omega arith)
 
 -- a step that agrees in the proof agrees in the definitions
 agree-back-first : (L : Limits) (p : ℕ) (n : Node) (k : ℕ) (o : Option ℕ) → dims n ≡ p
-    → awaited (n .nodes) k (n .number) ≡ o
-    → k < p → Agrees p (fieldLimit L) (view p n) k o → agrees L n 1 k ≡ true
+    → awaited (n .nodes) k (n .number) ≡ o → k < p → Agrees p (fieldLimit L) (view p n) k o → agrees L n 1 k ≡ true
 agree-back-first L p n k o e q l Agrees.alone = first-step L n k (λ a. clash (sym (ap isNone q) ∙ a))
 agree-back-first L p n k o e q l (Agrees.second w x m g c3 c5 c6) = absurd (omega arith)
 agree-back-first L p n k o e q l (Agrees.first w x m g c1 c2 c3 c4) =
@@ -134,8 +133,7 @@ module _ {L : Limits} {P : ℕ} (setting : Setting L P) where
         (tree setting .awaited k a) (omega arith)
         (subst (λ d. Agrees p (fieldLimit L) (stateOf B a) k (tree setting .awaited d a)) (dim-first p k l) g))
 
-    pub agrees-second : (k : ℕ) → k < dimension P
-        → Agrees (dimension P) (fieldLimit L) (stateOf B a) (dimension P + k)
+    pub agrees-second : (k : ℕ) → k < dimension P → Agrees (dimension P) (fieldLimit L) (stateOf B a) (dimension P + k)
         (tree setting .awaited (dimOf (dimension P) (dimension P + k)) a) → agrees L n 2 k ≡ true
     agrees-second k l g =
         agree-back-second L p n k (tree setting .awaited k a) dims-is (awaits k) l

@@ -196,8 +196,7 @@ module _ {L : Limits} {P : ℕ} (setting : Setting L P) (w : Board) (play : Play
     -- the node leaves
     pub leave-next : (len : ℕ) → w .nodes a .busy ≡ false → NoneDue L (w .nodes a)
         → agrees L (w .nodes a) (w .nodes a .pass) (w .nodes a .dim) ≡ true → suc (w .nodes a .dim) ≡ p
-        → w .nodes a .pass ≡ 2
-        → Next setting w play (calls a len)
+        → w .nodes a .pass ≡ 2 → Next setting w play (calls a len)
         (record {
           nodes = put (w .nodes) a
               (freshIn (w .nodes a .nodes) (w .nodes a .number) ((w .nodes a .phase + 1) % 256));

@@ -50,13 +50,11 @@ two-cases x y a b = go (ℕ-discrete x y)
     go (yes e) = inl (omega arith)
     go (no e) = inr (omega arith)
 
-three-cases : (x y : ℕ) → x ≤ suc y → y ≤ suc x
-    → ((x % 256 + 256 - y % 256) % 256 ≡ 0)
+three-cases : (x y : ℕ) → x ≤ suc y → y ≤ suc x → ((x % 256 + 256 - y % 256) % 256 ≡ 0)
     ⊎ (((x % 256 + 256 - y % 256) % 256 ≡ 1) ⊎ ((x % 256 + 256 - y % 256) % 256 ≡ 255))
 three-cases x y a b = go (ℕ-discrete x y) (decLt x y)
   where
-    go : Dec (x ≡ y) → Dec (x < y)
-        → ((x % 256 + 256 - y % 256) % 256 ≡ 0)
+    go : Dec (x ≡ y) → Dec (x < y) → ((x % 256 + 256 - y % 256) % 256 ≡ 0)
         ⊎ (((x % 256 + 256 - y % 256) % 256 ≡ 1) ⊎ ((x % 256 + 256 - y % 256) % 256 ≡ 255))
     go (yes e) d = inl (omega arith)
     go (no e) (yes d) = inr (inr (omega arith))

@@ -28,8 +28,7 @@ dropped-not-refused x e = let z : _≡_ {A = ℕ} 0 1 = cc in absurd (omega arit
 
 pub take-clear : (L : Limits) (n : Node) (a byte x : ℕ) → valid L n ≡ true → a < n .nodes → a ≢ n .number
     → (difference byte (n .phase) ≡ 0) ⊎ (difference byte (n .phase) ≡ 1)
-    → (difference byte (n .phase) ≡ 0 → tally n allTaken < takenLimit L)
-    → take L n a byte .answer ≡ refused x → x ≡ 7
+    → (difference byte (n .phase) ≡ 0 → tally n allTaken < takenLimit L) → take L n a byte .answer ≡ refused x → x ≡ 7
 unfolding take
 take-clear L n a byte x v l ne (inl d) r e =
     not-refused x (sym (rw (

@@ -438,8 +438,7 @@ module _ {L : Limits} {P : ℕ} (setting : Setting L P) (w : Board) (play : Play
           → v .stored ≡ update (stateOf ledger b .stored) s (some x) → n .busy ≡ w .nodes b .busy
           → m .phase ≡ ledger .phase b → (tree setting) .awaited (dimOf p s) b ≡ some a
           → Step (tree setting) (fieldLimit L) ledger (withState ledger b v (twin .pre ++ twin .post))
-          → Holds setting b (w .count b) n v
-          → Next setting w play (delivers a b)
+          → Holds setting b (w .count b) n v → Next setting w play (delivers a b)
           (record {
             nodes = put (w .nodes) b n;
             items = place .pre ++ place .post;

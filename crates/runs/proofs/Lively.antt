@@ -197,17 +197,13 @@ module _ {L : Limits} {P : ℕ} (setting : Setting L P) where
     abbrev Sending : ℕ → Type 0
     Sending a = (w .count a ≡ w .count u) × Due (w .nodes a)
 
-    idle-of : NoneBelow P Working → (a : ℕ) → a < P
-        → w .count a ≡ w .count u → w .nodes a .busy ≡ false
+    idle-of : NoneBelow P Working → (a : ℕ) → a < P → w .count a ≡ w .count u → w .nodes a .busy ≡ false
     idle-of f a h e = sim .busy a h ∙ false-is (w .busy a) (λ q. f a h (e, q))
 
-    mute-now : NoneBelow P Sending → (a : ℕ) → a < P
-        → w .count a ≡ w .count u → NoneDue L (w .nodes a)
+    mute-now : NoneBelow P Sending → (a : ℕ) → a < P → w .count a ≡ w .count u → NoneDue L (w .nodes a)
     mute-now f a h e = none-due L (w .nodes a) (λ q. f a h (e, q))
 
-    stuck : NoneBelow P Working
-        → All (λ m. Coming m → ⊥) (w .items)
-        → NoneBelow P Sending
+    stuck : NoneBelow P Working → All (λ m. Coming m → ⊥) (w .items) → NoneBelow P Sending
         → (a : ℕ) × ((a < P) × ((w .count a ≡ w .count u)
         × (agrees L (w .nodes a) (w .nodes a .pass) (w .nodes a .dim) ≡ true)))
     stuck f1 f2 f3 =
@@ -243,9 +239,7 @@ module _ {L : Limits} {P : ℕ} (setting : Setting L P) where
             → (m .item .to < P) × (ledger .phase u < ledger .phase (m .item .to)))
             (λ m t c f e. one m t c f e) (w .items) (ledger .items) (sim .items) f2)
           where
-            one : (m : Item) (t : Dated) → Carried setting m t
-                → (Coming m → ⊥)
-                → t .phase ≡ ledger .phase u
+            one : (m : Item) (t : Dated) → Carried setting m t → (Coming m → ⊥) → t .phase ≡ ledger .phase u
                 → (t .item .to < P) × (ledger .phase u < ledger .phase (t .item .to))
             one m t c f e =
                 let d : m .to < P = c .to-lt in
@@ -302,13 +296,8 @@ module _ {L : Limits} {P : ℕ} (setting : Setting L P) where
             ap (λ d. frameLength d (w .nodes a .pass) (w .nodes a .dim)) (ap dimension (sim .node a h .nodes)) in
             omega (arith, z, longest L P p (w .nodes a .pass) (w .nodes a .dim) (sim .node a h .pass))
 
-        go : SomeBelow P Working
-            ⊎ NoneBelow P Working
-            → ((m : Item) × (List·Memᴰ m (w .items) × Coming m))
-            ⊎ All (λ m. Coming m → ⊥) (w .items)
-            → SomeBelow P Sending
-            ⊎ NoneBelow P Sending
-            → Lives L P w
+        go : SomeBelow P Working ⊎ NoneBelow P Working → ((m : Item) × (List·Memᴰ m (w .items) × Coming m))
+            ⊎ All (λ m. Coming m → ⊥) (w .items) → SomeBelow P Sending ⊎ NoneBelow P Sending → Lives L P w
         go (inl r) f2 f3 = Lives.busy (r .0) (r .1 .0, from-old (r .0) (r .1 .1 .0)) (r .1 .1 .1)
         go (inr f1) (inl r) f3 =
             Lives.underWay (r .0 .to) (

@@ -94,8 +94,7 @@ module _ (P : ℕ) where
       record { tidy = m .tidy; sums = λ n. omega (arith, m .sums n, t n, ap length (l n)); named = na; apart = ap′ }
 
   pub less-named : (untaken : ℕ → Option ℕ) (sends : ℕ) (xs ys : List Item) (m : Item)
-      → All (Named untaken sends) (xs ++ m ∷ ys)
-      → All (Named untaken sends) (xs ++ ys)
+      → All (Named untaken sends) (xs ++ m ∷ ys) → All (Named untaken sends) (xs ++ ys)
   less-named untaken sends xs ys m h = all-mid (Named untaken sends) xs ys m h .1
 
   pub less-apart : (xs ys : List Item) (m : Item) → Apart (xs ++ m ∷ ys) → Apart (xs ++ ys)
@@ -215,8 +214,7 @@ module _ (P : ℕ) where
   -- a message is taken
   pub marks-take : (untaken : ℕ → Option ℕ) (sends : ℕ) (xs ys : List Item) (m : Item) (B : Ledger)
       → Marks untaken sends (xs ++ m ∷ ys) B → IsWork m → (a c : ℕ) (v : State) (ms : List Dated) → c < P
-      → m .phase ≡ B .phase c
-      → v .tallies takenAll ≡ suc (stateOf B c .tallies takenAll)
+      → m .phase ≡ B .phase c → v .tallies takenAll ≡ suc (stateOf B c .tallies takenAll)
       → Marks (put untaken (m .name) none) sends (xs ++ ys)
       (ledgerWith B (B .phase c) (pageTaken (B .pages (B .phase c)) a c v) ms)
   marks-take untaken sends xs ys m B k w a c v ms hc ph tv =
@@ -291,8 +289,7 @@ module _ (P : ℕ) where
 
   -- all of a phase taken: no mark of it is left
   pub none-left : {untaken : ℕ → Option ℕ} {sends : ℕ} {is : List Item} {B : Ledger} → Marks untaken sends is B
-      → (n : ℕ)
-      → takesIn B n ≡ length (B .pages n .senders) → (i : ℕ) → untaken i ≢ some n
+      → (n : ℕ) → takesIn B n ≡ length (B .pages n .senders) → (i : ℕ) → untaken i ≢ some n
   none-left {untaken} {sends} {is} {B} k n e i q = go (decLt i sends)
     where
       go : Dec (i < sends) → ⊥

@@ -82,12 +82,10 @@ module _ {L : Limits} {P : ℕ} (setting : Setting L P) (w : Board) (play : Play
   -- node a turns to v, with its tallies as they were
   pub turned-to : (e : Event) (a : ℕ) (h : a < P) (v : State) (n : Node) (ms : List Dated)
       → v .tallies ≡ stateOf ledger a .tallies → Step (tree setting) (fieldLimit L) ledger (withState ledger a v ms)
-      → Holds setting a (w .count a) n v
-      → (is : List Item) → Pair (Carried setting) is ms
+      → Holds setting a (w .count a) n v → (is : List Item) → Pair (Carried setting) is ms
       → Window (awaitedIn setting) (ledger .phase) (hasStored (withState ledger a v ms)) ms
       → (bu : ℕ → Bool) → n .busy ≡ bu a → ((y : ℕ) → y ≢ a → bu y ≡ w .busy y)
-      → All (Named (w .untaken) (w .sends)) is → Apart is
-      → Next setting w play e (record
+      → All (Named (w .untaken) (w .sends)) is → Apart is → Next setting w play e (record
       { nodes = put (w .nodes) a n; items = is; count = w .count; busy = bu; untaken = w .untaken; sends = w .sends })
   turned-to e a h v n ms tv st ok is it wi bu b1 b2 na ap′ =
       record {
@@ -112,8 +110,7 @@ module _ {L : Limits} {P : ℕ} (setting : Setting L P) (w : Board) (play : Play
   pub turns-still : (e : Event) (a : ℕ) (h : a < P) (v : State) (n : Node) → v .tallies ≡ stateOf ledger a .tallies
       → v .stored ≡ stateOf ledger a .stored
       → Step (tree setting) (fieldLimit L) ledger (withState ledger a v (ledger .items))
-      → Holds setting a (w .count a) n v
-      → (bu : ℕ → Bool) → n .busy ≡ bu a → ((y : ℕ) → y ≢ a → bu y ≡ w .busy y)
+      → Holds setting a (w .count a) n v → (bu : ℕ → Bool) → n .busy ≡ bu a → ((y : ℕ) → y ≢ a → bu y ≡ w .busy y)
       → Next setting w play e (record {
         nodes = put (w .nodes) a n;
         items = w .items;

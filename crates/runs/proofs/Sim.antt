@@ -40,8 +40,7 @@ hasStored B c s = isSome (stateOf B c .stored s)
 -- a fact of every state, after node a has changed in its phase
 pub seats : (B : Ledger) (a : ℕ) (u : Page) (ms : List Dated) (v : State)
     → u .nodes ≡ update (B .pages (B .phase a) .nodes) a v → (F : ℕ → State → Type 0) → F a v
-    → ((y : ℕ) → y ≢ a → F y (stateOf B y))
-    → (y : ℕ) → F y (stateOf (ledgerWith B (B .phase a) u ms) y)
+    → ((y : ℕ) → y ≢ a → F y (stateOf B y)) → (y : ℕ) → F y (stateOf (ledgerWith B (B .phase a) u ms) y)
 seats B a u ms v e F at rest y =
     update-all (λ m w. m ≡ B .phase y → F y (w .nodes y)) (B .pages) (B .phase a) u
     (λ q. subst (λ (f : ℕ → State). F y (f y)) (sym e) (here q (ℕ-discrete y a)))
@@ -200,8 +199,7 @@ module _ {L : Limits} {P : ℕ} (setting : Setting L P) where
   -- other items and other history
   pub carried : {w : Board} {B : Ledger} → Sim w B → (is : List Item) (ms : List Dated) → Pair Carried is ms
       → (ps : ℕ → Page) → ((n y : ℕ) → ps n .nodes y ≡ B .pages n .nodes y)
-      → Window awaitedIn (B .phase) (hasStored B) ms
-      → (untaken : ℕ → Option ℕ) (sends : ℕ)
+      → Window awaitedIn (B .phase) (hasStored B) ms → (untaken : ℕ → Option ℕ) (sends : ℕ)
       → Sim (record {
         nodes = w .nodes;
         items = is;

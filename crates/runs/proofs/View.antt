@@ -155,8 +155,7 @@ module _ (p : ℕ) (v u : State) (like : Like p v u) where
       let z = alike-entry p k (v .stored k) (u .stored k) (like .stored k (omega arith)) f q in
       omega arith
 
-  pub own2-like : (k : ℕ) → k ≤ p
-      → ownSums (v .tallies) (λ i. v .stored (p + i)) k sentAll ≡ ownSums (u .tallies)
+  pub own2-like : (k : ℕ) → k ≤ p → ownSums (v .tallies) (λ i. v .stored (p + i)) k sentAll ≡ ownSums (u .tallies)
       (λ i. u .stored (p + i)) k sentAll
   own2-like zero l = like .tallies sentAll tt
   own2-like (suc k) l =
@@ -402,8 +401,7 @@ module _ (p : ℕ) (n : Node) (u : State) (e : dims n ≡ p) (like : Like p (vie
           (update (u .stored) (p + k) (some y) s)
       st s b = go (ℕ-discrete s (p + k))
         where
-          other : s ≢ p + k → (d : Dec (s < p))
-              → pick {A = Option Entries} d (firstSlot (firstAt n s))
+          other : s ≢ p + k → (d : Dec (s < p)) → pick {A = Option Entries} d (firstSlot (firstAt n s))
               (secondSlot (secondAt (withSecond n (set (n .second) k x)) (s - p))) ≡ pick {A = Option Entries} d
               (firstSlot (firstAt n s)) (secondSlot (secondAt n (s - p)))
           other z (yes d) = refl
