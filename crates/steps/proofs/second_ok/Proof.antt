@@ -17,7 +17,8 @@ unfolding secondTest
 returns-2 c =
     let e = c .before .before .before in
     let m = e .before .may-hold in
-    rw (sym (m .ensures), not-false (m .result) (e .if1 .left), sym (c .before .before .number-ok .ensures), c .before .if2 .taken)
+    let n = c .before .before .number-ok in
+    rw (sym (m .ensures), not-false (m .result) (e .if1 .left), sym (n .ensures), c .before .if2 .taken)
     (c .number-ok2 .ensures)
 
 returns-3 : tie.Need-returns-3
