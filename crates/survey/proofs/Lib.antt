@@ -1,1 +1,6 @@
 pub mod Lists
+pub mod Valid
+pub mod Sums
+pub mod Walks
+pub mod Steps
+pub mod Tested

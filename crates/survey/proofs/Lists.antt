@@ -1,5 +1,6 @@
 -- Laws of lists by a rule: filled place by place, read, and totals.
 use mathlib.Core.Path.{_≡_, refl, sym, ap, _∙_}
+use mathlib.Core.Bool.{Bool}
 use mathlib.Core.List.{List, [], _∷_}
 use Prim.Native.Nat.{ℕ, zero, suc, _+_, _≤_, _<_}
 use native.Mathlib.Decide.{decLe}
@@ -9,7 +10,7 @@ use native.Mathlib.Omega.{arith}
 use lib.Dec.{ltb}
 use lib.ListN.{length, getD, set}
 use borrow.Author.Tests.{lt-ltb, le-ltb}
-use Rattle.base.specs.Choice.{choose, list}
+use Rattle.base.specs.Choice.{choose, every, list}
 use Rattle.base.specs.Limits.{width}
 use Rattle.base.proofs.Laws.{list-same, list-set}
 use Rattle.node.specs.Sums.{total}
@@ -66,3 +67,28 @@ total-has f (suc n) m h = go (total-has f n m) (decLe n m)
     go : (m < n → f m ≤ total f n) → Dec (n ≤ m) → f m ≤ total f n + f n
     go r (yes d) = let e : f m ≡ f n = ap f (omega arith) in omega arith
     go r (no d) = let i = r (omega arith) in omega arith
+
+-- what stands at a place of a list by a rule
+pub list-at : {A : Type 0} (start count : ℕ) (f : ℕ → A) (i : ℕ) (d : A) → i < count → getD (list start count f) i d ≡ f (start + i)
+list-at start zero f i d h = absurd (omega arith)
+list-at start (suc count) f zero d h = ap f (omega arith)
+list-at start (suc count) f (suc i) d h =
+    let e : start + suc i ≡ suc start + i = omega arith in
+    list-at (suc start) count f i d (omega arith) ∙ ap f (sym e)
+
+-- a list is the list of what stands at its places
+pub list-whole : {A : Type 0} (l : List A) (d : A) (start count : ℕ) (f : ℕ → A) → length l ≡ count
+    → ((i : ℕ) → i < count → f (start + i) ≡ getD l i d) → list start count f ≡ l
+list-whole [] d start zero f e h = refl
+list-whole [] d start (suc count) f e h = absurd (omega arith)
+list-whole (a ∷ l) d start zero f e h = absurd (omega arith)
+list-whole (a ∷ l) d start (suc count) f e h =
+    let u : f start ≡ a = ap f (omega arith) ∙ h 0 (omega arith) in
+    rw (u, list-whole l d (suc start) count f (omega arith) (λ i b. ap f (omega arith) ∙ h (suc i) (omega arith)))
+
+-- tests that are the same where they are made
+pub every-same : (start count : ℕ) (f g : ℕ → Bool) → ((i : ℕ) → start ≤ i → i < start + count → f i ≡ g i)
+    → every start count f ≡ every start count g
+every-same start zero f g h = refl
+every-same start (suc count) f g h =
+    rw (h start (omega arith) (omega arith), every-same (suc start) count f g (λ i a b. h i (omega arith) (omega arith)))
