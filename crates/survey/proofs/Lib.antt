@@ -4,3 +4,4 @@ pub mod Sums
 pub mod Walks
 pub mod Steps
 pub mod Tested
+pub mod Exits

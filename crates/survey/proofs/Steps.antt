@@ -3,10 +3,10 @@ use mathlib.Core.Path.{_≡_, refl, sym, ap, _∙_}
 use mathlib.Core.Bool.{Bool, true, false, not}
 use mathlib.Core.Logic.{_⊎_, inl, inr, ⊎-elim}
 use mathlib.Core.Option.{Option, none, some}
-use Prim.Native.Nat.{ℕ, zero, suc, _+_, _-_, _≤_, _<_}
+use Prim.Native.Nat.{ℕ, suc, _-_, _≤_, _<_}
 use native.Mathlib.Decide.{decLe, ℕ-discrete}
 use native.Mathlib.Omega.{arith}
-use lib.Dec.{ltb, leb, eqb}
+use lib.Dec.{ltb, eqb}
 use borrow.Author.Tests.{lt-ltb, le-ltb, lt-leb, eq-eqb, ne-eqb, ltb-true, eqb-true, not-true}
 use Rattle.base.specs.Choice.{choose, both, either, every}
 use Rattle.base.specs.Limits.{base}
@@ -16,20 +16,19 @@ use Rattle.tree.specs.Lookups.{badBoard, placeLookup}
 use Rattle.tree.proofs.Dimension.{smallest}
 use Rattle.tree.proofs.Lookups.{board-good}
 use Rattle.tree.proofs.Halves.{alone-lowest}
-use Rattle.node.specs.Sums.{dims, firstAt, secondAt, Field, sentIn, takenIn, allSent, allTaken, number, own, ownIssued}
+use Rattle.node.specs.Sums.{dims, Field, sentIn, takenIn, allSent, allTaken, number}
 use Rattle.node.specs.declared.Stored.{Stored}
-use Rattle.node.specs.Agree.{isNone, isAlone, isWithin, firstClauses, secondClauses, allHold, agrees}
-use Rattle.node.specs.State.{boardOk, positionOk, passedOk, firstOk, secondOk, awaitsFrame}
+use Rattle.node.specs.Agree.{isNone, isAlone, firstClauses, agrees}
+use Rattle.node.specs.State.{boardOk, positionOk, passedOk, awaitsFrame}
 use Rattle.node.specs.declared.Node.{Node}
 use Rattle.agree.specs.Parts.{shellWithin, shellsWithin}
-use Rattle.steps.specs.Step.{awaitsAt, firstPast, secondPast, firstHeld, secondHeld, stepTest}
+use Rattle.steps.specs.Step.{awaitsAt, firstPast, secondPast}
 use Rattle.steps.specs.declared.Spot.{Spot}
-use Rattle.survey.specs.Walk.{loneAnswer, lone}
+use Rattle.survey.specs.Walk.{loneAnswer, lone, spotAt}
 use Rattle.survey.proofs.Lists.{every-same}
 
--- what the test of a step knows of the node
 abbrev pub spotOf : Node → Spot
-spotOf n = record { dims = dims n; alone = lone (n .nodes) (n .number); pass = n .pass; dim = n .dim; agreed = n .agreed }
+spotOf n = spotAt (dims n) (n .nodes) (n .number) (n .pass) (n .dim) (n .agreed)
 
 -- the fields of a board of so many dimensions
 abbrev pub Below : ℕ → Field → Type 0
@@ -106,7 +105,7 @@ module _ (n : Node) (board : boardOk base n ≡ true) (position : positionOk n �
       smallest (n .nodes) 8 (board-good base (n .nodes) (not-true _ (q .0)) .1)
 
   -- the position is below p, or 0
-  pub here : (n .dim < dims n) ⊎ (n .dim ≡ 0)
+  here : (n .dim < dims n) ⊎ (n .dim ≡ 0)
   unfolding positionOk
   here = go (eqb (dims n) 0) position
     where
@@ -118,6 +117,9 @@ module _ (n : Node) (board : boardOk base n ≡ true) (position : positionOk n �
       go true e = inr (eqb-true _ _ (both-true (eqb (n .pass) 1) (eqb (n .dim) 0) e .1))
       go false e =
           inl (ltb-true _ _ (both-true (either (eqb (n .pass) 1) (eqb (n .pass) 2)) (ltb (n .dim) (dims n)) e .1))
+
+  pub low : n .dim < 8
+  low = ⊎-elim (λ l. omega (arith, few)) (λ e. omega arith) here
 
   before : (k : ℕ) → k < n .dim → k < dims n
   before k h = ⊎-elim (λ l. omega arith) (λ e. absurd (omega arith)) here

@@ -1,18 +1,17 @@
 -- Laws of the own sums: one dimension more, how large they get, and where they stay.
 use mathlib.Core.Path.{_≡_, refl, sym, ap, _∙_}
-use mathlib.Core.Bool.{Bool, true, false, not}
+use mathlib.Core.Bool.{Bool, true}
 use Prim.Native.Nat.{ℕ, zero, suc, _+_, _-_, _*_, _≤_, _<_}
 use native.Mathlib.Decide.{decLe}
 use native.Mathlib.Nat.{add-zero}
-use native.Mathlib.Numerals.{add-one}
 use native.Mathlib.Omega.{arith}
-use lib.Dec.{ltb, leb, eqb}
+use lib.Dec.{leb, eqb}
 use borrow.Author.Tests.{leb-true, eqb-true, le-ltb}
-use Rattle.base.specs.Choice.{choose, both, every}
+use Rattle.base.specs.Choice.{both, every}
 use Rattle.base.specs.Limits.{base}
 use Rattle.base.proofs.Laws.{choose-no, both-true, every-at}
 use Rattle.frame.specs.Frame.{sentAt, takenAt}
-use Rattle.node.specs.Sums.{dims, firstAt, secondAt, Field, sentIn, takenIn, allSent, allTaken, total, tally, number, own, ownIssued}
+use Rattle.node.specs.Sums.{dims, firstAt, secondAt, Field, sentIn, takenIn, allSent, allTaken, tally, number, own, ownIssued}
 use Rattle.node.specs.State.{talliesOk, firstOk, secondOk, awaitsFrame}
 use Rattle.node.specs.declared.Node.{Node}
 use Rattle.steps.specs.Step.{shellOk, firstTest, secondTest}

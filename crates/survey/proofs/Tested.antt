@@ -5,12 +5,12 @@ use Prim.Native.Nat.{ℕ, _<_}
 use native.Mathlib.Omega.{arith}
 use lib.Dec.{ltb}
 use borrow.Author.Tests.{lt-ltb, ltb-true, not-true}
-use Rattle.base.specs.Choice.{choose, both, either, every}
+use Rattle.base.specs.Choice.{choose, both, either}
 use Rattle.base.specs.Limits.{base}
 use Rattle.base.proofs.Laws.{clash, choose-no, both-true, both-make, every-at, every-make}
 use Rattle.node.specs.Sums.{dims, firstAt, secondAt, Field, sentIn, takenIn, allSent, allTaken, own, ownIssued}
-use Rattle.node.specs.Agree.{isAlone, firstClauses, secondClauses, allHold, clauses, agrees}
-use Rattle.node.specs.State.{boardOk, positionOk, talliesOk, totalOk, firstOk, secondOk, passedOk, busyOk, awaitsFrame}
+use Rattle.node.specs.Agree.{isAlone, firstClauses, allHold, clauses, agrees}
+use Rattle.node.specs.State.{boardOk, positionOk, talliesOk, totalOk, firstOk, secondOk, busyOk, awaitsFrame}
 use Rattle.node.specs.declared.Node.{Node}
 use Rattle.agree.specs.Verdict.{sumAt}
 use Rattle.steps.specs.Step.{firstPast, secondPast, firstHeld, secondHeld, stepTest}

@@ -1,13 +1,12 @@
 -- The state test is the conjunction of its parts, and a survey is by the test.
 use mathlib.Core.Path.{_≡_, refl, sym, _∙_}
 use mathlib.Core.Bool.{Bool, true, false}
-use Rattle.base.specs.Choice.{both, every}
+use Rattle.base.specs.Choice.{every}
 use Rattle.base.specs.Limits.{Limits, base, width}
 use Rattle.base.proofs.Laws.{clash, choose-yes, choose-no, both-true, both-make}
 use Rattle.node.specs.State.{boardOk, positionOk, talliesOk, totalOk, firstOk, secondOk, passedOk, busyOk, valid}
-use Rattle.node.specs.Sums.{dims, allSent, allTaken, tally, own, ownIssued}
+use Rattle.node.specs.Sums.{dims, allTaken, own, ownIssued}
 use Rattle.node.specs.declared.Node.{Node}
-use Rattle.frame.specs.Frame.{sentNumber, takenNumber}
 use Rattle.survey.specs.Survey.{sumsOf, noSurvey, surveyed}
 use Rattle.survey.specs.Walk.{walkOf, surveyWith}
 

@@ -1,27 +1,25 @@
 -- The sums that the walk holds are the own sums, before the first dimension and after each one.
 use mathlib.Core.Path.{_≡_, refl, sym, ap, _∙_}
 use mathlib.Core.Bool.{true}
-use mathlib.Core.List.{List}
-use Prim.Native.Nat.{ℕ, suc, _+_, _*_, _≤_, _<_, _^_}
+use Prim.Native.Nat.{ℕ, suc, _+_, _<_}
 use native.Mathlib.Nat.{zero-add}
 use native.Mathlib.Numerals.{add-one}
 use native.Mathlib.Omega.{arith}
 use lib.ListN.{length, getD}
-use Rattle.base.specs.Choice.{list}
 use Rattle.base.specs.Limits.{base}
 use Rattle.base.proofs.Laws.{list-same}
 use Rattle.frame.specs.Frame.{sentNumber, takenNumber, sentAt, takenAt}
 use Rattle.frame.specs.declared.Sent.{Sent}
 use Rattle.frame.specs.declared.Taken.{Taken}
-use Rattle.node.specs.Sums.{dims, firstAt, secondAt, Field, sentIn, takenIn, allSent, allTaken, tally, number, own, ownIssued}
-use Rattle.node.specs.State.{talliesOk, firstOk, secondOk, awaitsFrame}
+use Rattle.node.specs.Sums.{firstAt, secondAt, Field, sentIn, takenIn, allSent, allTaken, tally, number, own, ownIssued}
+use Rattle.node.specs.State.{talliesOk, firstOk, secondOk}
 use Rattle.node.specs.declared.Node.{Node}
 use Rattle.agree.specs.Verdict.{sumAt}
 use Rattle.steps.proofs.Stored.{Has}
 use Rattle.survey.specs.Survey.{sumsOf}
 use Rattle.survey.specs.Walk.{walkOf, addSent, addTaken, addWalk, startOf, RoomFor, fits}
 use Rattle.survey.proofs.Lists.{list-at, list-whole}
-use Rattle.survey.proofs.Sums.{second-test, stored-low, own-more, own-low, issued-low, issued-more, confirm-low}
+use Rattle.survey.proofs.Sums.{stored-low, own-more, own-low, issued-low, issued-more, confirm-low}
 
 -- a sum that the walk holds
 pub sum-at : (n : Node) (k : ℕ) (f : Field) → Has f → sumAt (sumsOf n k) f ≡ own n k f

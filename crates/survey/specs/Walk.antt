@@ -17,6 +17,7 @@ use Rattle.node.specs.declared.Stored.{Stored}
 use Rattle.node.specs.declared.Confirm.{Confirm}
 use Rattle.node.specs.declared.Node.{Node}
 use Rattle.agree.specs.declared.Sums.{Sums}
+use Rattle.steps.specs.declared.Spot.{Spot}
 use Rattle.survey.specs.Survey.{sumsOf}
 use Rattle.survey.specs.declared.Survey.{Survey}
 use Rattle.survey.specs.declared.Walk.{Walk}
@@ -30,6 +31,10 @@ positionTest p pass dim =
 abbrev pub busyTest : Bool → ℕ → ℕ → Bool → Bool
 busyTest busy pass dim flag = choose busy (both (eqb pass 1) (both (eqb dim 0) flag)) true
 
+abbrev pub headTest : ℕ → ℕ → ℕ → ℕ → ℕ → Bool → Bool → Bool
+headTest p nodes number pass dim busy flag =
+    both (ltb number nodes) (both (positionTest p pass dim) (busyTest busy pass dim flag))
+
 -- the place is that of a node that is alone
 abbrev pub loneAnswer : Answered Place → Bool
 loneAnswer (refused x) = false
@@ -40,6 +45,11 @@ loneAnswer (found (messenger b h)) = false
 
 unfoldable pub lone : ℕ → ℕ → Bool
 lone P a = loneAnswer (placeLookup base P 0 a)
+
+-- what the test of a step knows of the node
+abbrev pub spotAt : ℕ → ℕ → ℕ → ℕ → ℕ → ℕ → Spot
+spotAt p nodes number pass dim agreed =
+    record { dims = p; alone = lone nodes number; pass = pass; dim = dim; agreed = agreed }
 
 -- ---- The tallies
 

@@ -7,7 +7,7 @@ ghost use Rattle.base.specs.Limits.{base, width};
 ghost use Rattle.frame.specs.Frame.{sentAt, takenAt};
 ghost use Rattle.node.specs.Sums.{total};
 ghost use Rattle.survey.specs.Survey.{noSurvey, surveyed};
-ghost use Rattle.survey.specs.Walk.{positionTest, busyTest, lone, spareZero, talliesTest};
+ghost use Rattle.survey.specs.Walk.{positionTest, busyTest, headTest, lone, spotAt, spareZero, talliesTest};
 ghost use Rattle.survey.specs.Walk.{addSent, addTaken, addSums, addWalk, fits, RoomFor};
 ghost use Rattle.survey.specs.Walk.{startOf, totalTest, surveyWith};
 use agree::Sums;
@@ -107,6 +107,28 @@ fn is_alone(nodes: u32, number: u32) -> bool
         Placed::Neighbour(other) => false,
         Placed::Messenger(other, last) => false,
         Placed::Refused(no) => false,
+    }
+}
+
+// The node's number, position and work.
+fn head_ok(p: u32, nodes: u32, number: u32, pass: u8, dim: u32, busy: bool, flag: bool) -> bool
+    ensures { λ r. ⌜ r ≡ headTest p nodes number pass dim busy flag ⌝ }
+{
+    if nodes <= number {
+        return false;
+    }
+    position_ok(p, pass, dim) && busy_ok(busy, pass, dim, flag)
+}
+
+fn spot_at(p: u32, nodes: u32, number: u32, pass: u8, dim: u32, agreed: u32) -> Spot
+    ensures { λ r. ⌜ r ≡ spotAt p nodes number pass dim agreed ⌝ }
+{
+    Spot {
+        dims: p,
+        alone: is_alone(nodes, number),
+        pass: pass,
+        dim: dim,
+        agreed: agreed,
     }
 }
 
@@ -286,5 +308,39 @@ fn survey_with(p: u32, start: Walk, here: Walk, total: u32) -> Survey
 pub fn survey_of(n: Node) -> Survey
     ensures { λ r. ⌜ r ≡ surveyed base n ⌝ }
 {
-    no_survey()
+    let nodes = n.nodes as u32;
+    let number = n.number as u32;
+    let dim = n.dim as u32;
+    let Found::Is(p) = tree::dimension_of(nodes) else {
+        return no_survey();
+    };
+    if !head_ok(p, nodes, number, n.pass, dim, n.busy, n.flag) {
+        return no_survey();
+    }
+    let sent = n.sent;
+    let taken = n.taken;
+    let sends = total_sent(p, sent);
+    let takes = total_taken(p, taken);
+    if !tallies_ok(p, sends, takes, sent, taken) {
+        return no_survey();
+    }
+    let spot = spot_at(p, nodes, number, n.pass, dim, n.agreed);
+    let start = start_of(sent, taken, sends as u32, takes as u32);
+    let mut w = start;
+    let mut here = start;
+    for k in 0..8 {
+        let x = n.first[k as usize];
+        let y = n.second[k as usize];
+        let own = w.sums;
+        if !steps::step_ok(spot, k, own, w.issued, x, y) {
+            return no_survey();
+        }
+        here = held(k, dim, w, here);
+        w = added(w, x, y);
+    }
+    let sums = w.sums;
+    if !total_ok(n.pass, n.agreed, sums.received) {
+        return no_survey();
+    }
+    survey_with(p, start, here, sums.received.0)
 }

@@ -2,7 +2,7 @@
 use borrow.Author.Needs.{needs}
 use borrow.Author.Tests.{not-true, not-false}
 use mathlib.Core.Path.{_≡_, refl, sym, _∙_}
-use Prim.Native.Nat.{_+_, _-_, _≤_}
+use Prim.Native.Nat.{_+_, _-_}
 use Rattle.base.specs.Choice.{both, every}
 use Rattle.base.proofs.Laws.{every-here, every-end}
 use Rattle.survey.specs.Walk.{spareZero}
