@@ -30,6 +30,7 @@ use Rattle.cycle.proofs.Partners.{Among}
 use Rattle.cycle.proofs.Dating.{dated}
 use Rattle.cycle.proofs.Events.{stateOf, pageWith, act-wait, act-move, act-leave, act-put}
 use Rattle.runs.proofs.Tools.{put-same, put-other, put-all}
+use Rattle.runs.proofs.PhaseByte.{next-byte}
 use Rattle.runs.proofs.Setting.{Setting, tree, dim-low, dim-pos, awaited-is, hear, receivers-await}
 use Rattle.node.proofs.Ways.{CallWay, NoneDue}
 use Rattle.runs.proofs.View.{view, own-is, own-like, agree-like, agree-first, agree-second, like-at, like-fresh}
@@ -40,9 +41,6 @@ use Rattle.runs.proofs.Marks.{Marks, marks-same, frames-named, frames-a
 use Rattle.node.proofs.Valid.{step-first, step-second}
 use Rattle.runs.proofs.Emit.{dim-step, emitted}
 use Rattle.runs.proofs.Played.{Played, Next, lossy-same, held, turned-to, turns-still, hold, dims-is}
-
-next-byte : (c : ℕ) → (c % 256 + 1) % 256 ≡ suc c % 256
-next-byte c = omega arith
 
 module _ {L : Limits} {P : ℕ} (setting : Setting L P) (w : Board) (play : Played setting w) where
   abbrev p : ℕ

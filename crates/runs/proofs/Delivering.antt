@@ -38,6 +38,7 @@ use Rattle.cycle.proofs.Dating.{FirstDated, phase-mid}
 use Rattle.cycle.proofs.Events.{stateOf, ledgerWith, withState, pageWith, pageTaken, pageLost, act-lose, act-drop}
 use Rattle.cycle.proofs.Events.{act-take, act-store, act-fall}
 use Rattle.runs.proofs.Tools.{put-same, put-other}
+use Rattle.runs.proofs.PhaseByte.{apart, apart-same, apart-late}
 use Rattle.runs.proofs.Setting.{Setting, tree, dim-low, dim-pos, shell-ok, shell-lt}
 use Rattle.node.proofs.Clauses.{Has}
 use Rattle.node.proofs.Ways.{TakeWay, take-way, FrameWay, frame-way, frameOf as fieldsIn}
@@ -49,12 +50,6 @@ use Rattle.runs.proofs.Marks.{Named, Apart, Marks, marks-same, less-nam
 use Rattle.node.proofs.Valid.{step-first, step-second}
 use Rattle.runs.proofs.Emit.{dim-step, step-lt}
 use Rattle.runs.proofs.Played.{Played, Next, Mishap, lossy-same, stay, held, turned-to, hold, dims-is, awaits-at}
-
-diff-now : (x y : ℕ) → x ≤ suc y → y ≤ suc x → (x % 256 + 256 - y % 256) % 256 ≡ 0 → x ≡ y
-diff-now x y a b e = omega arith
-
-diff-late : (x y : ℕ) → x ≤ suc y → y ≤ suc x → (x % 256 + 256 - y % 256) % 256 ≡ 255 → x < y
-diff-late x y a b e = omega arith
 
 module _ {L : Limits} {P : ℕ} (setting : Setting L P) (w : Board) (play : Played setting w) where
   abbrev p : ℕ
@@ -215,7 +210,7 @@ module _ {L : Limits} {P : ℕ} (setting : Setting L P) (w : Board) (play : Play
 
       pub same-phase : difference byte (w .nodes b .phase) ≡ 0 → m .phase ≡ ledger .phase b
       same-phase q =
-          diff-now (m .phase) (ledger .phase b) not-ahead (omega (arith, not-behind b receiver-lt))
+          apart-same (m .phase) (ledger .phase b) not-ahead (omega (arith, not-behind b receiver-lt))
           (ap (λ x. (x + 256 - ledger .phase b % 256) % 256) (sym by)
           ∙ ap (λ x. (byte + 256 - x) % 256)
           (sym (hold setting w play b receiver-lt .phase ∙ ap (λ n. n % 256) (sim .counts b)))
@@ -345,14 +340,14 @@ module _ {L : Limits} {P : ℕ} (setting : Setting L P) (w : Board) (play : Play
           subst (λ d. Says setting (m .from) (m .phase) (fieldsOf d bs) s x)
           (sym (dims-is setting w play b receiver-lt)) y₀
 
-      pub not-behind₂ : ledger .phase b ≤ suc (m .phase)
-      not-behind₂ =
+      pub frame-not-behind : ledger .phase b ≤ suc (m .phase)
+      frame-not-behind =
           all-mid (Close (ledger .phase)) (twin .pre) (twin .post)
           (record { phase = m .phase; item = record { from = a; to = b; load = report s x } })
           (subst (All (Close (ledger .phase))) (whole (report s x) ln) (sim .win .window)) .0 s refl
 
-      pub diff-is : difference (F .phase) (w .nodes b .phase) ≡ (m .phase % 256 + 256 - ledger .phase b % 256) % 256
-      diff-is =
+      pub frame-differs : difference (F .phase) (w .nodes b .phase) ≡ apart (m .phase) (ledger .phase b)
+      frame-differs =
           ap (λ x. (x + 256 - w .nodes b .phase) % 256) (y .phase)
           ∙ ap (λ x. (m .phase % 256 + 256 - x) % 256)
           (hold setting w play b receiver-lt .phase ∙ ap (λ n. n % 256) (sim .counts b))
@@ -484,7 +479,7 @@ module _ {L : Limits} {P : ℕ} (setting : Setting L P) (w : Board) (play : Play
           (off-next (pageWith (ledger .pages (m .phase)) b (ledger .pages (m .phase) .nodes b))
           (act-drop reached (twin .pre) (twin .post) (m .phase) a b s x
           (whole (report s x) ln) receiver-lt
-          (diff-late (m .phase) (ledger .phase b) not-ahead not-behind₂ (sym diff-is ∙ d)))
+          (apart-late (m .phase) (ledger .phase b) not-ahead frame-not-behind (sym frame-differs ∙ d)))
           (update-all (λ z nd. nd ≡ ledger .pages (m .phase) .nodes z) (ledger .pages (m .phase) .nodes) b
           (ledger .pages (m .phase) .nodes b) refl (λ z q. refl)) refl
           (inl (lossy-same ledger (m .phase)
@@ -535,7 +530,7 @@ module _ {L : Limits} {P : ℕ} (setting : Setting L P) (w : Board) (play : Play
           t = choose (eqb (F .pass) 1) 0 (w .nodes b .agreed)
 
           ph : m .phase ≡ ledger .phase b
-          ph = diff-now (m .phase) (ledger .phase b) not-ahead not-behind₂ (sym diff-is ∙ d)
+          ph = apart-same (m .phase) (ledger .phase b) not-ahead frame-not-behind (sym frame-differs ∙ d)
 
           aws : (tree setting) .awaited (dimOf p s) b ≡ some a
           aws =

@@ -3,6 +3,7 @@ pub mod Examples
 -- What the board has to do with the ledger of the proof: a state seen as a node of the ledger, items in step, untaken messages.
 pub mod Tools
 pub mod Setting
+pub mod PhaseByte
 pub mod View
 pub mod Pairs
 pub mod Marks

@@ -14,7 +14,7 @@ use Rattle.base.proofs.Laws.{clash, choose-yes, choose-no, cases}
 use Rattle.tree.specs.Tree.{dimension}
 use Rattle.frame.specs.Frame.{frameLength}
 use Rattle.node.specs.Sums.{dims}
-use Rattle.node.specs.Agree.{isNone, agrees}
+use Rattle.node.specs.Agree.{agrees}
 use Rattle.node.specs.State.{valid}
 use Rattle.node.specs.Change.{at}
 use Rattle.node.specs.Answers.{Given, Barrier}
