@@ -43,9 +43,6 @@ module _ {L : Limits} {P : ℕ} (setting : Setting L P) where
   abbrev pub p : ℕ
   p = dimension P
 
-  abbrev pub Rch : Ledger → Type 0
-  Rch = Reached (tree setting) (fieldLimit L)
-
   pub begun : Played setting (start P)
   begun =
       record {
