@@ -42,7 +42,7 @@ use Rattle.node.proofs.Valid.{step-first, step-second}
 use Rattle.runs.proofs.Emit.{dim-step, emitted}
 use Rattle.runs.proofs.Played.{Played, Next, lossy-same, held, turned-to, turns-still, hold, dims-is}
 
-module _ {L : Limits} {P : ℕ} (setting : Setting L P) (w : Board) (play : Played setting w) where
+module _ {L : Limits} {P : ℕ} {setting : Setting L P} {w : Board} (play : Played setting w) where
   abbrev p : ℕ
   p = dimension P
 
@@ -63,11 +63,11 @@ module _ {L : Limits} {P : ℕ} (setting : Setting L P) (w : Board) (play : Play
   module _ (a : ℕ) (h : a < P) where
     dim-at : dimOf p (stateOf ledger a .step) ≡ w .nodes a .dim
     dim-at =
-        ap (dimOf p) (sym (hold setting w play a h .like .step))
-        ∙ dim-step p (w .nodes a .pass) (w .nodes a .dim) (hold setting w play a h .pass) (hold setting w play a h .low)
+        ap (dimOf p) (sym (hold play a h .like .step))
+        ∙ dim-step p (w .nodes a .pass) (w .nodes a .dim) (hold play a h .pass) (hold play a h .low)
 
     rest-of : w .nodes a .busy ≡ false → stateOf ledger a .busy ≡ false
-    rest-of b = sym (hold setting w play a h .like .busy) ∙ b
+    rest-of b = sym (hold play a h .like .busy) ∙ b
 
     no-one : (c : ℕ) (rs : List ℕ) → rs ≡ [] → Among rs c → ⊥
     no-one c rs e k = go (k .0) (sym (k .1 .1) ∙ e)
@@ -77,7 +77,7 @@ module _ {L : Limits} {P : ℕ} (setting : Setting L P) (w : Board) (play : Play
         go (x ∷ xs) q = let z : _≡_ {A = ℕ} 0 1 = cc in omega arith
 
     rcv-is : receivers (w .nodes a .nodes) (w .nodes a .dim) (w .nodes a .number) ≡ receivers P (w .nodes a .dim) a
-    rcv-is = rw (hold setting w play a h .nodes, hold setting w play a h .number) refl
+    rcv-is = rw (hold play a h .nodes, hold play a h .number) refl
 
     heard-by : (c : ℕ) → c < P → (tree setting) .awaited (dimOf p (stateOf ledger a .step)) c ≡ some a
         → Among (receivers (w .nodes a .nodes) (w .nodes a .dim) (w .nodes a .number)) c
@@ -87,7 +87,7 @@ module _ {L : Limits} {P : ℕ} (setting : Setting L P) (w : Board) (play : Play
 
     pub mute-of : NoneDue L (w .nodes a)
         → (stateOf ledger a .flag ≡ false) ⊎ Unheard (tree setting) a (stateOf ledger a .step)
-    mute-of (inl f) = inl (sym (hold setting w play a h .like .flag) ∙ f)
+    mute-of (inl f) = inl (sym (hold play a h .like .flag) ∙ f)
     mute-of (inr e) = inr (λ c hc q. no-one c _ e (heard-by c hc q))
 
     agree-of : agrees L (w .nodes a) (w .nodes a .pass) (w .nodes a .dim) ≡ true
@@ -106,12 +106,12 @@ module _ {L : Limits} {P : ℕ} (setting : Setting L P) (w : Board) (play : Play
         n = w .nodes a
 
         o : Holds setting a (w .count a) (w .nodes a) (stateOf ledger a)
-        o = hold setting w play a h
+        o = hold play a h
 
         awaits : awaited (w .nodes a .nodes) (w .nodes a .dim) (w .nodes a .number) ≡ (tree setting) .awaited
             (w .nodes a .dim) a
         awaits =
-            rw (hold setting w play a h .nodes, hold setting w play a h .number)
+            rw (hold play a h .nodes, hold play a h .number)
             (awaited-is setting (w .nodes a .dim) a)
 
         by : (w .nodes a .pass ≡ 1) ⊎ (w .nodes a .pass ≡ 2)
@@ -120,18 +120,18 @@ module _ {L : Limits} {P : ℕ} (setting : Setting L P) (w : Board) (play : Play
         by (inl e) =
             subst (λ s. Agrees p (fieldLimit L) (view p n) s (awaited (n .nodes) (n .dim) (n .number)))
             (sym (step-first p (n .pass) (n .dim) e))
-            (agree-first L p n (n .dim) (dims-is setting w play a h) (o .low)
+            (agree-first L p n (n .dim) (dims-is play a h) (o .low)
             (subst (λ q. agrees L n q (n .dim) ≡ true) e g))
         by (inr e) =
             subst (λ s. Agrees p (fieldLimit L) (view p n) s (awaited (n .nodes) (n .dim) (n .number)))
             (sym (step-second p (n .pass) (n .dim) e))
-            (agree-second L p n (n .dim) (dims-is setting w play a h) (o .low)
+            (agree-second L p n (n .dim) (dims-is play a h) (o .low)
             (subst (λ q. agrees L n q (n .dim) ≡ true) e g))
 
     hold-at : (pass d s : ℕ) (f : Bool) (t : ℕ) → (pass ≡ 1) ⊎ (pass ≡ 2) → d < p → stepNumber p pass d ≡ s
         → Holds setting a (w .count a) (at (w .nodes a) pass d f t) (atStep (stateOf ledger a) s f t)
     hold-at pass d s f t q l e =
-        let o = hold setting w play a h in
+        let o = hold play a h in
         record {
           nodes = o .nodes;
           number = o .number;
@@ -139,14 +139,14 @@ module _ {L : Limits} {P : ℕ} (setting : Setting L P) (w : Board) (play : Play
           pass = q;
           low = l;
           sized = o .sized;
-          like = like-at p (w .nodes a) (stateOf ledger a) (dims-is setting w play a h) (o .like) pass d f t s e;
+          like = like-at p (w .nodes a) (stateOf ledger a) (dims-is play a h) (o .like) pass d f t s e;
         }
 
     hold-still : Holds setting a (w .count a)
         (at (w .nodes a) (w .nodes a .pass) (w .nodes a .dim) false (w .nodes a .agreed))
         (atStep (stateOf ledger a) (stateOf ledger a .step) false (stateOf ledger a .agreed))
     hold-still =
-        let o = hold setting w play a h in
+        let o = hold play a h in
         subst (λ t. Holds setting a (w .count a)
         (at (w .nodes a) (w .nodes a .pass) (w .nodes a .dim) false (w .nodes a .agreed))
         (atStep (stateOf ledger a) (stateOf ledger a .step) false t)) (o .like .agreed)
@@ -264,7 +264,7 @@ module _ {L : Limits} {P : ℕ} (setting : Setting L P) (w : Board) (play : Play
         n′ = freshIn (w .nodes a .nodes) (w .nodes a .number) ((w .nodes a .phase + 1) % 256)
 
         at-is : stateOf ledger a .step ≡ p + w .nodes a .dim
-        at-is = sym (hold setting w play a h .like .step) ∙ step-second p (w .nodes a .pass) (w .nodes a .dim) pa
+        at-is = sym (hold play a h .like .step) ∙ step-second p (w .nodes a .pass) (w .nodes a .dim) pa
 
         seat-a : stateOf after a ≡ fresh
         seat-a =
@@ -284,16 +284,16 @@ module _ {L : Limits} {P : ℕ} (setting : Setting L P) (w : Board) (play : Play
         new : Holds setting a (suc (w .count a)) n′ fresh
         new =
             record {
-              nodes = hold setting w play a h .nodes;
-              number = hold setting w play a h .number;
-              phase = ap (λ x. (x + 1) % 256) (hold setting w play a h .phase)
+              nodes = hold play a h .nodes;
+              number = hold play a h .number;
+              phase = ap (λ x. (x + 1) % 256) (hold play a h .phase)
                   ∙ next-byte (w .count a);
               pass = inl refl;
               low = dim-pos setting;
               sized = record { sent = refl; taken = refl; first = refl; second = refl };
               like =
                   like-fresh p (w .nodes a .nodes) (w .nodes a .number) ((w .nodes a .phase + 1) % 256)
-                  (dims-is setting w play a h) (dim-low setting);
+                  (dims-is play a h) (dim-low setting);
             }
 
         nodes : (y : ℕ) → y < P → Dec (y ≡ a)
@@ -339,9 +339,9 @@ module _ {L : Limits} {P : ℕ} (setting : Setting L P) (w : Board) (play : Play
 
     pub call-next : (len : ℕ) (q : Given Barrier) → CallWay L (w .nodes a) len q
         → Next setting w play (calls a len) (afterCall (gave w a (q .node)) a (w .nodes a) (q .answer))
-    call-next len q (CallWay.refused x s) = held setting w play (calls a len) a
+    call-next len q (CallWay.refused x s) = held play (calls a len) a
     call-next len q (CallWay.sends first rest v b fl e ro) =
-        turned-to setting w play (calls a len) a h
+        turned-to play (calls a len) a h
         (atStep (stateOf ledger a) (stateOf ledger a .step) false (stateOf ledger a .agreed))
         (at (w .nodes a) (w .nodes a .pass) (w .nodes a .dim) false (w .nodes a .agreed)) ms refl
         (act-put reached a (receiversDue (w .nodes a)) h (rest-of b)
@@ -354,7 +354,7 @@ module _ {L : Limits} {P : ℕ} (setting : Setting L P) (w : Board) (play : Play
         (posts a (report (stateOf ledger a .step) x) (receiversDue (w .nodes a)))) (sim .items)
         (pair-posts (frameBytes (dims (w .nodes a)) (frameDue (w .nodes a))) (stateOf ledger a .step) x
         (receiversDue (w .nodes a)) (emitted setting a (w .count a) (w .nodes a) (stateOf ledger a)
-        (hold setting w play a h) v) awaiting)) (window-same
+        (hold play a h) v) awaiting)) (window-same
         (stored-same setting sim a h
         (pageWith (ledger .pages (ledger .phase a)) a
         (atStep (stateOf ledger a) (stateOf ledger a .step) false (stateOf ledger a .agreed)))
@@ -385,26 +385,26 @@ module _ {L : Limits} {P : ℕ} (setting : Setting L P) (w : Board) (play : Play
             (sym dim-at) (subst (All (λ c. (c < P) × (tree setting .awaited (w .nodes a .dim) c ≡ some a))) (sym rcv-is)
             (receivers-await setting (w .nodes a .dim) a h))
     call-next len q (CallWay.waits v b m z g) =
-        turns-still setting w play (calls a len) a h
+        turns-still play (calls a len) a h
         (atStep (stateOf ledger a) (stateOf ledger a .step) false (stateOf ledger a .agreed))
         (at (w .nodes a) (w .nodes a .pass) (w .nodes a .dim) false (w .nodes a .agreed)) refl refl
         (act-wait reached a h (rest-of b) (mute-of m)) hold-still (w .busy)
         (sim .busy a h) (λ y z. refl)
     call-next len q (CallWay.next v b m g d) =
-        turns-still setting w play (calls a len) a h
+        turns-still play (calls a len) a h
         (atStep (stateOf ledger a) (suc (stateOf ledger a .step)) true (w .nodes a .agreed))
         (at (w .nodes a) (w .nodes a .pass) (suc (w .nodes a .dim)) true (w .nodes a .agreed)) refl refl
         (act-move reached a (w .nodes a .agreed) h (rest-of b) (mute-of m)
-        (agree-of g) (λ z. hold setting w play a h .like .agreed)
-        (λ z. absurd (not-last (hold setting w play a h .pass) z)) (lower (hold setting w play a h .pass)))
+        (agree-of g) (λ z. hold play a h .like .agreed)
+        (λ z. absurd (not-last (hold play a h .pass) z)) (lower (hold play a h .pass)))
         (hold-at (w .nodes a .pass) (suc (w .nodes a .dim)) (suc (stateOf ledger a .step)) true (w .nodes a .agreed)
-        (hold setting w play a h .pass) d′ (up (hold setting w play a h .pass))) (w .busy) (sim .busy a h) (λ y z. refl)
+        (hold play a h .pass) d′ (up (hold play a h .pass))) (w .busy) (sim .busy a h) (λ y z. refl)
       where
         d′ : suc (w .nodes a .dim) < p
-        d′ = omega (arith, dims-is setting w play a h)
+        d′ = omega (arith, dims-is play a h)
 
         at-is : stepNumber p (w .nodes a .pass) (w .nodes a .dim) ≡ stateOf ledger a .step
-        at-is = hold setting w play a h .like .step
+        at-is = hold play a h .like .step
 
         up : (w .nodes a .pass ≡ 1) ⊎ (w .nodes a .pass ≡ 2)
             → stepNumber p (w .nodes a .pass) (suc (w .nodes a .dim)) ≡ suc (stateOf ledger a .step)
@@ -431,10 +431,10 @@ module _ {L : Limits} {P : ℕ} (setting : Setting L P) (w : Board) (play : Play
         lower (inl e) = omega (arith, at-is, step-first p (w .nodes a .pass) (w .nodes a .dim) e, d′)
         lower (inr e) = omega (arith, at-is, step-second p (w .nodes a .pass) (w .nodes a .dim) e, d′)
     call-next len q (CallWay.second v b m z g d e) =
-        turns-still setting w play (calls a len) a h (atStep (stateOf ledger a) (suc (stateOf ledger a .step)) true t)
+        turns-still play (calls a len) a h (atStep (stateOf ledger a) (suc (stateOf ledger a .step)) true t)
         (at (w .nodes a) 2 0 true t) refl refl
         (act-move reached a t h (rest-of b) (mute-of m) (agree-of g)
-        (λ z. absurd (omega (arith, at-is, hold setting w play a h .low)))
+        (λ z. absurd (omega (arith, at-is, hold play a h .low)))
         (λ z. total-is) (omega (arith, at-is, d′, dim-pos setting)))
         (hold-at 2 0 (suc (stateOf ledger a .step)) true t (inr refl) (dim-pos setting) (omega (arith, at-is, d′)))
         (w .busy) (sim .busy a h) (λ y z. refl)
@@ -443,23 +443,23 @@ module _ {L : Limits} {P : ℕ} (setting : Setting L P) (w : Board) (play : Play
         t = own (w .nodes a) (dims (w .nodes a)) allTaken
 
         d′ : suc (w .nodes a .dim) ≡ p
-        d′ = omega (arith, dims-is setting w play a h, hold setting w play a h .low, d)
+        d′ = omega (arith, dims-is play a h, hold play a h .low, d)
 
         at-is : stateOf ledger a .step ≡ w .nodes a .dim
-        at-is = sym (hold setting w play a h .like .step) ∙ step-first p (w .nodes a .pass) (w .nodes a .dim) e
+        at-is = sym (hold play a h .like .step) ∙ step-first p (w .nodes a .pass) (w .nodes a .dim) e
 
         total-is : own (w .nodes a) (dims (w .nodes a)) allTaken ≡ ownSums (stateOf ledger a .tallies)
             (stateOf ledger a .stored) p takenAll
         total-is =
-            ap (λ q. own (w .nodes a) q allTaken) (dims-is setting w play a h)
+            ap (λ q. own (w .nodes a) q allTaken) (dims-is play a h)
             ∙ own-is p (w .nodes a) p (omega arith) takenAll
-            ∙ own-like p (view p (w .nodes a)) (stateOf ledger a) (hold setting w play a h .like) p
+            ∙ own-like p (view p (w .nodes a)) (stateOf ledger a) (hold play a h .like) p
             (omega arith) takenAll tt
     call-next len q (CallWay.leaves v b m z g d e) =
-        leave-next len b m g (omega (arith, dims-is setting w play a h, hold setting w play a h .low, d))
-        (two (hold setting w play a h .pass))
+        leave-next len b m g (omega (arith, dims-is play a h, hold play a h .low, d))
+        (two (hold play a h .pass))
       where
         two : (w .nodes a .pass ≡ 1) ⊎ (w .nodes a .pass ≡ 2) → w .nodes a .pass ≡ 2
         two (inl z) = absurd (e z)
         two (inr z) = z
-    call-next len q (CallWay.single v b d) = absurd (omega (arith, dims-is setting w play a h, dim-pos setting))
+    call-next len q (CallWay.single v b d) = absurd (omega (arith, dims-is play a h, dim-pos setting))

@@ -53,25 +53,25 @@ module _ {L : Limits} {P : ℕ} (setting : Setting L P) where
     ledger = play .ledger
 
     state : (a : ℕ) → a < P → Holds setting a (w .count a) (w .nodes a) (stateOf ledger a)
-    state a h = hold setting w play a h
+    state a h = hold play a h
 
     -- the oldest item m of the link from a to b
     module _ (a b : ℕ) (m : Item) (e : oldest a b (w .items) ≡ some m) where
       abbrev place : Found a b (w .items) m
-      place = placeOf setting w play a b m e
+      place = placeOf play a b m e
 
       abbrev mate : Cut (Carried setting) (place .pre) (place .post) m (ledger .items)
-      mate = twin setting w play a b m e
+      mate = twin play a b m e
 
       fine-one : Fine L P m
       fine-one =
           all-mid (Fine L P) (place .pre) (place .post) m (subst (All (Fine L P)) (place .whole) fine) .0
 
       la : a < P
-      la = sender-lt setting w play a b m e
+      la = sender-lt play a b m e
 
       lb : b < P
-      lb = receiver-lt setting w play a b m e
+      lb = receiver-lt play a b m e
 
       other : a ≢ b
       other z = fine-one .0 (place .from-is ∙ z ∙ sym (place .to-is))
@@ -83,13 +83,13 @@ module _ {L : Limits} {P : ℕ} (setting : Setting L P) where
           (λ z. other (z ∙ state b lb .number)) timely space ans)
         where
           load-is : (mate .one .item .load ≡ message) × (byte ≡ m .phase % 256)
-          load-is = message-of setting w play a b m e byte lw
+          load-is = message-of play a b m e byte lw
 
           not-later : m .phase ≤ suc (ledger .phase b)
-          not-later = not-ahead setting w play a b m e
+          not-later = not-ahead play a b m e
 
           not-earlier : ledger .phase b ≤ m .phase
-          not-earlier = not-behind setting w play a b m e byte lw (load-is .0) (load-is .1) b lb
+          not-earlier = not-behind play a b m e byte lw (load-is .0) (load-is .1) b lb
 
           differs : difference byte (w .nodes b .phase) ≡ apart (m .phase) (ledger .phase b)
           differs =
@@ -106,7 +106,7 @@ module _ {L : Limits} {P : ℕ} (setting : Setting L P) where
           space z =
               let n = ledger .phase b in
               let ph : m .phase ≡ n = omega (arith, sym differs ∙ z, not-later, not-earlier) in
-              let here = whole setting w play a b m e message (load-is .0) in
+              let here = whole play a b m e message (load-is .0) in
               let r =
               taken-room (tree setting) (fieldLimit L) (L .sends) (phaseOf ledger n) (invariant (play .reached) .fit n)
               (whole-so-far n) (λ y h. play .sim .capped n y h) a b la lb other (ofPhase n (mate .pre))
@@ -122,12 +122,12 @@ module _ {L : Limits} {P : ℕ} (setting : Setting L P) where
         where
           load-is : (s : ℕ) × ((x : Entries) × ((mate .one .item .load ≡ report s x)
               × Says setting (m .from) (m .phase) (fieldsOf p bs) s x))
-          load-is = report-of setting w play a b m e bs lf
+          load-is = report-of play a b m e bs lf
 
           says : Says setting (m .from) (m .phase) (fieldsIn L (w .nodes b) bs) (load-is .0) (load-is .1 .0)
           says =
               subst (λ d. Says setting (m .from) (m .phase) (fieldsOf d bs) (load-is .0) (load-is .1 .0))
-              (sym (dims-is setting w play b lb)) (load-is .1 .1 .1)
+              (sym (dims-is play b lb)) (load-is .1 .1 .1)
 
           from-a : fieldsIn L (w .nodes b) bs .sender ≡ a
           from-a = says .sender ∙ place .from-is
@@ -141,7 +141,7 @@ module _ {L : Limits} {P : ℕ} (setting : Setting L P) where
                     record { from = a; to = b; load = report (load-is .0) (load-is .1 .0) };
               })
               (subst (All (Partnered (awaitedIn setting)))
-              (whole setting w play a b m e (report (load-is .0) (load-is .1 .0)) (load-is .1 .1 .0))
+              (whole play a b m e (report (load-is .0) (load-is .1 .0)) (load-is .1 .1 .0))
               (play .sim .win .partner)) .0 (load-is .0) refl
 
           dim-is : dimOf p (load-is .0) ≡ fieldsIn L (w .nodes b) bs .dim
@@ -158,7 +158,7 @@ module _ {L : Limits} {P : ℕ} (setting : Setting L P) where
                     (subst (FineLoad L P) lf (fine-one .1));
                 other = λ z. other (sym from-a ∙ z ∙ state b lb .number);
                 awaits =
-                    awaits-at setting w play b lb (fieldsIn L (w .nodes b) bs .dim)
+                    awaits-at play b lb (fieldsIn L (w .nodes b) bs .dim)
                     ∙ ap (λ d. tree setting .awaited d b) (sym dim-is)
                     ∙ awaited-below setting (load-is .0) b a partner .1 ∙ ap some (sym from-a);
               }
@@ -166,10 +166,10 @@ module _ {L : Limits} {P : ℕ} (setting : Setting L P) where
           timely : (away L (w .nodes b) bs ≡ 0) ⊎ ((away L (w .nodes b) bs ≡ 1) ⊎ (away L (w .nodes b) bs ≡ 255))
           timely =
               subst (λ d. (d ≡ 0) ⊎ ((d ≡ 1) ⊎ (d ≡ 255)))
-              (sym (frame-differs setting w play a b m e bs lf (load-is .0) (load-is .1 .0) (load-is .1 .1 .0)
+              (sym (frame-differs play a b m e bs lf (load-is .0) (load-is .1 .0) (load-is .1 .1 .0)
               (load-is .1 .1 .1)))
-              (not-foreign (m .phase) (ledger .phase b) (not-ahead setting w play a b m e)
-              (frame-not-behind setting w play a b m e bs lf (load-is .0) (load-is .1 .0) (load-is .1 .1 .0)
+              (not-foreign (m .phase) (ledger .phase b) (not-ahead play a b m e)
+              (frame-not-behind play a b m e bs lf (load-is .0) (load-is .1 .0) (load-is .1 .1 .0)
               (load-is .1 .1 .1)))
 
     no-mishap : (e : Event) → NoLoss (e ∷ []) → Mishap setting w e → ⊥
@@ -189,7 +189,7 @@ module _ {L : Limits} {P : ℕ} (setting : Setting L P) where
   calm-step w s e l = go (nx .calm)
     where
       nx : Next setting w (s .played) e (step L P w e)
-      nx = next setting w (s .played) e
+      nx = next (s .played) e
 
       go : ((n : ℕ) → nx .played .ledger .pages n .lossy ≡ s .played .ledger .pages n .lossy) ⊎ Mishap setting w e
           → Calm (step L P w e)

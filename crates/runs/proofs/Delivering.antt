@@ -51,7 +51,7 @@ use Rattle.node.proofs.Valid.{step-first, step-second}
 use Rattle.runs.proofs.Emit.{dim-step, step-lt}
 use Rattle.runs.proofs.Played.{Played, Next, Mishap, lossy-same, stay, held, turned-to, hold, dims-is, awaits-at}
 
-module _ {L : Limits} {P : ℕ} (setting : Setting L P) (w : Board) (play : Played setting w) where
+module _ {L : Limits} {P : ℕ} {setting : Setting L P} {w : Board} (play : Played setting w) where
   abbrev p : ℕ
   p = dimension P
 
@@ -164,7 +164,7 @@ module _ {L : Limits} {P : ℕ} (setting : Setting L P) (w : Board) (play : Play
         → Next setting w play (delivers a b) (offUnlessEarly (gave w b (w .nodes b)) a b x)
     refused-next x bad =
         cases (Next setting w play (delivers a b)) (eqb x 7) (gave w b (w .nodes b))
-        (carries (gave w b (w .nodes b)) (without a b (w .items))) (λ q. held setting w play (delivers a b) b)
+        (carries (gave w b (w .nodes b)) (without a b (w .items))) (λ q. held play (delivers a b) b)
         (λ q. subst (λ l. Next setting w play (delivers a b) (carries (gave w b (w .nodes b)) l)) (sym (place .rest))
         (off-next (pageLost (ledger .pages (m .phase)))
         (act-lose reached (twin .pre) (twin .post) (m .phase) a b
@@ -213,7 +213,7 @@ module _ {L : Limits} {P : ℕ} (setting : Setting L P) (w : Board) (play : Play
           apart-same (m .phase) (ledger .phase b) not-ahead (omega (arith, not-behind b receiver-lt))
           (ap (λ x. (x + 256 - ledger .phase b % 256) % 256) (sym by)
           ∙ ap (λ x. (byte + 256 - x) % 256)
-          (sym (hold setting w play b receiver-lt .phase ∙ ap (λ n. n % 256) (sim .counts b)))
+          (sym (hold play b receiver-lt .phase ∙ ap (λ n. n % 256) (sim .counts b)))
           ∙ q)
 
       take-next : (q : Given Outcome) → take L (w .nodes b) a byte ≡ q → TakeWay L (w .nodes b) a byte q
@@ -253,7 +253,7 @@ module _ {L : Limits} {P : ℕ} (setting : Setting L P) (w : Board) (play : Play
           })
         where
           o : Holds setting b (w .count b) (w .nodes b) (stateOf ledger b)
-          o = hold setting w play b receiver-lt
+          o = hold play b receiver-lt
 
           j : ℕ
           j = distance (w .nodes b .nodes) (w .nodes b .number) a
@@ -281,10 +281,10 @@ module _ {L : Limits} {P : ℕ} (setting : Setting L P) (w : Board) (play : Play
           ph = same-phase df
 
           ne : b ≢ a
-          ne z = a2 (sym z ∙ sym (hold setting w play b receiver-lt .number))
+          ne z = a2 (sym z ∙ sym (hold play b receiver-lt .number))
 
           j-is : distance P b a ≡ distance (w .nodes b .nodes) (w .nodes b .number) a
-          j-is = rw (hold setting w play b receiver-lt .nodes, hold setting w play b receiver-lt .number) refl
+          j-is = rw (hold play b receiver-lt .nodes, hold play b receiver-lt .number) refl
 
           shell : Shell (tree setting) b a (distance (w .nodes b .nodes) (w .nodes b .number) a)
           shell = subst (Shell (tree setting) b a) j-is (shell-ok setting b a receiver-lt sender-lt ne)
@@ -309,7 +309,7 @@ module _ {L : Limits} {P : ℕ} (setting : Setting L P) (w : Board) (play : Play
                       second = o .sized .second;
                     };
                 like =
-                    like-taken p (w .nodes b) (stateOf ledger b) (dims-is setting w play b receiver-lt) (o .like) j jp
+                    like-taken p (w .nodes b) (stateOf ledger b) (dims-is play b receiver-lt) (o .like) j jp
                     (omega (arith, o .sized .taken, jp, dim-low setting));
               }
 
@@ -338,7 +338,7 @@ module _ {L : Limits} {P : ℕ} (setting : Setting L P) (w : Board) (play : Play
       y : Says setting (m .from) (m .phase) F s x
       y =
           subst (λ d. Says setting (m .from) (m .phase) (fieldsOf d bs) s x)
-          (sym (dims-is setting w play b receiver-lt)) y₀
+          (sym (dims-is play b receiver-lt)) y₀
 
       pub frame-not-behind : ledger .phase b ≤ suc (m .phase)
       frame-not-behind =
@@ -350,7 +350,7 @@ module _ {L : Limits} {P : ℕ} (setting : Setting L P) (w : Board) (play : Play
       frame-differs =
           ap (λ x. (x + 256 - w .nodes b .phase) % 256) (y .phase)
           ∙ ap (λ x. (m .phase % 256 + 256 - x) % 256)
-          (hold setting w play b receiver-lt .phase ∙ ap (λ n. n % 256) (sim .counts b))
+          (hold play b receiver-lt .phase ∙ ap (λ n. n % 256) (sim .counts b))
 
       s-lt : s < p + p
       s-lt = subst (λ t. t < p + p) (y .step) (step-lt p (F .pass) (F .dim) (y .pass) (y .low))
@@ -366,7 +366,7 @@ module _ {L : Limits} {P : ℕ} (setting : Setting L P) (w : Board) (play : Play
           n = w .nodes b
 
           o : Holds setting b (w .count b) (w .nodes b) (stateOf ledger b)
-          o = hold setting w play b receiver-lt
+          o = hold play b receiver-lt
 
           by : (F .pass ≡ 1) ⊎ (F .pass ≡ 2)
               → Holds setting b (w .count b) (stored (w .nodes b) F) (withStored (stateOf ledger b) s x)
@@ -390,10 +390,10 @@ module _ {L : Limits} {P : ℕ} (setting : Setting L P) (w : Board) (play : Play
                     };
                 like =
                     subst (λ d. Like p (view p (withFirst n (set (n .first) (F .dim) (firstOf F))))
-                    (withStored (stateOf ledger b) s x)) (sym (dims-is setting w play b receiver-lt))
+                    (withStored (stateOf ledger b) s x)) (sym (dims-is play b receiver-lt))
                     (subst (λ t. Like p (view p (withFirst n (set (n .first) (F .dim) (firstOf F))))
                     (withStored (stateOf ledger b) t x)) at-is
-                    (like-first p n (stateOf ledger b) (dims-is setting w play b receiver-lt) (o .like) (F .dim)
+                    (like-first p n (stateOf ledger b) (dims-is play b receiver-lt) (o .like) (F .dim)
                     (firstOf F) x (y .low) (omega (arith, o .sized .first, y .low, dim-low setting)) refl
                     (λ f h. y .first q f (subst (λ t. Has p t (fieldOf f)) at-is h))));
               })
@@ -420,7 +420,7 @@ module _ {L : Limits} {P : ℕ} (setting : Setting L P) (w : Board) (play : Play
                 like =
                     subst (λ t. Like p (view p (withSecond n (set (n .second) (F .dim) (secondOf F))))
                     (withStored (stateOf ledger b) t x)) at-is
-                    (like-second p n (stateOf ledger b) (dims-is setting w play b receiver-lt) (o .like) (F .dim)
+                    (like-second p n (stateOf ledger b) (dims-is play b receiver-lt) (o .like) (F .dim)
                     (secondOf F) x (y .low) (omega (arith, o .sized .second, y .low, dim-low setting)) refl
                     (λ f h. y .second q f (subst (λ t. Has p t (fieldOf f)) at-is h)));
               })
@@ -443,7 +443,7 @@ module _ {L : Limits} {P : ℕ} (setting : Setting L P) (w : Board) (play : Play
             sends = w .sends;
           })
       stored-next v n tv sv nb ph awt st ok′ =
-          turned-to setting w play (delivers a b) b receiver-lt v n (twin .pre ++ twin .post) tv st ok′
+          turned-to play (delivers a b) b receiver-lt v n (twin .pre ++ twin .post) tv st ok′
           (place .pre ++ place .post) pairs (window-same
           (seats ledger b (pageWith (ledger .pages (ledger .phase b)) b v) (twin .pre ++ twin .post) v refl
           (λ z nd. (t : ℕ) → isSome (nd .stored t) ≡ update (hasStored ledger) b
@@ -534,16 +534,16 @@ module _ {L : Limits} {P : ℕ} (setting : Setting L P) (w : Board) (play : Play
 
           aws : (tree setting) .awaited (dimOf p s) b ≡ some a
           aws =
-              let z = awaits-at setting w play b receiver-lt (F .dim) in
+              let z = awaits-at play b receiver-lt (F .dim) in
               ap (λ d. (tree setting) .awaited d b) dim-s ∙ sym z ∙ co .awaits ∙ ap some (y .sender ∙ place .from-is)
 
           steps : (stepNumber (dims (w .nodes b)) (F .pass) (F .dim) ≡ s)
               × (stepNumber (dims (w .nodes b)) (w .nodes b .pass) (w .nodes b .dim) ≡ stateOf ledger b .step)
           steps = (
-            ap (λ d. stepNumber d (F .pass) (F .dim)) (dims-is setting w play b receiver-lt)
+            ap (λ d. stepNumber d (F .pass) (F .dim)) (dims-is play b receiver-lt)
                 ∙ y .step,
-            ap (λ d. stepNumber d (w .nodes b .pass) (w .nodes b .dim)) (dims-is setting w play b receiver-lt)
-                ∙ hold setting w play b receiver-lt .like .step,
+            ap (λ d. stepNumber d (w .nodes b .pass) (w .nodes b .dim)) (dims-is play b receiver-lt)
+                ∙ hold play b receiver-lt .like .step,
           )
 
           t-is : p ≤ s → choose (eqb (F .pass) 1) 0 (w .nodes b .agreed) ≡ stateOf ledger b .agreed
@@ -554,7 +554,7 @@ module _ {L : Limits} {P : ℕ} (setting : Setting L P) (w : Board) (play : Play
               by (inl q) = absurd (omega (arith, step-first p (F .pass) (F .dim) q, y .step, y .low))
               by (inr q) =
                   choose-no 0 (w .nodes b .agreed) (ne-eqb (F .pass) 1 (λ z. omega arith))
-                  ∙ hold setting w play b receiver-lt .like .agreed
+                  ∙ hold play b receiver-lt .like .agreed
 
           busy-is : stored (w .nodes b) F .busy ≡ w .nodes b .busy
           busy-is = cases (λ (n : Node). n .busy ≡ w .nodes b .busy) (eqb (F .pass) 1) _ _ (λ q. refl) (λ q. refl)
@@ -590,5 +590,5 @@ module _ {L : Limits} {P : ℕ} (setting : Setting L P) (w : Board) (play : Play
 
   pub oldest-next : (a b : ℕ) (o : Option Item) → oldest a b (w .items) ≡ o
       → Next setting w play (delivers a b) (deliveredOldest L P w a b o)
-  oldest-next a b none e = stay setting w play (delivers a b)
+  oldest-next a b none e = stay play (delivers a b)
   oldest-next a b (some m) e = delivery a b m e

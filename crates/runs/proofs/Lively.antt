@@ -227,7 +227,7 @@ module _ {L : Limits} {P : ℕ} (setting : Setting L P) where
         nobody a h e =
             subst (λ n. (ledger .pages n .nodes a .flag ≡ false) ⊎ Unheard (tree setting) a
             (ledger .pages n .nodes a .step)) e
-            (mute-of setting w (s .played) a h (mute-now f3 a h (back a e)))
+            (mute-of (s .played) a h (mute-now f3 a h (back a e)))
 
         under : All (λ t. (t .to < P) × (ledger .phase u < ledger .phase (t .to)))
             (ofPhase (ledger .phase u) (ledger .items))

@@ -81,7 +81,7 @@ module _ {L : Limits} {P : ℕ} (setting : Setting L P) where
   begun-calm n = refl
 
   one-more : (w : Board) → Played setting w → (e : Event) → Played setting (step L P w e)
-  one-more w q e = next setting w q e .played
+  one-more w q e = next q e .played
 
   played-on : (w : Board) → Played setting w → (es : List Event) → Played setting (after L P w es)
   played-on w q [] = q
@@ -167,9 +167,9 @@ module _ {L : Limits} {P : ℕ} (setting : Setting L P) where
         → (m .phase ≡ w .count b) × ((z : ℕ) → z < P → w .count z ≤ m .phase)
     take-phase x b m byte y old lw (TakeWay.refused n s) e = done-not-refused n e
     take-phase x b m byte y old lw (TakeWay.done v a1 a2 df cap) e =
-        let j = message-of setting w q x b m old byte lw in (
-          same-phase setting w q x b m old byte lw (j .0) (j .1) df ∙ sym (sim .counts b),
-          λ z h. omega (arith, not-behind setting w q x b m old byte lw (j .0) (j .1) z h, sim .counts z),
+        let j = message-of q x b m old byte lw in (
+          same-phase q x b m old byte lw (j .0) (j .1) df ∙ sym (sim .counts b),
+          λ z h. omega (arith, not-behind q x b m old byte lw (j .0) (j .1) z h, sim .counts z),
         )
 
     awoken : (x b a : ℕ) (m : Item) (n : Node) → TakeDone L P w b (w .count b) (delivers x b)
@@ -272,7 +272,7 @@ module _ {L : Limits} {P : ℕ} (setting : Setting L P) where
               sends = w .sends;
             })
         nx =
-            leave-next setting w q a h len b m g
+            leave-next q a h len b m g
             (omega (arith, ap dimension (sim .node a h .nodes), sim .node a h .low, d))
             (two (sim .node a h .pass))
 
