@@ -13,8 +13,8 @@ use Rattle.frame.specs.Timing.{difference}
 use Rattle.node.specs.Sums.{allTaken, tally}
 use Rattle.node.specs.Answers.{refused}
 use Rattle.node.specs.Calls.{take, frameIn}
-use Rattle.runs.specs.Board.{work, frame, Item, Board, Event, sends, idles, calls}
-use Rattle.runs.specs.Board.{delivers, loses, start, oldest, step, after, run}
+use Rattle.runs.specs.Board.{work, frame, Item, Board, Event, sends, idles}
+use Rattle.runs.specs.Board.{calls, delivers, loses, start, step, after, run}
 use Rattle.runs.specs.Claim.{NoLoss}
 use native.Mathlib.Nat.{mul-le-mul-right}
 use Rattle.cycle.proofs.Lists.{All, all-mid}
@@ -32,11 +32,11 @@ use Rattle.node.proofs.Ways.{frameOf as fieldsIn, Comes, away}
 use Rattle.runs.proofs.Pairs.{Cut, Found}
 use Rattle.runs.proofs.Sim.{Carried, awaitedIn, awaited-below, Holds, Says}
 use Rattle.runs.proofs.Emit.{dim-step}
+use Rattle.runs.proofs.Arriving.{Arrives, arrives, place as placeOf, twin, sender-lt, receiver-lt, whole}
+use Rattle.runs.proofs.Arriving.{not-ahead}
+use Rattle.runs.proofs.Taking.{message-of, not-behind}
+use Rattle.runs.proofs.Storing.{report-of, frame-not-behind, frame-differs}
 use Rattle.runs.proofs.Played.{hold, dims-is, awaits-at, Played, Next, Mishap}
-use Rattle.runs.proofs.Delivering.{place as placeOf, twin, sender-lt, receiver-lt, whole, not-ahead, message-of}
-use Rattle.runs.proofs.Delivering.{not-behind}
-use Rattle.runs.proofs.Delivering.{report-of, frame-not-behind}
-use Rattle.runs.proofs.Delivering.{frame-differs}
 use Rattle.runs.proofs.Steps.{next}
 use Rattle.runs.proofs.Safety.{begun, begun-calm}
 use Rattle.runs.proofs.Clear.{take-clear, frame-clear}
@@ -56,22 +56,22 @@ module _ {L : Limits} {P : ℕ} (setting : Setting L P) where
     state a h = hold play a h
 
     -- the oldest item m of the link from a to b
-    module _ (a b : ℕ) (m : Item) (e : oldest a b (w .items) ≡ some m) where
+    module _ {a b : ℕ} {m : Item} (arrival : Arrives w a b m) where
       abbrev place : Found a b (w .items) m
-      place = placeOf play a b m e
+      place = placeOf play arrival
 
       abbrev mate : Cut (Carried setting) (place .pre) (place .post) m (ledger .items)
-      mate = twin play a b m e
+      mate = twin play arrival
 
       fine-one : Fine L P m
       fine-one =
           all-mid (Fine L P) (place .pre) (place .post) m (subst (All (Fine L P)) (place .whole) fine) .0
 
       la : a < P
-      la = sender-lt play a b m e
+      la = sender-lt play arrival
 
       lb : b < P
-      lb = receiver-lt play a b m e
+      lb = receiver-lt play arrival
 
       other : a ≢ b
       other z = fine-one .0 (place .from-is ∙ z ∙ sym (place .to-is))
@@ -83,13 +83,13 @@ module _ {L : Limits} {P : ℕ} (setting : Setting L P) where
           (λ z. other (z ∙ state b lb .number)) timely space ans)
         where
           load-is : (mate .one .item .load ≡ message) × (byte ≡ m .phase % 256)
-          load-is = message-of play a b m e byte lw
+          load-is = message-of play arrival byte lw
 
           not-later : m .phase ≤ suc (ledger .phase b)
-          not-later = not-ahead play a b m e
+          not-later = not-ahead play arrival
 
           not-earlier : ledger .phase b ≤ m .phase
-          not-earlier = not-behind play a b m e byte lw (load-is .0) (load-is .1) b lb
+          not-earlier = not-behind play arrival byte lw (load-is .0) (load-is .1) b lb
 
           differs : difference byte (w .nodes b .phase) ≡ apart (m .phase) (ledger .phase b)
           differs =
@@ -106,7 +106,7 @@ module _ {L : Limits} {P : ℕ} (setting : Setting L P) where
           space z =
               let n = ledger .phase b in
               let ph : m .phase ≡ n = omega (arith, sym differs ∙ z, not-later, not-earlier) in
-              let here = whole play a b m e message (load-is .0) in
+              let here = whole play arrival message (load-is .0) in
               let r =
               taken-room (tree setting) (fieldLimit L) (L .sends) (phaseOf ledger n) (invariant (play .reached) .fit n)
               (whole-so-far n) (λ y h. play .sim .capped n y h) a b la lb other (ofPhase n (mate .pre))
@@ -122,7 +122,7 @@ module _ {L : Limits} {P : ℕ} (setting : Setting L P) where
         where
           load-is : (s : ℕ) × ((x : Entries) × ((mate .one .item .load ≡ report s x)
               × Says setting (m .from) (m .phase) (fieldsOf p bs) s x))
-          load-is = report-of play a b m e bs lf
+          load-is = report-of play arrival bs lf
 
           says : Says setting (m .from) (m .phase) (fieldsIn L (w .nodes b) bs) (load-is .0) (load-is .1 .0)
           says =
@@ -141,7 +141,7 @@ module _ {L : Limits} {P : ℕ} (setting : Setting L P) where
                     record { from = a; to = b; load = report (load-is .0) (load-is .1 .0) };
               })
               (subst (All (Partnered (awaitedIn setting)))
-              (whole play a b m e (report (load-is .0) (load-is .1 .0)) (load-is .1 .1 .0))
+              (whole play arrival (report (load-is .0) (load-is .1 .0)) (load-is .1 .1 .0))
               (play .sim .win .partner)) .0 (load-is .0) refl
 
           dim-is : dimOf p (load-is .0) ≡ fieldsIn L (w .nodes b) bs .dim
@@ -166,16 +166,16 @@ module _ {L : Limits} {P : ℕ} (setting : Setting L P) where
           timely : (away L (w .nodes b) bs ≡ 0) ⊎ ((away L (w .nodes b) bs ≡ 1) ⊎ (away L (w .nodes b) bs ≡ 255))
           timely =
               subst (λ d. (d ≡ 0) ⊎ ((d ≡ 1) ⊎ (d ≡ 255)))
-              (sym (frame-differs play a b m e bs lf (load-is .0) (load-is .1 .0) (load-is .1 .1 .0)
+              (sym (frame-differs play arrival bs lf (load-is .0) (load-is .1 .0) (load-is .1 .1 .0)
               (load-is .1 .1 .1)))
-              (not-foreign (m .phase) (ledger .phase b) (not-ahead play a b m e)
-              (frame-not-behind play a b m e bs lf (load-is .0) (load-is .1 .0) (load-is .1 .1 .0)
+              (not-foreign (m .phase) (ledger .phase b) (not-ahead play arrival)
+              (frame-not-behind play arrival bs lf (load-is .0) (load-is .1 .0) (load-is .1 .1 .0)
               (load-is .1 .1 .1)))
 
     no-mishap : (e : Event) → NoLoss (e ∷ []) → Mishap setting w e → ⊥
     no-mishap e l (Mishap.loss j) = l
-    no-mishap e l (Mishap.badTake a b m byte x old lw ans ne) = no-bad-take a b m old byte x lw ans ne
-    no-mishap e l (Mishap.badFrame a b m bs x old lf ans ne) = no-bad-frame a b m old bs x lf ans ne
+    no-mishap e l (Mishap.badTake a b m byte x old lw ans ne) = no-bad-take (arrives w a b m old) byte x lw ans ne
+    no-mishap e l (Mishap.badFrame a b m bs x old lf ans ne) = no-bad-frame (arrives w a b m old) bs x lf ans ne
 
   -- ---- runs without a loss
 

@@ -13,6 +13,9 @@ pub mod Emit
 pub mod Played
 pub mod Sending
 pub mod Calling
+pub mod Arriving
+pub mod Taking
+pub mod Storing
 pub mod Delivering
 pub mod Steps
 -- The first half of demand 3; both halves for one node.

@@ -31,9 +31,10 @@ use Rattle.node.proofs.Ways.{call-way}
 use Rattle.runs.proofs.View.{like-fresh}
 use Rattle.runs.proofs.Sim.{Sim}
 use Rattle.runs.proofs.Marks.{none-left}
+use Rattle.runs.proofs.Arriving.{arrives}
+use Rattle.runs.proofs.Taking.{message-of, not-behind, same-phase}
 use Rattle.runs.proofs.Played.{Played, Next}
 use Rattle.runs.proofs.Calling.{leave-next}
-use Rattle.runs.proofs.Delivering.{message-of, not-behind, same-phase}
 use Rattle.runs.proofs.Steps.{next}
 
 done-not-refused : {A : Type 0} (x : ℕ) → refused x ≡ done → A
@@ -167,9 +168,9 @@ module _ {L : Limits} {P : ℕ} (setting : Setting L P) where
         → (m .phase ≡ w .count b) × ((z : ℕ) → z < P → w .count z ≤ m .phase)
     take-phase x b m byte y old lw (TakeWay.refused n s) e = done-not-refused n e
     take-phase x b m byte y old lw (TakeWay.done v a1 a2 df cap) e =
-        let j = message-of q x b m old byte lw in (
-          same-phase q x b m old byte lw (j .0) (j .1) df ∙ sym (sim .counts b),
-          λ z h. omega (arith, not-behind q x b m old byte lw (j .0) (j .1) z h, sim .counts z),
+        let j = message-of q (arrives w x b m old) byte lw in (
+          same-phase q (arrives w x b m old) byte lw (j .0) (j .1) df ∙ sym (sim .counts b),
+          λ z h. omega (arith, not-behind q (arrives w x b m old) byte lw (j .0) (j .1) z h, sim .counts z),
         )
 
     awoken : (x b a : ℕ) (m : Item) (n : Node) → TakeDone L P w b (w .count b) (delivers x b)
