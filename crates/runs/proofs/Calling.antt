@@ -33,7 +33,8 @@ use Rattle.runs.proofs.Tools.{put-same, put-other, put-all}
 use Rattle.runs.proofs.PhaseByte.{next-byte}
 use Rattle.runs.proofs.Setting.{Setting, tree, dim-low, dim-pos, awaited-is, hear, receivers-await}
 use Rattle.node.proofs.Ways.{CallWay, NoneDue}
-use Rattle.runs.proofs.View.{view, own-is, own-like, agree-like, agree-first, agree-second, like-at, like-fresh}
+use Rattle.runs.proofs.View.{view, own-is, own-like, agree-like, agree-first, agree-second}
+use Rattle.runs.proofs.Changes.{like-at, like-fresh}
 use Rattle.runs.proofs.Pairs.{Pair, pair-append}
 use Rattle.runs.proofs.Sim.{isSome, hasStored, window-same, awaitedIn, awaited-in, awaited-below, Holds, Says}
 use Rattle.runs.proofs.Sim.{Carried, Sim, stored-same}

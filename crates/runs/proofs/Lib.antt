@@ -5,6 +5,7 @@ pub mod Tools
 pub mod Setting
 pub mod PhaseByte
 pub mod View
+pub mod Changes
 pub mod Pairs
 pub mod Marks
 pub mod Sim

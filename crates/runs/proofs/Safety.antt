@@ -28,7 +28,7 @@ use Rattle.runs.proofs.Tools.{put-same, put-other}
 use Rattle.runs.proofs.Setting.{Setting, tree, dim-low, dim-pos}
 use Rattle.node.proofs.Ways.{SendWay, send-way, TakeWay, take-way, IdleWay, idle-way, FrameWay, frame-way, CallWay}
 use Rattle.node.proofs.Ways.{call-way}
-use Rattle.runs.proofs.View.{like-fresh}
+use Rattle.runs.proofs.Changes.{like-fresh}
 use Rattle.runs.proofs.Sim.{Sim}
 use Rattle.runs.proofs.Marks.{none-left}
 use Rattle.runs.proofs.Arriving.{arrives}

@@ -25,7 +25,7 @@ use Rattle.cycle.proofs.Events.{stateOf, ledgerWith, pageSent, act-rest, act-se
 use Rattle.runs.proofs.Tools.{put-same, put-other}
 use Rattle.runs.proofs.Setting.{Setting, tree, dim-low, shell-ok, shell-lt}
 use Rattle.node.proofs.Ways.{SendWay, IdleWay}
-use Rattle.runs.proofs.View.{like-sent, like-idle}
+use Rattle.runs.proofs.Changes.{like-sent, like-idle}
 use Rattle.runs.proofs.Pairs.{pair-append}
 use Rattle.runs.proofs.Sim.{window-same, awaitedIn, Holds, Carried, Sim, acted, stored-same}
 use Rattle.runs.proofs.Marks.{Marks, marks-send}

@@ -35,7 +35,8 @@ use Rattle.runs.proofs.PhaseByte.{apart, apart-same, apart-late}
 use Rattle.runs.proofs.Setting.{Setting, tree, dim-low}
 use Rattle.node.proofs.Clauses.{Has}
 use Rattle.node.proofs.Ways.{FrameWay, frameOf as fieldsIn}
-use Rattle.runs.proofs.View.{fieldOf, view, Like, like-at, like-first, like-second}
+use Rattle.runs.proofs.View.{fieldOf, view, Like}
+use Rattle.runs.proofs.Changes.{like-at, like-first, like-second}
 use Rattle.runs.proofs.Pairs.{Cut, Found}
 use Rattle.runs.proofs.Sim.{isSome, hasStored, seats, window-same, awaitedIn, Holds, Says, Loads, Carried, Sim}
 use Rattle.runs.proofs.Marks.{Marks}

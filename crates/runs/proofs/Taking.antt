@@ -29,7 +29,7 @@ use Rattle.runs.proofs.Tools.{put-same, put-other}
 use Rattle.runs.proofs.PhaseByte.{apart-same}
 use Rattle.runs.proofs.Setting.{Setting, tree, dim-low, dim-pos, shell-ok, shell-lt}
 use Rattle.node.proofs.Ways.{TakeWay}
-use Rattle.runs.proofs.View.{like-taken}
+use Rattle.runs.proofs.Changes.{like-taken}
 use Rattle.runs.proofs.Pairs.{Cut, Found}
 use Rattle.runs.proofs.Sim.{window-same, Holds, Loads, Carried, Sim}
 use Rattle.runs.proofs.Sim.{acted, stored-same}
