@@ -13,6 +13,8 @@ pub mod Emit
 -- Every event of a board is a step of the ledger.
 pub mod Played
 pub mod Sending
+pub mod Caller
+pub mod Leaving
 pub mod Calling
 pub mod Arriving
 pub mod Taking

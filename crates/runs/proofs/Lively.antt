@@ -34,7 +34,7 @@ use Rattle.node.proofs.Ways.{NoneDue, call-sends, call-looks}
 use Rattle.runs.proofs.Pairs.{Pair, pair-all}
 use Rattle.runs.proofs.Sim.{Carried, Sim}
 use Rattle.node.proofs.Valid.{step-first, step-second}
-use Rattle.runs.proofs.Calling.{mute-of}
+use Rattle.runs.proofs.Caller.{mute-of}
 use Rattle.runs.proofs.Agreeing.{agrees-first, agrees-second}
 use Rattle.runs.proofs.Calm.{Calm, calm-run}
 
