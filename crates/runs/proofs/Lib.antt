@@ -1,6 +1,6 @@
 -- Worked runs.
 pub mod Examples
--- What the board has to do with the ledger of the proof: a state seen as a node of the ledger, items in step, untaken messages.
+-- What the board has to do with the ledger of the proof: states, items in step, untaken messages.
 pub mod Tools
 pub mod Setting
 pub mod PhaseByte
