@@ -74,9 +74,9 @@ module _ {P p : ℕ} (tree : Tree P p) (nodes : ℕ → State) (A : ℕ)
     (stored-is : (w c s : ℕ) → c < P → s ≤ A → nodes c .step < p + p → tree .awaited (dimOf p s) c ≡ some w
     → nodes c .stored s ≡ some (frameOf p (nodes w) s))
     (lone-none : (c s : ℕ) → c < P → s ≤ A → tree .awaited (dimOf p s) c ≡ none → nodes c .stored s ≡ none)
-    (gone1 : (w : ℕ) → w < P → p + p ≤ nodes w .step → (k : ℕ) → k ≤ p → (f : Entry) → HasEntry p f
+    (gone-first : (w : ℕ) → w < P → p + p ≤ nodes w .step → (k : ℕ) → k ≤ p → (f : Entry) → HasEntry p f
     → ownSums (nodes w .tallies) (nodes w .stored) k f ≡ runSum tree (λ y. nodes y .tallies f) k w)
-    (gone2 : (w : ℕ) → w < P → p + p ≤ nodes w .step → (k : ℕ) → k ≤ p
+    (gone-second : (w : ℕ) → w < P → p + p ≤ nodes w .step → (k : ℕ) → k ≤ p
     → ownSums (nodes w .tallies) (λ i. nodes w .stored (p + i)) k sentAll ≡ runSum tree
     (λ y. nodes y .tallies sentAll) k w) where
   tal : ℕ → Entries
@@ -84,12 +84,13 @@ module _ {P p : ℕ} (tree : Tree P p) (nodes : ℕ → State) (A : ℕ)
 
   -- ---- all sums are exact, as far as everybody has come
 
-  pub exact1 : (K k : ℕ) → k ≤ K → k ≤ suc A → k ≤ p → (w : ℕ) → w < P → (f : Entry) → HasEntry p f
+  pub exact-first : (K k : ℕ) → k ≤ K → k ≤ suc A → k ≤ p → (w : ℕ) → w < P → (f : Entry) → HasEntry p f
       → ownSums (nodes w .tallies) (nodes w .stored) k f ≡ runSum tree (λ y. nodes y .tallies f) k w
-  exact1 zero k a b c w h f v =
+  exact-first zero k a b c w h f v =
       own-exact tree (λ y. nodes y .tallies) f w (nodes w .stored) h k c (λ i l. absurd (omega arith))
-  exact1 (suc K) k a b c w h f v =
-      by (λ i l u hu. exact1 K i (omega arith) (omega arith) (omega arith) u hu f v) (decLt (nodes w .step) (p + p))
+  exact-first (suc K) k a b c w h f v =
+      by (λ i l u hu. exact-first K i (omega arith) (omega arith) (omega arith) u hu f v)
+      (decLt (nodes w .step) (p + p))
     where
       Below-k : Type 0
       Below-k =
@@ -110,16 +111,16 @@ module _ {P p : ℕ} (tree : Tree P p) (nodes : ℕ → State) (A : ℕ)
       by ih (yes m) =
           own-exact tree (λ y. nodes y .tallies) f w (nodes w .stored) h k c
           (λ i l. here ih i l m (tree .awaited i w) refl)
-      by ih (no m) = gone1 w h (omega arith) k c f v
+      by ih (no m) = gone-first w h (omega arith) k c f v
 
-  exact2 : (K k : ℕ) → k ≤ K → p + k ≤ suc A → k ≤ p → (w : ℕ) → w < P
+  exact-second : (K k : ℕ) → k ≤ K → p + k ≤ suc A → k ≤ p → (w : ℕ) → w < P
       → ownSums (nodes w .tallies) (λ i. nodes w .stored (p + i)) k sentAll ≡ runSum tree
       (λ y. nodes y .tallies sentAll) k w
-  exact2 zero k a b c w h =
+  exact-second zero k a b c w h =
       own-exact tree (λ y. nodes y .tallies) sentAll w (λ i. nodes w .stored (p + i)) h k c
       (λ i l. absurd (omega arith))
-  exact2 (suc K) k a b c w h =
-      by (λ i l u hu. exact2 K i (omega arith) (omega arith) (omega arith) u hu) (decLt (nodes w .step) (p + p))
+  exact-second (suc K) k a b c w h =
+      by (λ i l u hu. exact-second K i (omega arith) (omega arith) (omega arith) u hu) (decLt (nodes w .step) (p + p))
     where
       Below-k : Type 0
       Below-k =
@@ -140,30 +141,30 @@ module _ {P p : ℕ} (tree : Tree P p) (nodes : ℕ → State) (A : ℕ)
       by ih (yes m) =
           own-exact tree (λ y. nodes y .tallies) sentAll w (λ i. nodes w .stored (p + i)) h k c
           (λ i l. here ih i l m (tree .awaited i w) refl)
-      by ih (no m) = gone2 w h (omega arith) k c
+      by ih (no m) = gone-second w h (omega arith) k c
 
   -- ---- the node that is least far
 
   module _ (m : ℕ → ℕ → ℕ)
-      (sent-pre : (y : ℕ) → y < P → (k : ℕ) → k ≤ p
+      (sent-shells : (y : ℕ) → y < P → (k : ℕ) → k ≤ p
       → runSum tree (m y) k y ≡ sum (λ j. nodes y .tallies (sentTo j)) 0 k)
-      (taken-pre : (z : ℕ) → z < P → (k : ℕ) → k ≤ p
+      (taken-shells : (z : ℕ) → z < P → (k : ℕ) → k ≤ p
       → runSum tree (λ y. m y z) k z ≡ sum (λ j. nodes z .tallies (takenFrom j)) 0 k)
       (limit R : ℕ) (small : (f : Entry) → HasEntry p f → (k b : ℕ) → k ≤ p → b < P
       → runSum tree (λ y. nodes y .tallies f) k b ≤ limit)
       (sent-R : sum (λ y. nodes y .tallies sentAll) 0 P ≡ R) (taken-R : sum (λ y. nodes y .tallies takenAll) 0 P ≡ R)
-      (tot-R : (w : ℕ) → w < P → p ≤ A → nodes w .agreed ≡ R)
+      (agreed-R : (w : ℕ) → w < P → p ≤ A → nodes w .agreed ≡ R)
       (a : ℕ) (h : a < P) (at-A : nodes a .step ≡ A) (in-phase : A < p + p) where
     tops : (f : Entry) → runSum tree (λ y. nodes y .tallies f) p a ≡ sum (λ y. nodes y .tallies f) 0 P
     tops f = rw (tree .low-top a h, tree .size-top a h) refl
 
-    agree1 : A < p → (w : ℕ) → tree .awaited A a ≡ some w → Agrees p limit (nodes a) A (some w)
-    agree1 l w e =
+    agree-first : A < p → (w : ℕ) → tree .awaited A a ≡ some w → Agrees p limit (nodes a) A (some w)
+    agree-first l w e =
         first w (ownSums (nodes w .tallies) (nodes w .stored) A) l got
         (own (sentTo A) l ∙ across tree m (λ y j. nodes y .tallies (sentTo j))
-        (λ z j. nodes z .tallies (takenFrom j)) sent-pre taken-pre A a w l h hw mt ∙ sym (his (takenFrom A) l))
+        (λ z j. nodes z .tallies (takenFrom j)) sent-shells taken-shells A a w l h hw mt ∙ sym (his (takenFrom A) l))
         (own (takenFrom A) l ∙ sym (across tree m (λ y j. nodes y .tallies (sentTo j))
-        (λ z j. nodes z .tallies (takenFrom j)) sent-pre taken-pre A w a l hw h bk) ∙ sym (his (sentTo A) l))
+        (λ z j. nodes z .tallies (takenFrom j)) sent-shells taken-shells A w a l hw h bk) ∙ sym (his (sentTo A) l))
         (λ f u. let v = above-ok A p f u in
         omega (
           arith,
@@ -193,11 +194,11 @@ module _ {P p : ℕ} (tree : Tree P p) (nodes : ℕ → State) (A : ℕ)
 
         own : (f : Entry) → HasEntry p f
             → ownSums (nodes a .tallies) (nodes a .stored) A f ≡ runSum tree (λ y. nodes y .tallies f) A a
-        own f v = exact1 A A (omega arith) (omega arith) (omega arith) a h f v
+        own f v = exact-first A A (omega arith) (omega arith) (omega arith) a h f v
 
         his : (f : Entry) → HasEntry p f
             → ownSums (nodes w .tallies) (nodes w .stored) A f ≡ runSum tree (λ y. nodes y .tallies f) A w
-        his f v = exact1 A A (omega arith) (omega arith) (omega arith) w hw f v
+        his f v = exact-first A A (omega arith) (omega arith) (omega arith) w hw f v
 
         got : nodes a .stored A ≡ some (ownSums (nodes w .tallies) (nodes w .stored) A)
         got =
@@ -209,8 +210,8 @@ module _ {P p : ℕ} (tree : Tree P p) (nodes : ℕ → State) (A : ℕ)
             (λ y. nodes y .tallies f) 0 P
         whole last f = sym (meet-sum (tree .low) (tree .size) A a w (λ y. nodes y .tallies f) mt) ∙ rw last (tops f)
 
-    agree2 : (k : ℕ) → A ≡ p + k → (w : ℕ) → tree .awaited k a ≡ some w → Agrees p limit (nodes a) A (some w)
-    agree2 k q w e =
+    agree-second : (k : ℕ) → A ≡ p + k → (w : ℕ) → tree .awaited k a ≡ some w → Agrees p limit (nodes a) A (some w)
+    agree-second k q w e =
         second w (confirming (nodes w .agreed) (ownSums (nodes w .tallies) (λ i. nodes w .stored (p + i)) k sentAll))
         (omega arith) got
         (rw k-is (omega (
@@ -220,8 +221,8 @@ module _ {P p : ℕ} (tree : Tree P p) (nodes : ℕ → State) (A : ℕ)
           meet-sum (tree .low) (tree .size) k a w
               (λ y. nodes y .tallies sentAll) mt,
           small sentAll tt (suc k) a (omega arith) h,
-        ))) (tot-R w hw (omega arith) ∙ sym (tot-R a h (omega arith)))
-        (λ last. rw k-is (omega (arith, own, his, whole (omega arith), tot-R a h (omega arith))))
+        ))) (agreed-R w hw (omega arith) ∙ sym (agreed-R a h (omega arith)))
+        (λ last. rw k-is (omega (arith, own, his, whole (omega arith), agreed-R a h (omega arith))))
       where
         k-is : A - p ≡ k
         k-is = omega arith
@@ -234,11 +235,11 @@ module _ {P p : ℕ} (tree : Tree P p) (nodes : ℕ → State) (A : ℕ)
 
         own : ownSums (nodes a .tallies) (λ i. nodes a .stored (p + i)) k sentAll ≡ runSum tree
             (λ y. nodes y .tallies sentAll) k a
-        own = exact2 k k (omega arith) (omega arith) (omega arith) a h
+        own = exact-second k k (omega arith) (omega arith) (omega arith) a h
 
         his : ownSums (nodes w .tallies) (λ i. nodes w .stored (p + i)) k sentAll ≡ runSum tree
             (λ y. nodes y .tallies sentAll) k w
-        his = exact2 k k (omega arith) (omega arith) (omega arith) w hw
+        his = exact-second k k (omega arith) (omega arith) (omega arith) w hw
 
         got : nodes a .stored A ≡ some
             (confirming (nodes w .agreed) (ownSums (nodes w .tallies) (λ i. nodes w .stored (p + i)) k sentAll))
@@ -257,11 +258,11 @@ module _ {P p : ℕ} (tree : Tree P p) (nodes : ℕ → State) (A : ℕ)
       where
         go1 : (l : A < p) (o : Option ℕ) → tree .awaited A a ≡ o → Agrees p limit (nodes a) A o
         go1 l none e = alone
-        go1 l (some w) e = agree1 l w e
+        go1 l (some w) e = agree-first l w e
 
         go2 : (k : ℕ) → A ≡ p + k → (o : Option ℕ) → tree .awaited k a ≡ o → Agrees p limit (nodes a) A o
         go2 k q none e = alone
-        go2 k q (some w) e = agree2 k q w e
+        go2 k q (some w) e = agree-second k q w e
 
         go : Dec (A < p) → Agrees p limit (nodes a) A (tree .awaited (dimOf p A) a)
         go (yes l) = rw (dim-first p A l) (go1 l (tree .awaited A a) refl)

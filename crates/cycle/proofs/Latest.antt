@@ -67,13 +67,13 @@ module _ {P p : ℕ} (tree : Tree P p) where
       let z : _≡_ {A = Bool} true false = sym f ∙ q .1 in let y : _≡_ {A = ℕ} 0 1 = cc in omega arith
 
   -- the receiver's side and the sender's side of an event at one node
-  abbrev Recv : PhaseBoard → ℕ → ℕ → List Parcel → ℕ → State → Type 0
-  Recv b s w is c u =
+  abbrev Receives : PhaseBoard → ℕ → ℕ → List Parcel → ℕ → State → Type 0
+  Receives b s w is c u =
       u .step < p + p → (b .nodes c .step < p + p)
       × (latest s w c is (u .stored s) ≡ latest s w c (b .items) (b .nodes c .stored s))
 
   latest-keep : (b : PhaseBoard) → Latest b → (a : ℕ) (v : State) (is : List Parcel)
-      → ((w c s : ℕ) → c < P → tree .awaited (dimOf p s) c ≡ some w → Recv b s w is c (update (b .nodes) a v c))
+      → ((w c s : ℕ) → c < P → tree .awaited (dimOf p s) c ≡ some w → Receives b s w is c (update (b .nodes) a v c))
       → ((c s : ℕ) → c < P → tree .awaited (dimOf p s) c ≡ some a → Stands v s
       → Stands (b .nodes a) s × (frameOf p v s ≡ frameOf p (b .nodes a) s)) → Latest (placed b a v is)
   latest-keep b j a v is r t w c s h l e sd u =
@@ -84,19 +84,20 @@ module _ {P p : ℕ} (tree : Tree P p) where
       q .1 ∙ j w c s h l e (z .0) (q .0) ∙ ap some (sym (z .1))
 
   -- the store is as it was, and the items tell the same
-  recv-same : (b : PhaseBoard) (a : ℕ) (v : State) (is : List Parcel) → ((s : ℕ) → v .stored s ≡ b .nodes a .stored s)
+  receives-same : (b : PhaseBoard) (a : ℕ) (v : State) (is : List Parcel)
+      → ((s : ℕ) → v .stored s ≡ b .nodes a .stored s)
       → (v .step < p + p → b .nodes a .step < p + p)
       → ((w c s : ℕ) (o : Option Entries) → latest s w c is o ≡ latest s w c (b .items) o) → (w c s : ℕ)
-      → Recv b s w is c (update (b .nodes) a v c)
-  recv-same b a v is e f g w c s =
-      update-all (λ c u. Recv b s w is c u) (b .nodes) a v (λ l. (f l, rw (e s) (g w a s (b .nodes a .stored s))))
+      → Receives b s w is c (update (b .nodes) a v c)
+  receives-same b a v is e f g w c s =
+      update-all (λ c u. Receives b s w is c u) (b .nodes) a v (λ l. (f l, rw (e s) (g w a s (b .nodes a .stored s))))
       (λ y n l. (l, g w y s (b .nodes y .stored s))) c
 
   -- ---- the events
 
   go-sends : (b : PhaseBoard) → Latest b → BusyAtStart b → (a c : ℕ) (t : Entries) → b .nodes a .busy ≡ true
       → Latest (placed b a (withTallies (b .nodes a) true t) (b .items ++ posts a message (c ∷ [])))
-  go-sends b j z a c t bu = latest-keep b j a v is (λ w d s h e. recv-same b a v is (λ s. refl) (λ l. l) tell w d s)
+  go-sends b j z a c t bu = latest-keep b j a v is (λ w d s h e. receives-same b a v is (λ s. refl) (λ l. l) tell w d s)
       (λ d s h e sd. absurd (none-stands v s (z a bu .0) (z a bu .1) sd))
     where
       v : State
@@ -114,7 +115,8 @@ module _ {P p : ℕ} (tree : Tree P p) where
       → Latest (placed b a (withTallies (b .nodes a) false (b .nodes a .tallies)) (b .items))
   go-rests b j a =
       latest-keep b j a v (b .items)
-      (λ w d s h e. recv-same b a v (b .items) (λ s. refl) (λ l. l) (λ w d s o. refl) w d s) (λ d s h e sd. (sd, refl))
+      (λ w d s h e. receives-same b a v (b .items) (λ s. refl) (λ l. l) (λ w d s o. refl) w d s)
+      (λ d s h e sd. (sd, refl))
     where
       v : State
       v = withTallies (b .nodes a) false (b .nodes a .tallies)
@@ -123,7 +125,7 @@ module _ {P p : ℕ} (tree : Tree P p) where
       → b .items ≡ xs ++ record { from = a; to = c; load = message } ∷ ys
       → b .nodes c .step < p + p → Latest (placed b c (atStep (withTallies (b .nodes c) true t) 0 true 0) (xs ++ ys))
   go-takes b j xs ys a c t e l =
-      latest-keep b j c v (xs ++ ys) (λ w d s h q. recv-same b c v (xs ++ ys) (λ s. refl) (λ u. l) tell w d s)
+      latest-keep b j c v (xs ++ ys) (λ w d s h q. receives-same b c v (xs ++ ys) (λ s. refl) (λ u. l) tell w d s)
       (λ d s h q sd. absurd (none-stands v s refl refl sd))
     where
       v : State
@@ -135,13 +137,13 @@ module _ {P p : ℕ} (tree : Tree P p) where
           (λ o. newer-message s w d a c o)))
 
   -- a frame goes from the link into the store of c
-  recv-stores : (b : PhaseBoard) (xs ys : List Parcel) (a c s₀ : ℕ) (x : Entries) (v : State)
+  receives-stores : (b : PhaseBoard) (xs ys : List Parcel) (a c s₀ : ℕ) (x : Entries) (v : State)
       → b .items ≡ xs ++ record { from = a; to = c; load = report s₀ x } ∷ ys → First xs a c
       → tree .awaited (dimOf p s₀) c ≡ some a → b .nodes c .step < p + p
       → v .stored ≡ update (b .nodes c .stored) s₀ (some x)
-      → (w d s : ℕ) → tree .awaited (dimOf p s) d ≡ some w → Recv b s w (xs ++ ys) d (update (b .nodes) c v d)
-  recv-stores b xs ys a c s₀ x v e fi aw l ev w d s q =
-      update-all (λ d u. tree .awaited (dimOf p s) d ≡ some w → Recv b s w (xs ++ ys) d u) (b .nodes) c v
+      → (w d s : ℕ) → tree .awaited (dimOf p s) d ≡ some w → Receives b s w (xs ++ ys) d (update (b .nodes) c v d)
+  receives-stores b xs ys a c s₀ x v e fi aw l ev w d s q =
+      update-all (λ d u. tree .awaited (dimOf p s) d ≡ some w → Receives b s w (xs ++ ys) d u) (b .nodes) c v
       (λ q u. (l, rw (ev, e) (here q (ℕ-discrete s s₀) (ℕ-discrete a w)))) (λ y n q u. (
         u,
         rw e (sym (latest-skip s w y xs ys i (b .nodes y .stored s)
@@ -174,7 +176,7 @@ module _ {P p : ℕ} (tree : Tree P p) where
       → b .nodes c .step < p + p → tree .awaited (dimOf p s₀) c ≡ some a → b .nodes c .step ≤ s₀
       → Latest (placed b c (withStored (b .nodes c) s₀ x) (xs ++ ys))
   go-stores b j xs ys a c s₀ x e fi l aw m =
-      latest-keep b j c v (xs ++ ys) (λ w d s h q. recv-stores b xs ys a c s₀ x v e fi aw l refl w d s q)
+      latest-keep b j c v (xs ++ ys) (λ w d s h q. receives-stores b xs ys a c s₀ x v e fi aw l refl w d s q)
       (λ d s h q sd. (sd, same s sd))
     where
       v : State
@@ -195,7 +197,7 @@ module _ {P p : ℕ} (tree : Tree P p) where
       → (p ≤ s₀ → T ≡ b .nodes c .agreed)
       → Latest (placed b c (atStep (withStored (b .nodes c) s₀ x) s₀ false T) (xs ++ ys))
   go-falls b j xs ys a c s₀ x T e fi l aw m t =
-      latest-keep b j c v (xs ++ ys) (λ w d s h q. recv-stores b xs ys a c s₀ x v e fi aw l refl w d s q)
+      latest-keep b j c v (xs ++ ys) (λ w d s h q. receives-stores b xs ys a c s₀ x v e fi aw l refl w d s q)
       (λ d s h q sd. (inl (omega (arith, early s sd)), same s sd))
     where
       v : State
@@ -214,7 +216,8 @@ module _ {P p : ℕ} (tree : Tree P p) where
       → b .items ≡ xs ++ record { from = a; to = c; load = report s₀ x } ∷ ys
       → p + p ≤ b .nodes c .step → Latest (placed b c (b .nodes c) (xs ++ ys))
   go-drops b j xs ys a c s₀ x e l = latest-keep b j c (b .nodes c) (xs ++ ys)
-      (λ w d s h q. update-all (λ d u. Recv b s w (xs ++ ys) d u) (b .nodes) c (b .nodes c) (λ u. absurd (omega arith))
+      (λ w d s h q. update-all (λ d u. Receives b s w (xs ++ ys) d u) (b .nodes) c (b .nodes c)
+      (λ u. absurd (omega arith))
       (λ y n u. (
         u,
         rw e (sym (latest-skip s w y xs ys i (b .nodes y .stored s)
@@ -235,7 +238,7 @@ module _ {P p : ℕ} (tree : Tree P p) where
       → Latest (placed b a (atStep (b .nodes a) (b .nodes a .step) false (b .nodes a .agreed)) (b .items))
   go-waits b j a f =
       latest-keep b j a v (b .items)
-      (λ w d s h e. recv-same b a v (b .items) (λ s. refl) (λ l. l) (λ w d s o. refl) w d s)
+      (λ w d s h e. receives-same b a v (b .items) (λ s. refl) (λ l. l) (λ w d s o. refl) w d s)
       (λ d s h q sd. (stood (b .nodes a) a d s h q f (near s sd), refl))
     where
       v : State
@@ -250,7 +253,7 @@ module _ {P p : ℕ} (tree : Tree P p) where
       → Latest (placed b a (atStep (b .nodes a) (suc (b .nodes a .step)) true T) (b .items))
   go-moves b j a T l f t =
       latest-keep b j a v (b .items)
-      (λ w d s h e. recv-same b a v (b .items) (λ s. refl) (λ u. l) (λ w d s o. refl) w d s) (λ d s h q sd. (
+      (λ w d s h e. receives-same b a v (b .items) (λ s. refl) (λ u. l) (λ w d s o. refl) w d s) (λ d s h q sd. (
         stood (b .nodes a) a d s h q f (near s sd (ℕ-discrete s (b .nodes a .step))),
         frame-same p (b .nodes a) v s refl (λ i k. refl) (λ k. t (omega (arith, upto s sd))),
       ))

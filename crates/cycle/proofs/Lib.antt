@@ -1,4 +1,4 @@
--- Demand 3 apart from bytes and states. Sums and lists; what is asked of the tree, and that the tree of partners has it.
+-- Demand 3 apart from bytes and states. Sums and lists; what is asked of the tree.
 pub mod Sums
 pub mod Lists
 pub mod Tree
@@ -6,7 +6,7 @@ pub mod Tree
 pub mod FinalClaim
 pub mod Growth
 pub mod OwnSums
--- One phase: its events, what its frames and nodes hold, and that every event keeps it.
+-- One phase: its events, over the tree of partners; what its frames and nodes hold, and that every event keeps it.
 pub mod Exact
 pub mod OnePhase
 pub mod Partners

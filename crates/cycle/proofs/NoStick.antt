@@ -22,7 +22,7 @@ use Rattle.cycle.proofs.OnePhase.{Parcel, State, PhaseBoard, frameOf, d
 use Rattle.cycle.proofs.OnePhase.{first, second, HasEntry}
 use Rattle.cycle.proofs.Newest.{on-link, latest-none}
 use Rattle.cycle.proofs.Latest.{Stands}
-use Rattle.cycle.proofs.AtRest.{least, dim-first, dim-second, exact1, unstuck}
+use Rattle.cycle.proofs.AtRest.{least, dim-first, dim-second, exact-first, unstuck}
 use Rattle.cycle.proofs.NodeOk.{world, confirmedIn, StoredOk, NodeOk, own-most, linear, agreed-of, second-ok}
 use Rattle.cycle.proofs.Messages.{is-message, messages, messages-on}
 use Rattle.cycle.proofs.PhaseInvariant.{PhaseInvariant, reach}
@@ -122,7 +122,7 @@ module _ {P p : ℕ} (tree : Tree P p) (limit : ℕ) where
     kept-gap f u k l none none x = omega arith
     kept-gap f u k l none (some z) x = absurd x
     kept-gap f u k l (some y) none x = zero-le
-    kept-gap f u k l (some y) (some z) x = x .in1 l .le f u
+    kept-gap f u k l (some y) (some z) x = x .in-first l .le f u
 
     tight : (f : Entry) → HasEntry p f → ownSums (v .tallies) (v .stored) p f ≡ sum (λ y. b .nodes y .tallies f) 0 P
         → (k : ℕ) → k ≤ p → ownSums (v .tallies) (v .stored) k f ≡ runSum tree (λ y. b .nodes y .tallies f) k w
@@ -135,8 +135,8 @@ module _ {P p : ℕ} (tree : Tree P p) (limit : ℕ) where
         (rw (dim-first p k l) at (ok .stored-ok k (omega arith)))) (t ∙ sym (top (λ y. b .nodes y .tallies f) w h))
         (p - k) k (omega arith)
 
-    all-t : ownSums (v .tallies) (v .stored) p takenAll ≡ sum (λ y. b .nodes y .tallies takenAll) 0 P
-    all-t = sym (ok .agreed-is (omega arith)) ∙ sym (q .all-taken)
+    all-taken-sum : ownSums (v .tallies) (v .stored) p takenAll ≡ sum (λ y. b .nodes y .tallies takenAll) 0 P
+    all-taken-sum = sym (ok .agreed-is (omega arith)) ∙ sym (q .all-taken)
 
     evened : (k : ℕ) (o : Option ℕ) → (o ≡ none → ⊥) → suc k ≡ p → Agrees p limit v k o
         → ownSums (v .tallies) (v .stored) (suc k) sentAll ≡ ownSums (v .tallies) (v .stored) (suc k) takenAll
@@ -147,15 +147,15 @@ module _ {P p : ℕ} (tree : Tree P p) (limit : ℕ) where
         omega (arith, c4 e)
     evened k o n e (second u x l g c3 c5 c6) = absurd (omega arith)
 
-    all-s : ownSums (v .tallies) (v .stored) p sentAll ≡ sum (λ y. b .nodes y .tallies sentAll) 0 P
-    all-s =
+    all-sent-sum : ownSums (v .tallies) (v .stored) p sentAll ≡ sum (λ y. b .nodes y .tallies sentAll) 0 P
+    all-sent-sum =
         let k = p - 1 in
         let e : suc k ≡ p = omega arith in
         let a : Agrees p limit v k (tree .awaited k w) =
         rw (dim-first p k (omega arith)) at (ok .agrees k (omega arith)) in
         let z = subst (λ n. ownSums (v .tallies) (v .stored) n sentAll ≡ ownSums (v .tallies) (v .stored) n takenAll) e
         (evened k (tree .awaited k w) (tree .not-last k w h e) e a) in
-        omega (arith, z, all-t, all-count, q .all-sent, q .all-taken)
+        omega (arith, z, all-taken-sum, all-count, q .all-sent, q .all-taken)
 
     -- a total that is exact, from shells each of which is at most exact
     shells : (c : ℕ → Entry) (t : Entry) → ((j : ℕ) → j < p → HasEntry p (c j)) → (k : ℕ) → k ≤ p
@@ -177,16 +177,16 @@ module _ {P p : ℕ} (tree : Tree P p) (limit : ℕ) where
             (λ y x z. each y (omega (arith, in-board k w h)))
             ∙ sum-swap (λ y j. b .nodes y .tallies (c j)) (tree .low k w) (tree .size k w) 0 p
 
-    gone1 : (k : ℕ) → k ≤ p → (f : Entry) → HasEntry p f
+    gone-first : (k : ℕ) → k ≤ p → (f : Entry) → HasEntry p f
         → ownSums (v .tallies) (v .stored) k f ≡ runSum tree (λ y. b .nodes y .tallies f) k w
-    gone1 k l (sentTo j) u =
+    gone-first k l (sentTo j) u =
         shells sentTo sentAll (λ j x. x) k l (linear tree limit b w v ok k l .1)
-        (λ y x. i .nodes-ok y x .sum-s) (tight sentAll tt all-s k l) j u
-    gone1 k l (takenFrom j) u =
+        (λ y x. i .nodes-ok y x .sent-total) (tight sentAll tt all-sent-sum k l) j u
+    gone-first k l (takenFrom j) u =
         shells takenFrom takenAll (λ j x. x) k l (linear tree limit b w v ok k l .0)
-        (λ y x. i .nodes-ok y x .sum-t) (tight takenAll tt all-t k l) j u
-    gone1 k l sentAll u = tight sentAll tt all-s k l
-    gone1 k l takenAll u = tight takenAll tt all-t k l
+        (λ y x. i .nodes-ok y x .taken-total) (tight takenAll tt all-taken-sum k l) j u
+    gone-first k l sentAll u = tight sentAll tt all-sent-sum k l
+    gone-first k l takenAll u = tight takenAll tt all-taken-sum k l
 
     -- a pass 2 frame for a total that is all there is holds at least what its run sent
     at-least : (low n T x : ℕ) → low + n ≤ P → T ≡ length (b .senders) → Claimed P (world b) low n T x
@@ -204,51 +204,51 @@ module _ {P p : ℕ} (tree : Tree P p) (limit : ℕ) where
             ap (count y) (take-all T (b .senders) (omega arith)) in
             omega (arith, i .nodes-ok y (omega arith) .count-is)
 
-    tot-all : b .nodes w .agreed ≡ length (b .senders)
-    tot-all = sym (q .all-sent)
+    agreed-all : b .nodes w .agreed ≡ length (b .senders)
+    agreed-all = sym (q .all-sent)
 
     agreed-at : (k : ℕ) → k < p → Agreed tree (v .agreed) (tree .awaited k w) (confirmedIn (v .stored (p + k)))
     agreed-at k l =
         agreed-of tree limit v k (tree .awaited k w) (rw (dim-second p k) at (ok .agrees (p + k) (omega arith)))
 
-    gap2 : (k : ℕ) → k < p → (o : Option ℕ) (s : Option Entries) → (tree .awaited k w ≡ o)
+    gap-second : (k : ℕ) → k < p → (o : Option ℕ) (s : Option Entries) → (tree .awaited k w ≡ o)
         → StoredOk tree limit b (p + k) o s → Agreed tree (v .agreed) o (confirmedIn s)
         → gap (λ y. b .nodes y .tallies sentAll) k o ≤ entryOf s sentAll
-    gap2 k l none none e x a = omega arith
-    gap2 k l none (some z) e x a = absurd x
-    gap2 k l (some u) none e x a = absurd a
-    gap2 k l (some u) (some z) e x a =
+    gap-second k l none none e x a = omega arith
+    gap-second k l none (some z) e x a = absurd x
+    gap-second k l (some u) none e x a = absurd a
+    gap-second k l (some u) (some z) e x a =
         at-least (tree .low k u) (tree .size k u) (z takenAll) (z sentAll) (in-board k u (tree .below k w u l h e))
-        (a ∙ tot-all) (x .in2 k refl)
+        (a ∙ agreed-all) (x .in-second k refl)
 
     closed : (k : ℕ) (o : Option ℕ) → (o ≡ none → ⊥) → suc k ≡ p → Agrees p limit v (p + k) o
         → ownSums (v .tallies) (λ i. v .stored (p + i)) (suc k) sentAll ≡ v .agreed
     closed k o n e a = closing tree limit v k o n e a
 
-    gone2 : (k : ℕ) → k ≤ p → ownSums (v .tallies) (λ i. v .stored (p + i)) k sentAll ≡ runSum tree
+    gone-second : (k : ℕ) → k ≤ p → ownSums (v .tallies) (λ i. v .stored (p + i)) k sentAll ≡ runSum tree
         (λ y. b .nodes y .tallies sentAll) k w
-    gone2 k l =
+    gone-second k l =
         sym (down (λ k. runSum tree (λ y. b .nodes y .tallies sentAll) k w)
         (λ k. ownSums (v .tallies) (λ i. v .stored (p + i)) k sentAll)
         (λ k. gap (λ y. b .nodes y .tallies sentAll) k (tree .awaited k w)) (λ k. entryOf (v .stored (p + k)) sentAll) p
         (λ k l. widens (λ y. b .nodes y .tallies sentAll) w h k l) (λ k l. refl)
         (λ k l. at-least (tree .low k w) (tree .size k w) (v .agreed)
-        (ownSums (v .tallies) (λ i. v .stored (p + i)) k sentAll) (in-board k w h) tot-all
+        (ownSums (v .tallies) (λ i. v .stored (p + i)) k sentAll) (in-board k w h) agreed-all
         (second-ok tree limit b w v h ok refl (reach tree limit b i) (q .all-idle w h) k l (omega arith)
         (λ j x. agreed-at j (omega arith))))
-        (λ k l. gap2 k l (tree .awaited k w) (v .stored (p + k)) refl
+        (λ k l. gap-second k l (tree .awaited k w) (v .stored (p + k)) refl
         (rw (dim-second p k) at (ok .stored-ok (p + k) (omega arith))) (agreed-at k l))
-        all2 (p - k) k (omega arith))
+        all-second (p - k) k (omega arith))
       where
-        all2 : runSum tree (λ y. b .nodes y .tallies sentAll) p w ≡ ownSums (v .tallies)
+        all-second : runSum tree (λ y. b .nodes y .tallies sentAll) p w ≡ ownSums (v .tallies)
             (λ i. v .stored (p + i)) p sentAll
-        all2 =
+        all-second =
             let k = p - 1 in
             let e : suc k ≡ p = omega arith in
             let z = subst (λ n. ownSums (v .tallies) (λ i. v .stored (p + i)) n sentAll ≡ v .agreed) e
             (closed k (tree .awaited k w) (tree .not-last k w h e) e
             (rw (dim-second p k) at (ok .agrees (p + k) (omega arith)))) in
-            top (λ y. b .nodes y .tallies sentAll) w h ∙ all-count ∙ sym tot-all ∙ sym z
+            top (λ y. b .nodes y .tallies sentAll) w h ∙ all-count ∙ sym agreed-all ∙ sym z
 
   -- ---- a board at rest
 
@@ -324,8 +324,8 @@ module _ {P p : ℕ} (tree : Tree P p) (limit : ℕ) where
         go none x = refl
         go (some z) x = absurd x
 
-    gt-is-gm : (y z : ℕ) → b .takenBetween y z ≡ b .sentBetween y z
-    gt-is-gm y z = omega (arith, i .pairs whole y z, messages-on-le y z (b .items), messages-none)
+    all-taken-between : (y z : ℕ) → b .takenBetween y z ≡ b .sentBetween y z
+    all-taken-between y z = omega (arith, i .pairs whole y z, messages-on-le y z (b .items), messages-none)
 
     counted : sum (λ y. b .nodes y .tallies sentAll) 0 P ≡ length (b .senders)
     counted =
@@ -337,7 +337,7 @@ module _ {P p : ℕ} (tree : Tree P p) (limit : ℕ) where
         let e = sum-le (λ y. b .nodes y .tallies (sentTo j)) (λ y. b .nodes y .tallies sentAll) 0 P
         (λ y k l. omega (
           arith,
-          i .nodes-ok y (omega arith) .sum-s,
+          i .nodes-ok y (omega arith) .sent-total,
           sum-at
               (λ j. b .nodes y .tallies (sentTo j)) p j x,
         )) in
@@ -346,7 +346,7 @@ module _ {P p : ℕ} (tree : Tree P p) (limit : ℕ) where
         let e = sum-le (λ y. b .nodes y .tallies (takenFrom j)) (λ y. b .nodes y .tallies takenAll) 0 P
         (λ y k l. omega (
           arith,
-          i .nodes-ok y (omega arith) .sum-t,
+          i .nodes-ok y (omega arith) .taken-total,
           sum-at
               (λ j. b .nodes y .tallies (takenFrom j)) p j x,
         )) in
@@ -354,14 +354,15 @@ module _ {P p : ℕ} (tree : Tree P p) (limit : ℕ) where
     all-small sentAll x = omega (arith, counted, i .small)
     all-small takenAll x = omega (arith, reach tree limit b i, i .small)
 
-    tot-R : (w : ℕ) → w < P → p ≤ b .nodes a .step → b .nodes w .agreed ≡ totalTaken P (world b)
-    tot-R w hw l = go (decLt (b .nodes w .step) (p + p))
+    agreed-R : (w : ℕ) → w < P → p ≤ b .nodes a .step → b .nodes w .agreed ≡ totalTaken P (world b)
+    agreed-R w hw l = go (decLt (b .nodes w .step) (p + p))
       where
         go : Dec (b .nodes w .step < p + p) → b .nodes w .agreed ≡ totalTaken P (world b)
         go (no m) = sym (i .quiet w hw (omega arith) .all-taken)
         go (yes m) =
             i .nodes-ok w hw .agreed-is (omega (arith, the-least .1 .1 w hw))
-            ∙ exact1 tree (b .nodes) (b .nodes a .step) stored-is lone-none (gone1 b i) (gone2 b i) p p (omega arith)
+            ∙ exact-first tree (b .nodes) (b .nodes a .step) stored-is lone-none (gone-first b i) (gone-second b i) p p
+            (omega arith)
             (omega arith) (omega arith) w hw takenAll tt
             ∙ top (λ y. b .nodes y .tallies takenAll) w hw
 
@@ -374,10 +375,11 @@ module _ {P p : ℕ} (tree : Tree P p) (limit : ℕ) where
         a<P,
         (
           A<pp,
-          unstuck tree (b .nodes) (b .nodes a .step) stored-is lone-none (gone1 b i) (gone2 b i) (b .sentBetween)
-              (i .sent-pre)
+          unstuck tree (b .nodes) (b .nodes a .step) stored-is lone-none (gone-first b i) (gone-second b i)
+              (b .sentBetween)
+              (i .sent-shells)
               (λ z hz k l. sum-ext (λ y. b .sentBetween y z) (λ y. b .takenBetween y z) (tree .low k z) (tree .size k z)
-              (λ y m n. sym (gt-is-gm y z)) ∙ i .taken-pre z hz k l)
+              (λ y m n. sym (all-taken-between y z)) ∙ i .taken-shells z hz k l)
               limit (totalTaken P (world b))
               (λ f x k c l hc. omega (
                 arith,
@@ -385,7 +387,7 @@ module _ {P p : ℕ} (tree : Tree P p) (limit : ℕ) where
                     (λ y. b .nodes y .tallies f) P (tree .low k c) (tree .size k c) (in-board k c hc),
                 all-small f x,
               ))
-              (omega (arith, counted, i .balance whole, messages-none)) refl tot-R a a<P refl A<pp,
+              (omega (arith, counted, i .balance whole, messages-none)) refl agreed-R a a<P refl A<pp,
         ),
       ),
     )

@@ -69,13 +69,13 @@ module _ {P p : ℕ} (tree : Tree P p) (limit : ℕ) where
   -- a frame of pass 1: no number is above the true sum over its sender's run, and the shells add up to the totals
   pub record FirstGood (b : PhaseBoard) (s w : ℕ) (x : Entries) : Type 0 where
     pub le : (f : Entry) → HasEntry p f → x f ≤ runSum tree (λ y. b .nodes y .tallies f) s w
-    pub sum-t : x takenAll ≡ sum (λ j. x (takenFrom j)) 0 p
-    pub sum-s : x sentAll ≡ sum (λ j. x (sentTo j)) 0 p
+    pub taken-total : x takenAll ≡ sum (λ j. x (takenFrom j)) 0 p
+    pub sent-total : x sentAll ≡ sum (λ j. x (sentTo j)) 0 p
 
   -- a frame of step s, from w
   pub record FrameOk (b : PhaseBoard) (s w : ℕ) (x : Entries) : Type 0 where
-    pub in1 : s < p → FirstGood b s w x
-    pub in2 : (k : ℕ) → s ≡ p + k → Claimed P (world b) (tree .low k w) (tree .size k w) (x takenAll) (x sentAll)
+    pub in-first : s < p → FirstGood b s w x
+    pub in-second : (k : ℕ) → s ≡ p + k → Claimed P (world b) (tree .low k w) (tree .size k w) (x takenAll) (x sentAll)
 
   abbrev pub StoredOk : PhaseBoard → ℕ → Option ℕ → Option Entries → Type 0
   StoredOk b s a none = Unit {0}
@@ -95,20 +95,20 @@ module _ {P p : ℕ} (tree : Tree P p) (limit : ℕ) where
     pub stored-ok : (s : ℕ) → s < p + p → StoredOk b s (tree .awaited (dimOf p s) a) (v .stored s)
     pub agreed-is : p ≤ v .step → v .agreed ≡ ownSums (v .tallies) (v .stored) p takenAll
     pub agrees : (s : ℕ) → s < v .step → Agrees p limit v s (tree .awaited (dimOf p s) a)
-    pub sum-t : v .tallies takenAll ≡ sum (λ j. v .tallies (takenFrom j)) 0 p
-    pub sum-s : v .tallies sentAll ≡ sum (λ j. v .tallies (sentTo j)) 0 p
+    pub taken-total : v .tallies takenAll ≡ sum (λ j. v .tallies (takenFrom j)) 0 p
+    pub sent-total : v .tallies sentAll ≡ sum (λ j. v .tallies (sentTo j)) 0 p
     pub count-is : v .tallies sentAll ≡ count a (b .senders)
     pub step-le : v .step ≤ p + p
 
   -- ---- what a node would write is good
 
-  stored1-of : (b : PhaseBoard) (k : ℕ) (f : Entry) → HasEntry p f → k < p → (o : Option ℕ) (s : Option Entries)
+  first-stored-of : (b : PhaseBoard) (k : ℕ) (f : Entry) → HasEntry p f → k < p → (o : Option ℕ) (s : Option Entries)
       → StoredOk b k o s
       → FirstStored tree (record { senders = []; taken = λ y. b .nodes y .tallies f; done = λ y. ⊥ }) k o (entryIn f s)
-  stored1-of b k f v l none none h = tt
-  stored1-of b k f v l none (some x) h = absurd h
-  stored1-of b k f v l (some w) none h = tt
-  stored1-of b k f v l (some w) (some x) h = h .in1 l .le f v
+  first-stored-of b k f v l none none h = tt
+  first-stored-of b k f v l none (some x) h = absurd h
+  first-stored-of b k f v l (some w) none h = tt
+  first-stored-of b k f v l (some w) (some x) h = h .in-first l .le f v
 
   pub own-most : (b : PhaseBoard) (a : ℕ) (n : State) → a < P → NodeOk b a n → n .tallies ≡ b .nodes a .tallies
       → (f : Entry) → HasEntry p f → (k : ℕ) → k ≤ p
@@ -116,14 +116,14 @@ module _ {P p : ℕ} (tree : Tree P p) (limit : ℕ) where
   own-most b a n h ok e f v k l =
       let q = first-sum-ok tree (record { senders = []; taken = λ y. b .nodes y .tallies f; done = λ y. ⊥ }) a
       (n .tallies f) (λ i. entryIn f (n .stored i)) h (rw e (omega arith))
-      (λ i m. stored1-of b i f v m (tree .awaited i a) (n .stored i)
+      (λ i m. first-stored-of b i f v m (tree .awaited i a) (n .stored i)
       (rw (dim-first p i m) at (ok .stored-ok i (omega arith)))) k l in
       omega (arith, first-own (n .tallies) (n .stored) f k)
 
   pub linear : (b : PhaseBoard) (a : ℕ) (n : State) → NodeOk b a n → (k : ℕ) → k ≤ p
       → (ownSums (n .tallies) (n .stored) k takenAll ≡ sum (λ j. ownSums (n .tallies) (n .stored) k (takenFrom j)) 0 p)
       × (ownSums (n .tallies) (n .stored) k sentAll ≡ sum (λ j. ownSums (n .tallies) (n .stored) k (sentTo j)) 0 p)
-  linear b a n ok zero l = (ok .sum-t, ok .sum-s)
+  linear b a n ok zero l = (ok .taken-total, ok .sent-total)
   linear b a n ok (suc k) l =
       let r = linear b a n ok k (omega arith) in
       let q = part (tree .awaited (dimOf p k) a) (n .stored k) (ok .stored-ok k (omega arith)) in (
@@ -149,14 +149,14 @@ module _ {P p : ℕ} (tree : Tree P p) (limit : ℕ) where
       part none none h = (sym (sum-zero 0 p), sym (sum-zero 0 p))
       part none (some x) h = absurd h
       part (some w) none h = (sym (sum-zero 0 p), sym (sum-zero 0 p))
-      part (some w) (some x) h = (h .in1 (omega arith) .sum-t, h .in1 (omega arith) .sum-s)
+      part (some w) (some x) h = (h .in-first (omega arith) .taken-total, h .in-first (omega arith) .sent-total)
 
-  stored2-of : (b : PhaseBoard) (k : ℕ) (o : Option ℕ) (s : Option Entries) → StoredOk b (p + k) o s
+  second-stored-of : (b : PhaseBoard) (k : ℕ) (o : Option ℕ) (s : Option Entries) → StoredOk b (p + k) o s
       → SecondStored tree (world b) k o (confirmedIn s)
-  stored2-of b k none none h = tt
-  stored2-of b k none (some x) h = absurd h
-  stored2-of b k (some w) none h = tt
-  stored2-of b k (some w) (some x) h = h .in2 k refl
+  second-stored-of b k none none h = tt
+  second-stored-of b k none (some x) h = absurd h
+  second-stored-of b k (some w) none h = tt
+  second-stored-of b k (some w) (some x) h = h .in-second k refl
 
   pub agreed-of : (v : State) (k : ℕ) (o : Option ℕ) → Agrees p limit v (p + k) o
       → Agreed tree (v .agreed) o (confirmedIn (v .stored (p + k)))
@@ -164,9 +164,9 @@ module _ {P p : ℕ} (tree : Tree P p) (limit : ℕ) where
   agreed-of v k o (first w x l g c1 c2 c3 c4) = absurd (omega arith)
   agreed-of v k o (second w x l g c3 c5 c6) = rw g c5
 
-  tot-le : (b : PhaseBoard) (a : ℕ) (n : State) → a < P → NodeOk b a n → n .tallies ≡ b .nodes a .tallies
+  agreed-low : (b : PhaseBoard) (a : ℕ) (n : State) → a < P → NodeOk b a n → n .tallies ≡ b .nodes a .tallies
       → p ≤ n .step → n .agreed ≤ totalTaken P (world b)
-  tot-le b a n h ok e l =
+  agreed-low b a n h ok e l =
       let q = rw (tree .low-top a h, tree .size-top a h) at (own-most b a n h ok e takenAll tt p (omega arith)) in
       omega (arith, ok .agreed-is l)
 
@@ -178,14 +178,14 @@ module _ {P p : ℕ} (tree : Tree P p) (limit : ℕ) where
   second-ok b a n h ok e r bu k l m ag =
       rw (second-own (n .tallies) (λ i. n .stored (p + i)) k) at
       (second-sum-ok tree (world b) a (n .tallies sentAll) (n .agreed)
-      (λ i. confirmedIn (n .stored (p + i))) h (ok .count-is) (tot-le b a n h ok e m) r bu
-      (λ j q. stored2-of b j (tree .awaited j a) (n .stored (p + j))
+      (λ i. confirmedIn (n .stored (p + i))) h (ok .count-is) (agreed-low b a n h ok e m) r bu
+      (λ j q. second-stored-of b j (tree .awaited j a) (n .stored (p + j))
       (rw (dim-second p j) at (ok .stored-ok (p + j) (omega arith)))) k l ag)
 
   pub frame-ok : (b : PhaseBoard) (a : ℕ) → a < P → NodeOk b a (b .nodes a)
       → totalTaken P (world b) ≤ length (b .senders) → b .nodes a .busy ≡ false
       → (s : ℕ) → s < p + p → s ≤ b .nodes a .step → FrameOk b s a (frameOf p (b .nodes a) s)
-  frame-ok b a h ok r bu s l m = record { in1 = low; in2 = high }
+  frame-ok b a h ok r bu s l m = record { in-first = low; in-second = high }
     where
       v : State
       v = b .nodes a
@@ -194,8 +194,8 @@ module _ {P p : ℕ} (tree : Tree P p) (limit : ℕ) where
       low q =
           rw (frame-first p v s q) (record {
             le = λ f u. own-most b a v h ok refl f u s (omega arith);
-            sum-t = linear b a v ok s (omega arith) .0;
-            sum-s = linear b a v ok s (omega arith) .1;
+            taken-total = linear b a v ok s (omega arith) .0;
+            sent-total = linear b a v ok s (omega arith) .1;
           })
 
       high : (k : ℕ) → s ≡ p + k → Claimed P (world b) (tree .low k a) (tree .size k a) (frameOf p v s takenAll)

@@ -34,8 +34,8 @@ module _ {P p : ℕ} (tree : Tree P p) (limit : ℕ) where
           stored-ok = λ s l. tt;
           agreed-is = λ q. absurd (omega arith);
           agrees = λ s l. absurd (omega arith);
-          sum-t = sym (sum-zero 0 p);
-          sum-s = sym (sum-zero 0 p);
+          taken-total = sym (sum-zero 0 p);
+          sent-total = sym (sum-zero 0 p);
           count-is = refl;
           step-le = zero-le;
         };
@@ -44,8 +44,8 @@ module _ {P p : ℕ} (tree : Tree P p) (limit : ℕ) where
         covers = omega (arith, sum-zero 0 P);
         balance = λ q. omega (arith, sum-zero 0 P);
         pairs = λ q y z. omega arith;
-        sent-pre = λ y h k l. sum-zero (tree .low k y) (tree .size k y) ∙ sym (sum-zero 0 k);
-        taken-pre = λ z h k l. sum-zero (tree .low k z) (tree .size k z) ∙ sym (sum-zero 0 k);
+        sent-shells = λ y h k l. sum-zero (tree .low k y) (tree .size k y) ∙ sym (sum-zero 0 k);
+        taken-shells = λ z h k l. sum-zero (tree .low k z) (tree .size k z) ∙ sym (sum-zero 0 k);
         small = zero-le;
         busy-start = λ a q. (refl, refl);
         quiet = λ a h l. absurd (omega arith);

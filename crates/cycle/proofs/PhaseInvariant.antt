@@ -30,9 +30,9 @@ module _ {P p : ℕ} (tree : Tree P p) (limit : ℕ) where
     pub balance : b .lossy ≡ false → totalTaken P (world b) + messages (b .items) ≡ length (b .senders)
     pub pairs : b .lossy ≡ false → (y z : ℕ) → b .sentBetween y z ≡ b .takenBetween y z + messages-on y z (b .items)
     -- the tallies by shell are what was sent to and taken from each node of the shell
-    pub sent-pre : (y : ℕ) → y < P → (k : ℕ) → k ≤ p
+    pub sent-shells : (y : ℕ) → y < P → (k : ℕ) → k ≤ p
         → runSum tree (b .sentBetween y) k y ≡ sum (λ j. b .nodes y .tallies (sentTo j)) 0 k
-    pub taken-pre : (z : ℕ) → z < P → (k : ℕ) → k ≤ p
+    pub taken-shells : (z : ℕ) → z < P → (k : ℕ) → k ≤ p
         → runSum tree (λ y. b .takenBetween y z) k z ≡ sum (λ j. b .nodes z .tallies (takenFrom j)) 0 k
     pub small : length (b .senders) ≤ limit
     pub busy-start : BusyAtStart tree b
@@ -51,20 +51,20 @@ module _ {P p : ℕ} (tree : Tree P p) (limit : ℕ) where
       → (s w : ℕ) (x : Entries) → FrameOk tree limit b s w x → FrameOk tree limit b′ s w x
   frame-keep b b′ e g r s w x h =
       record {
-        in1 = λ l. record {
+        in-first = λ l. record {
           le =
               λ f v. omega (
                 arith,
-                h .in1 l .le f v,
+                h .in-first l .le f v,
                 sum-le (λ y. b .nodes y .tallies f)
                     (λ y. b′ .nodes y .tallies f) (tree .low s w) (tree .size s w) (λ y i j. g y f),
               );
-          sum-t = h .in1 l .sum-t;
-          sum-s = h .in1 l .sum-s;
+          taken-total = h .in-first l .taken-total;
+          sent-total = h .in-first l .sent-total;
         };
-        in2 =
+        in-second =
             λ k q. claimed-keep P (world b) (world b′) (tree .low k w) (tree .size k w) (x takenAll) (x sentAll) r e
-            (h .in2 k q);
+            (h .in-second k q);
       }
 
   pub kept-keep : (b b′ : PhaseBoard) → Growth P (world b) (world b′)
@@ -101,8 +101,8 @@ module _ {P p : ℕ} (tree : Tree P p) (limit : ℕ) where
         stored-ok = λ s l. kept-keep b b′ e g r s (tree .awaited (dimOf p s) a) (v .stored s) (h .stored-ok s l);
         agreed-is = h .agreed-is;
         agrees = h .agrees;
-        sum-t = h .sum-t;
-        sum-s = h .sum-s;
+        taken-total = h .taken-total;
+        sent-total = h .sent-total;
         count-is = h .count-is ∙ sym c;
         step-le = h .step-le;
       }
@@ -135,8 +135,9 @@ module _ {P p : ℕ} (tree : Tree P p) (limit : ℕ) where
     pub pairs : b .lossy ≡ false → (y z : ℕ) → sentBetween′ y z ≡ takenBetween′ y z + messages-on y z is
     pub rows : (y : ℕ) → y ≢ a → (z : ℕ) → sentBetween′ y z ≡ b .sentBetween y z
     pub columns : (z : ℕ) → z ≢ a → (y : ℕ) → takenBetween′ y z ≡ b .takenBetween y z
-    pub sent-pre : (k : ℕ) → k ≤ p → runSum tree (sentBetween′ a) k a ≡ sum (λ j. v .tallies (sentTo j)) 0 k
-    pub taken-pre : (k : ℕ) → k ≤ p → runSum tree (λ y. takenBetween′ y a) k a ≡ sum (λ j. v .tallies (takenFrom j)) 0 k
+    pub sent-shells : (k : ℕ) → k ≤ p → runSum tree (sentBetween′ a) k a ≡ sum (λ j. v .tallies (sentTo j)) 0 k
+    pub taken-shells : (k : ℕ) → k ≤ p
+        → runSum tree (λ y. takenBetween′ y a) k a ≡ sum (λ j. v .tallies (takenFrom j)) 0 k
     pub small : length log′ ≤ limit
     pub busy-start : v .busy ≡ true → (v .step ≡ 0) × (v .flag ≡ true)
     pub quiet : p + p ≤ v .step → Quiet log′ (totalTaken P (world (changed b a v is log′ sentBetween′ takenBetween′))) P
@@ -162,17 +163,18 @@ module _ {P p : ℕ} (tree : Tree P p) (limit : ℕ) where
         covers = g .covers;
         balance = g .balance;
         pairs = g .pairs;
-        sent-pre =
+        sent-shells =
             update-all (λ y u. y < P → (k : ℕ) → k ≤ p
-            → runSum tree (sentBetween′ y) k y ≡ sum (λ j. u .tallies (sentTo j)) 0 k) (b .nodes) a v (λ h. g .sent-pre)
+            → runSum tree (sentBetween′ y) k y ≡ sum (λ j. u .tallies (sentTo j)) 0 k) (b .nodes) a v
+            (λ h. g .sent-shells)
             (λ y n h k l. sum-ext (sentBetween′ y) (b .sentBetween y) (tree .low k y) (tree .size k y)
-            (λ z i j. g .rows y n z) ∙ i .sent-pre y h k l);
-        taken-pre =
+            (λ z i j. g .rows y n z) ∙ i .sent-shells y h k l);
+        taken-shells =
             update-all (λ z u. z < P → (k : ℕ) → k ≤ p
             → runSum tree (λ y. takenBetween′ y z) k z ≡ sum (λ j. u .tallies (takenFrom j)) 0 k) (b .nodes) a v
-            (λ h. g .taken-pre)
+            (λ h. g .taken-shells)
             (λ z n h k l. sum-ext (λ y. takenBetween′ y z) (λ y. b .takenBetween y z) (tree .low k z) (tree .size k z)
-            (λ y i j. g .columns z n y) ∙ i .taken-pre z h k l);
+            (λ y i j. g .columns z n y) ∙ i .taken-shells z h k l);
         small = g .small;
         busy-start =
             update-all (λ y u. u .busy ≡ true → (u .step ≡ 0) × (u .flag ≡ true)) (b .nodes) a v (g .busy-start)

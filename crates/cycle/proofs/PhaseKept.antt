@@ -86,7 +86,7 @@ module _ {P p : ℕ} (tree : Tree P p) (limit : ℕ) where
       → PhaseInvariant tree limit (placed b a (atStep (b .nodes a) (suc (b .nodes a .step)) true T) (b .items))
   moves-keep b i a T h bu l ag t t1 la =
       local tree limit b i a (atStep v (suc (v .step)) true T) (b .items) h refl (λ q. q)
-      (placed-ok tree limit b a v (suc (v .step)) true T ok (omega arith) (λ q. tot-now q (decLe p (v .step))) ags
+      (placed-ok tree limit b a v (suc (v .step)) true T ok (omega arith) (λ q. agreed-now q (decLe p (v .step))) ags
       (λ i k q. t (omega arith)))
       (i .items-ok) refl (λ y z. refl) (λ q. not-busy tree limit v bu q)
       (λ q. subst (λ T. Quiet (b .senders) (totalTaken P (world b)) P (world b .done) T) (sym (t (omega arith)))
@@ -98,9 +98,9 @@ module _ {P p : ℕ} (tree : Tree P p) (limit : ℕ) where
       ok : NodeOk tree limit b a v
       ok = i .nodes-ok a h
 
-      tot-now : p ≤ suc (v .step) → Dec (p ≤ v .step) → T ≡ ownSums (v .tallies) (v .stored) p takenAll
-      tot-now q (yes d) = t d ∙ ok .agreed-is d
-      tot-now q (no d) = t1 (omega arith)
+      agreed-now : p ≤ suc (v .step) → Dec (p ≤ v .step) → T ≡ ownSums (v .tallies) (v .stored) p takenAll
+      agreed-now q (yes d) = t d ∙ ok .agreed-is d
+      agreed-now q (no d) = t1 (omega arith)
 
       ags : (s : ℕ) → s < suc (v .step) → Agrees p limit v s (tree .awaited (dimOf p s) a)
       ags s q = go (ℕ-discrete s (v .step))
@@ -157,8 +157,8 @@ module _ {P p : ℕ} (tree : Tree P p) (limit : ℕ) where
             covers = omega (arith, i .covers, ap messages e, messages-append xs (t ∷ ys), messages-append xs ys);
             balance = λ q. never q;
             pairs = λ q. never q;
-            sent-pre = i .sent-pre;
-            taken-pre = i .taken-pre;
+            sent-shells = i .sent-shells;
+            taken-shells = i .taken-shells;
             small = i .small;
             busy-start = i .busy-start;
             quiet = i .quiet;

@@ -44,8 +44,8 @@ module _ {P p : ℕ} (tree : Tree P p) (limit : ℕ) where
         pairs = λ ll y z. omega (arith, i .pairs ll y z, j2 y z);
         rows = λ y n z. refl;
         columns = λ z n y. refl;
-        sent-pre = λ k l. rw te (i .sent-pre a h k l);
-        taken-pre = λ k l. rw te (i .taken-pre a h k l);
+        sent-shells = λ k l. rw te (i .sent-shells a h k l);
+        taken-shells = λ k l. rw te (i .taken-shells a h k l);
         small = i .small;
         busy-start = b0;
         quiet = λ l. quiet-keep tree limit (world b) (world b′) (v .agreed) ev (qu l);
@@ -105,8 +105,8 @@ module _ {P p : ℕ} (tree : Tree P p) (limit : ℕ) where
         agrees =
             λ s l. agree-same p limit (b .nodes a) v s (tree .awaited (dimOf p s) a) refl (λ i q. refl)
             (λ q. refl) (ok .agrees s l);
-        sum-t = ok .sum-t;
-        sum-s = ok .sum-s;
+        taken-total = ok .taken-total;
+        sent-total = ok .sent-total;
         count-is = ok .count-is;
         step-le = ok .step-le;
       })
@@ -130,8 +130,8 @@ module _ {P p : ℕ} (tree : Tree P p) (limit : ℕ) where
         agrees =
             λ i k. agree-same p limit v (atStep v s f T) i (tree .awaited (dimOf p i) a) refl (λ j q. refl)
             (λ q. tt′ i k q) (ag i k);
-        sum-t = ok .sum-t;
-        sum-s = ok .sum-s;
+        taken-total = ok .taken-total;
+        sent-total = ok .sent-total;
         count-is = ok .count-is;
         step-le = l;
       }
@@ -175,8 +175,8 @@ module _ {P p : ℕ} (tree : Tree P p) (limit : ℕ) where
             λ i k. agree-same p limit v (atStep (withStored v s₀ x) s f T) i (tree .awaited (dimOf p i) c) refl
             (λ j q. update-other (v .stored) s₀ (some x) j (omega arith))
             (λ q. t (omega arith)) (ok .agrees i (omega arith));
-        sum-t = ok .sum-t;
-        sum-s = ok .sum-s;
+        taken-total = ok .taken-total;
+        sent-total = ok .sent-total;
         count-is = ok .count-is;
         step-le = omega arith;
       }

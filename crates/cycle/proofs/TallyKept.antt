@@ -73,11 +73,11 @@ module _ {P p : ℕ} (tree : Tree P p) (limit : ℕ) where
                   (tree .awaited (dimOf p s) a) (v .stored s) (ok .stored-ok s l);
               agreed-is = λ q. absurd (omega (arith, z .0));
               agrees = λ s l. absurd (omega (arith, z .0));
-              sum-t = ok .sum-t;
-              sum-s =
+              taken-total = ok .taken-total;
+              sent-total =
                   omega (
                     arith,
-                    ok .sum-s,
+                    ok .sent-total,
                     sum-update
                         (λ i. b .nodes a .tallies (sentTo i)) j (suc (b .nodes a .tallies (sentTo j))) 0 p zero-le
                         (omega arith),
@@ -117,10 +117,10 @@ module _ {P p : ℕ} (tree : Tree P p) (limit : ℕ) where
             );
         rows = λ y n z. more-other (b .sentBetween) a c y z (inl n);
         columns = λ z n y. refl;
-        sent-pre =
+        sent-shells =
             λ k l. rw (update-same (b .sentBetween) a (update (b .sentBetween a) c (suc (b .sentBetween a c))))
-            (pre-up (b .sentBetween a) (λ i. b .nodes a .tallies (sentTo i)) k a c j l sl (i .sent-pre a h k l));
-        taken-pre = i .taken-pre a h;
+            (pre-up (b .sentBetween a) (λ i. b .nodes a .tallies (sentTo i)) k a c j l sl (i .sent-shells a h k l));
+        taken-shells = i .taken-shells a h;
         small = omega (arith, length-snoc (b .senders) a);
         busy-start = λ q. z;
         quiet = λ q. absurd (omega (arith, z .0));
@@ -195,15 +195,15 @@ module _ {P p : ℕ} (tree : Tree P p) (limit : ℕ) where
                   (tree .awaited (dimOf p s) c) (v .stored s) (ok .stored-ok s l);
               agreed-is = λ q. absurd (omega arith);
               agrees = λ s l. absurd (omega arith);
-              sum-t =
+              taken-total =
                   omega (
                     arith,
-                    ok .sum-t,
+                    ok .taken-total,
                     sum-update
                         (λ i. b .nodes c .tallies (takenFrom i)) j (suc (b .nodes c .tallies (takenFrom j))) 0 p zero-le
                         (omega arith),
                   );
-              sum-s = ok .sum-s;
+              sent-total = ok .sent-total;
               count-is = ok .count-is;
               step-le = zero-le;
             };
@@ -217,13 +217,13 @@ module _ {P p : ℕ} (tree : Tree P p) (limit : ℕ) where
         pairs = λ ll y z. omega (arith, more-hit (b .takenBetween) a c y z, one-on y z, i .pairs ll y z);
         rows = λ y n z. refl;
         columns = λ z n y. more-other (b .takenBetween) a c y z (inr n);
-        sent-pre = i .sent-pre c h;
-        taken-pre =
+        sent-shells = i .sent-shells c h;
+        taken-shells =
             λ k l. sum-ext (λ y. oneMore (b .takenBetween) a c y c)
             (update (λ y. b .takenBetween y c) a (suc (b .takenBetween a c))) (tree .low k c) (tree .size k c)
             (λ y m n. more-column (b .takenBetween) a c y)
             ∙ pre-up (λ y. b .takenBetween y c)
-            (λ i. b .nodes c .tallies (takenFrom i)) k c a j l sl (i .taken-pre c h k l);
+            (λ i. b .nodes c .tallies (takenFrom i)) k c a j l sl (i .taken-shells c h k l);
         small = i .small;
         busy-start = λ q. (refl, refl);
         quiet = λ q. absurd (omega arith);

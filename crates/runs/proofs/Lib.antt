@@ -1,9 +1,11 @@
 -- Worked runs.
 pub mod Examples
--- What the board has to do with the ledger of the proof: a state seen as a node of the ledger, items in step, untaken messages.
+-- What the board has to do with the ledger of the proof: states, items in step, untaken messages.
 pub mod Tools
 pub mod Setting
+pub mod PhaseByte
 pub mod View
+pub mod Changes
 pub mod Pairs
 pub mod Marks
 pub mod Sim
@@ -11,7 +13,12 @@ pub mod Emit
 -- Every event of a board is a step of the ledger.
 pub mod Played
 pub mod Sending
+pub mod Caller
+pub mod Leaving
 pub mod Calling
+pub mod Arriving
+pub mod Taking
+pub mod Storing
 pub mod Delivering
 pub mod Steps
 -- The first half of demand 3; both halves for one node.

@@ -14,7 +14,7 @@ use Rattle.base.proofs.Laws.{clash, choose-yes, choose-no, cases}
 use Rattle.tree.specs.Tree.{dimension}
 use Rattle.frame.specs.Frame.{frameLength}
 use Rattle.node.specs.Sums.{dims}
-use Rattle.node.specs.Agree.{isNone, agrees}
+use Rattle.node.specs.Agree.{agrees}
 use Rattle.node.specs.State.{valid}
 use Rattle.node.specs.Change.{at}
 use Rattle.node.specs.Answers.{Given, Barrier}
@@ -34,7 +34,7 @@ use Rattle.node.proofs.Ways.{NoneDue, call-sends, call-looks}
 use Rattle.runs.proofs.Pairs.{Pair, pair-all}
 use Rattle.runs.proofs.Sim.{Carried, Sim}
 use Rattle.node.proofs.Valid.{step-first, step-second}
-use Rattle.runs.proofs.Calling.{mute-of}
+use Rattle.runs.proofs.Caller.{mute-of}
 use Rattle.runs.proofs.Agreeing.{agrees-first, agrees-second}
 use Rattle.runs.proofs.Calm.{Calm, calm-run}
 
@@ -227,7 +227,7 @@ module _ {L : Limits} {P : ℕ} (setting : Setting L P) where
         nobody a h e =
             subst (λ n. (ledger .pages n .nodes a .flag ≡ false) ⊎ Unheard (tree setting) a
             (ledger .pages n .nodes a .step)) e
-            (mute-of setting w (s .played) a h (mute-now f3 a h (back a e)))
+            (mute-of (s .played) a h (mute-now f3 a h (back a e)))
 
         under : All (λ t. (t .to < P) × (ledger .phase u < ledger .phase (t .to)))
             (ofPhase (ledger .phase u) (ledger .items))

@@ -48,7 +48,7 @@ module _ {L : Limits} {P : ℕ} (setting : Setting L P) where
     pub played : Played w′
     pub calm : ((n : ℕ) → played .ledger .pages n .lossy ≡ play .ledger .pages n .lossy) ⊎ Mishap w e
 
-module _ {L : Limits} {P : ℕ} (setting : Setting L P) (w : Board) (play : Played setting w) where
+module _ {L : Limits} {P : ℕ} {setting : Setting L P} {w : Board} (play : Played setting w) where
   abbrev p : ℕ
   p = dimension P
 

@@ -52,11 +52,11 @@ taken-room {P} {p} tree limit S b f wh cap′ a c ha hc ne xs ys e =
     let t : sum (λ y. b .takenBetween y c) 0 P ≡ sum (λ j. b .nodes c .tallies (takenFrom j)) 0 p =
     subst (λ l. sum (λ y. b .takenBetween y c) l P ≡ sum (λ j. b .nodes c .tallies (takenFrom j)) 0 p)
     (tree .low-top c hc) (subst (λ s. sum (λ y. b .takenBetween y c) (tree .low p c) s ≡ sum
-    (λ j. b .nodes c .tallies (takenFrom j)) 0 p) (tree .size-top c hc) (f .taken-pre c hc p (omega arith))) in
+    (λ j. b .nodes c .tallies (takenFrom j)) 0 p) (tree .size-top c hc) (f .taken-shells c hc p (omega arith))) in
     omega (
       arith,
       t,
-      f .nodes-ok c hc .sum-t,
+      f .nodes-ok c hc .taken-total,
       sum-but-one (λ y. b .takenBetween y c) S P a c
           (λ y h. omega (arith, below y h, f .pairs wh y c)) ha hc ne (omega (arith, own0, f .pairs wh c c))
           (omega (arith, below a ha, f .pairs wh a c, message-on)),
@@ -67,15 +67,15 @@ taken-room {P} {p} tree limit S b f wh cap′ a c ha hc ne xs ys e =
         let t : sum (b .sentBetween y) 0 P ≡ sum (λ j. b .nodes y .tallies (sentTo j)) 0 p =
         subst (λ l. sum (b .sentBetween y) l P ≡ sum (λ j. b .nodes y .tallies (sentTo j)) 0 p) (tree .low-top y h)
         (subst (λ s. sum (b .sentBetween y) (tree .low p y) s ≡ sum (λ j. b .nodes y .tallies (sentTo j)) 0 p)
-        (tree .size-top y h) (f .sent-pre y h p (omega arith))) in
-        omega (arith, t, f .nodes-ok y h .sum-s, cap′ y h, sum-at (b .sentBetween y) P c hc)
+        (tree .size-top y h) (f .sent-shells y h p (omega arith))) in
+        omega (arith, t, f .nodes-ok y h .sent-total, cap′ y h, sum-at (b .sentBetween y) P c hc)
 
     own0 : b .sentBetween c c ≡ 0
     own0 =
         let t : sum (b .sentBetween c) c 1 ≡ 0 =
         subst (λ l. sum (b .sentBetween c) l 1 ≡ 0) (tree .low-zero c hc)
         (subst (λ s. sum (b .sentBetween c) (tree .low 0 c) s ≡ 0) (tree .size-zero c hc)
-        (f .sent-pre c hc 0 zero-le)) in
+        (f .sent-shells c hc 0 zero-le)) in
         let z : b .sentBetween c (c + 0) ≡ b .sentBetween c c = ap (b .sentBetween c) (omega arith) in
         omega arith
 

@@ -28,12 +28,13 @@ use Rattle.runs.proofs.Tools.{put-same, put-other}
 use Rattle.runs.proofs.Setting.{Setting, tree, dim-low, dim-pos}
 use Rattle.node.proofs.Ways.{SendWay, send-way, TakeWay, take-way, IdleWay, idle-way, FrameWay, frame-way, CallWay}
 use Rattle.node.proofs.Ways.{call-way}
-use Rattle.runs.proofs.View.{like-fresh}
+use Rattle.runs.proofs.Changes.{like-fresh}
 use Rattle.runs.proofs.Sim.{Sim}
 use Rattle.runs.proofs.Marks.{none-left}
+use Rattle.runs.proofs.Arriving.{arrives}
+use Rattle.runs.proofs.Taking.{message-of, not-behind, same-phase}
 use Rattle.runs.proofs.Played.{Played, Next}
-use Rattle.runs.proofs.Calling.{leave-next}
-use Rattle.runs.proofs.Delivering.{message-of, not-behind, same-phase}
+use Rattle.runs.proofs.Leaving.{leave-next}
 use Rattle.runs.proofs.Steps.{next}
 
 done-not-refused : {A : Type 0} (x : ℕ) → refused x ≡ done → A
@@ -42,9 +43,6 @@ done-not-refused x q = let z : _≡_ {A = ℕ} 0 1 = cc in absurd (omega arith)
 module _ {L : Limits} {P : ℕ} (setting : Setting L P) where
   abbrev pub p : ℕ
   p = dimension P
-
-  abbrev pub Rch : Ledger → Type 0
-  Rch = Reached (tree setting) (fieldLimit L)
 
   pub begun : Played setting (start P)
   begun =
@@ -84,7 +82,7 @@ module _ {L : Limits} {P : ℕ} (setting : Setting L P) where
   begun-calm n = refl
 
   one-more : (w : Board) → Played setting w → (e : Event) → Played setting (step L P w e)
-  one-more w q e = next setting w q e .played
+  one-more w q e = next q e .played
 
   played-on : (w : Board) → Played setting w → (es : List Event) → Played setting (after L P w es)
   played-on w q [] = q
@@ -170,9 +168,9 @@ module _ {L : Limits} {P : ℕ} (setting : Setting L P) where
         → (m .phase ≡ w .count b) × ((z : ℕ) → z < P → w .count z ≤ m .phase)
     take-phase x b m byte y old lw (TakeWay.refused n s) e = done-not-refused n e
     take-phase x b m byte y old lw (TakeWay.done v a1 a2 df cap) e =
-        let j = message-of setting w q x b m old byte lw in (
-          same-phase setting w q x b m old byte lw (j .0) (j .1) df ∙ sym (sim .counts b),
-          λ z h. omega (arith, not-behind setting w q x b m old byte lw (j .0) (j .1) z h, sim .counts z),
+        let j = message-of q (arrives w x b m old) byte lw in (
+          same-phase q (arrives w x b m old) byte lw (j .0) (j .1) df ∙ sym (sim .counts b),
+          λ z h. omega (arith, not-behind q (arrives w x b m old) byte lw (j .0) (j .1) z h, sim .counts z),
         )
 
     awoken : (x b a : ℕ) (m : Item) (n : Node) → TakeDone L P w b (w .count b) (delivers x b)
@@ -275,7 +273,7 @@ module _ {L : Limits} {P : ℕ} (setting : Setting L P) where
               sends = w .sends;
             })
         nx =
-            leave-next setting w q a h len b m g
+            leave-next q a h len b m g
             (omega (arith, ap dimension (sim .node a h .nodes), sim .node a h .low, d))
             (two (sim .node a h .pass))
 

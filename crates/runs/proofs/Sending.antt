@@ -25,13 +25,13 @@ use Rattle.cycle.proofs.Events.{stateOf, ledgerWith, pageSent, act-rest, act-se
 use Rattle.runs.proofs.Tools.{put-same, put-other}
 use Rattle.runs.proofs.Setting.{Setting, tree, dim-low, shell-ok, shell-lt}
 use Rattle.node.proofs.Ways.{SendWay, IdleWay}
-use Rattle.runs.proofs.View.{like-sent, like-idle}
+use Rattle.runs.proofs.Changes.{like-sent, like-idle}
 use Rattle.runs.proofs.Pairs.{pair-append}
 use Rattle.runs.proofs.Sim.{window-same, awaitedIn, Holds, Carried, Sim, acted, stored-same}
 use Rattle.runs.proofs.Marks.{Marks, marks-send}
 use Rattle.runs.proofs.Played.{Played, Next, lossy-same, held, turns-still, hold, dims-is}
 
-module _ {L : Limits} {P : ℕ} (setting : Setting L P) (w : Board) (play : Played setting w) where
+module _ {L : Limits} {P : ℕ} {setting : Setting L P} {w : Board} (play : Played setting w) where
   abbrev p : ℕ
   p = dimension P
 
@@ -51,10 +51,10 @@ module _ {L : Limits} {P : ℕ} (setting : Setting L P) (w : Board) (play : Play
 
   pub idle-next : (a : ℕ) → a < P → (q : Given Outcome) → IdleWay L (w .nodes a) q
       → Next setting w play (idles a) (afterIdle (gave w a (q .node)) a (q .answer))
-  idle-next a h q (IdleWay.refused x s) = held setting w play (idles a) a
+  idle-next a h q (IdleWay.refused x s) = held play (idles a) a
   idle-next a h q (IdleWay.done v) =
-      let o = hold setting w play a h in
-      turns-still setting w play (idles a) a h (withTallies (stateOf ledger a) false (stateOf ledger a .tallies))
+      let o = hold play a h in
+      turns-still play (idles a) a h (withTallies (stateOf ledger a) false (stateOf ledger a .tallies))
       (withBusy (w .nodes a) false) refl refl (act-rest reached a h)
       (record {
         nodes = o .nodes;
@@ -63,7 +63,7 @@ module _ {L : Limits} {P : ℕ} (setting : Setting L P) (w : Board) (play : Play
         pass = o .pass;
         low = o .low;
         sized = o .sized;
-        like = like-idle p (w .nodes a) (stateOf ledger a) (dims-is setting w play a h) (o .like);
+        like = like-idle p (w .nodes a) (stateOf ledger a) (dims-is play a h) (o .like);
       })
       (put (w .busy) a false) (sym (put-same (w .busy) a false)) (λ y z. put-other (w .busy) a false y z)
 
@@ -85,7 +85,7 @@ module _ {L : Limits} {P : ℕ} (setting : Setting L P) (w : Board) (play : Play
 
   pub send-next : (a b : ℕ) → a < P → (q : Given Outcome) → SendWay L (w .nodes a) b q
       → Next setting w play (sends a b) (afterSend (gave w a (q .node)) a b (q .answer))
-  send-next a b h q (SendWay.refused x s) = held setting w play (sends a b) a
+  send-next a b h q (SendWay.refused x s) = held play (sends a b) a
   send-next a b h q (SendWay.done va b1 b2 bu cap) =
       record {
         played = record {
@@ -125,7 +125,7 @@ module _ {L : Limits} {P : ℕ} (setting : Setting L P) (w : Board) (play : Play
       n = w .nodes a
 
       o : Holds setting a (w .count a) (w .nodes a) (stateOf ledger a)
-      o = hold setting w play a h
+      o = hold play a h
 
       j : ℕ
       j = distance (w .nodes a .nodes) (w .nodes a .number) b
@@ -161,13 +161,13 @@ module _ {L : Limits} {P : ℕ} (setting : Setting L P) (w : Board) (play : Play
           }
 
       hb : b < P
-      hb = omega (arith, b1, hold setting w play a h .nodes)
+      hb = omega (arith, b1, hold play a h .nodes)
 
       ne : a ≢ b
-      ne q = b2 (sym q ∙ sym (hold setting w play a h .number))
+      ne q = b2 (sym q ∙ sym (hold play a h .number))
 
       j-is : distance P a b ≡ distance (w .nodes a .nodes) (w .nodes a .number) b
-      j-is = rw (hold setting w play a h .nodes, hold setting w play a h .number) refl
+      j-is = rw (hold play a h .nodes, hold play a h .number) refl
 
       shell : Shell (tree setting) a b (distance (w .nodes a .nodes) (w .nodes a .number) b)
       shell = subst (Shell (tree setting) a b) j-is (shell-ok setting a b h hb ne)
@@ -176,7 +176,7 @@ module _ {L : Limits} {P : ℕ} (setting : Setting L P) (w : Board) (play : Play
       jp = omega (arith, j-is, shell-lt setting a b h hb ne)
 
       less : stateOf ledger a .tallies sentAll < L .sends
-      less = omega (arith, cap, hold setting w play a h .like .tallies sentAll tt)
+      less = omega (arith, cap, hold play a h .like .tallies sentAll tt)
 
       ok′ : Holds setting a (w .count a) n′ v
       ok′ =
@@ -195,6 +195,6 @@ module _ {L : Limits} {P : ℕ} (setting : Setting L P) (w : Board) (play : Play
                   second = o .sized .second;
                 };
             like =
-                like-sent p n (stateOf ledger a) (dims-is setting w play a h) (o .like) j jp
+                like-sent p n (stateOf ledger a) (dims-is play a h) (o .like) j jp
                 (omega (arith, o .sized .sent, jp, dim-low setting)) bu;
           }

@@ -7,8 +7,7 @@ use mathlib.Core.List.{List}
 use Prim.Native.Nat.{ℕ, _+_, _%_, _≤_, _<_}
 use native.Mathlib.Decide.{ℕ-discrete, decLt}
 use native.Mathlib.Omega.{arith}
-use lib.ListN.{length}
-use Rattle.base.specs.Limits.{Limits, width}
+use Rattle.base.specs.Limits.{Limits}
 use Rattle.tree.specs.Tree.{dimension}
 use Rattle.frame.specs.Frame.{fieldsOf}
 use Rattle.frame.specs.declared.Frame.{Frame}

@@ -28,7 +28,7 @@ use Rattle.runs.proofs.Sending.{idle-next, send-next}
 use Rattle.runs.proofs.Calling.{call-next}
 use Rattle.runs.proofs.Delivering.{oldest-next}
 
-module _ {L : Limits} {P : ℕ} (setting : Setting L P) (w : Board) (play : Played setting w) where
+module _ {L : Limits} {P : ℕ} {setting : Setting L P} {w : Board} (play : Played setting w) where
   abbrev p : ℕ
   p = dimension P
 
@@ -47,7 +47,7 @@ module _ {L : Limits} {P : ℕ} (setting : Setting L P) (w : Board) (play : Play
   -- ---- a loss
 
   lose-next : (j : ℕ) (l : List Item) → Lost (w .items) l → Next setting w play (loses j) (carries w l)
-  lose-next j l Lost.nothing = stay setting w play (loses j)
+  lose-next j l Lost.nothing = stay play (loses j)
   lose-next j l (Lost.one pre post m e) =
       record {
         played = record {
@@ -95,15 +95,15 @@ module _ {L : Limits} {P : ℕ} (setting : Setting L P) (w : Board) (play : Play
   unfolding step
   next (sends a b) =
       cases (Next setting w play (sends a b)) (ltb a P) _ _
-      (λ q. send-next setting w play a b (ltb-true a P q) (send L (w .nodes a) b) (send-way L (w .nodes a) b))
-      (λ q. stay setting w play (sends a b))
+      (λ q. send-next play a b (ltb-true a P q) (send L (w .nodes a) b) (send-way L (w .nodes a) b))
+      (λ q. stay play (sends a b))
   next (idles a) =
       cases (Next setting w play (idles a)) (ltb a P) _ _
-      (λ q. idle-next setting w play a (ltb-true a P q) (idle L (w .nodes a)) (idle-way L (w .nodes a)))
-      (λ q. stay setting w play (idles a))
+      (λ q. idle-next play a (ltb-true a P q) (idle L (w .nodes a)) (idle-way L (w .nodes a)))
+      (λ q. stay play (idles a))
   next (calls a len) =
       cases (Next setting w play (calls a len)) (ltb a P) _ _
-      (λ q. call-next setting w play a (ltb-true a P q) len (barrier L (w .nodes a) len) (call-way L (w .nodes a) len))
-      (λ q. stay setting w play (calls a len))
-  next (delivers a b) = oldest-next setting w play a b (oldest a b (w .items)) refl
+      (λ q. call-next play a (ltb-true a P q) len (barrier L (w .nodes a) len) (call-way L (w .nodes a) len))
+      (λ q. stay play (calls a len))
+  next (delivers a b) = oldest-next play a b (oldest a b (w .items)) refl
   next (loses j) = lose-next j (lessOne j (w .items)) (lost j (w .items))
