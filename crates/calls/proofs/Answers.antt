@@ -7,16 +7,18 @@ use Prim.Native.Nat.{ℕ, _≤_, _<_}
 use lib.Dec.{ltb, leb, eqb}
 use borrow.Author.Tests.{le-leb, lt-leb, eq-eqb, ne-eqb}
 use Rattle.base.specs.Limits.{Limits, takenLimit}
+use Rattle.base.specs.Refusal.{Refusal, when, inOrder}
+use Rattle.base.proofs.Laws.{choose-yes, choose-no}
 use Rattle.tree.specs.Tree.{distance}
 use Rattle.tree.specs.Lookups.{badBoard}
 use Rattle.frame.specs.Timing.{timing}
 use Rattle.frame.specs.declared.Timing.{Timing}
-use Rattle.frame.specs.declared.Timing.the-variants.{Now, Early, Late, Foreign}
+use Rattle.frame.specs.declared.Timing.the-variants.{Now}
 use Rattle.node.specs.Sums.{allSent, allTaken, tally}
 use Rattle.node.specs.State.{valid}
 use Rattle.node.specs.Change.{withBusy, freshIn, noNode}
-use Rattle.node.specs.Answers.{give, done}
-use Rattle.node.specs.Calls.{refusal, fresh, oneSent, send, woken, take, idle}
+use Rattle.node.specs.Answers.{Given, give, Outcome, done}
+use Rattle.node.specs.Calls.{refusal, fresh, oneSent, send, isEarly, isForeignWork, woken, take, idle}
 use Rattle.node.specs.declared.Node.{Node}
 
 module _ (L : Limits) (P number : ℕ) where
@@ -73,6 +75,16 @@ module _ (L : Limits) (n : Node) (b : ℕ) where
           send-done t = rw (v, lt-leb (n .nodes) b h, ne-eqb b (n .number) e, w, lt-leb (L .sends) (tally n allSent) t)
 
 module _ (L : Limits) (n : Node) (a phase : ℕ) where
+  -- what is left to say of a message with this timing
+  abbrev pub byTime : Timing → Given Outcome
+  byTime t =
+      inOrder (refusal n)
+      (when (isEarly t) Refusal.early
+      ∷ when (isForeignWork t) Refusal.foreign
+      ∷ when (leb (takenLimit L) (tally n allTaken)) Refusal.takenFull
+      ∷ [])
+      (give (woken n (distance (n .nodes) (n .number) a)) done)
+
   pub take-state : valid L n ≡ false → take L n a phase ≡ refusal n 13
   unfolding take
   take-state v = rw v
@@ -88,26 +100,14 @@ module _ (L : Limits) (n : Node) (a phase : ℕ) where
       take-self e = rw (v, lt-leb (n .nodes) a h, eq-eqb a (n .number) e)
 
       module _ (e : a ≢ n .number) where
-        pub take-early : timing phase (n .phase) ≡ Early → take L n a phase ≡ refusal n 7
+        pub take-timed : (t : Timing) → timing phase (n .phase) ≡ t → take L n a phase ≡ byTime t
         unfolding take
-        take-early t = rw (v, lt-leb (n .nodes) a h, ne-eqb a (n .number) e, t)
+        take-timed t z = rw (v, lt-leb (n .nodes) a h, ne-eqb a (n .number) e, z)
 
-        pub take-late : timing phase (n .phase) ≡ Late → take L n a phase ≡ refusal n 8
-        unfolding take
-        take-late t = rw (v, lt-leb (n .nodes) a h, ne-eqb a (n .number) e, t)
-
-        pub take-foreign : timing phase (n .phase) ≡ Foreign → take L n a phase ≡ refusal n 8
-        unfolding take
-        take-foreign t = rw (v, lt-leb (n .nodes) a h, ne-eqb a (n .number) e, t)
-
-        module _ (t : timing phase (n .phase) ≡ Now) where
+        module _ (z : timing phase (n .phase) ≡ Now) where
           pub take-full : takenLimit L ≤ tally n allTaken → take L n a phase ≡ refusal n 6
-          unfolding take
-          take-full f =
-              rw (v, lt-leb (n .nodes) a h, ne-eqb a (n .number) e, t, le-leb (takenLimit L) (tally n allTaken) f)
+          take-full f = take-timed Now z ∙ choose-yes _ _ (le-leb (takenLimit L) (tally n allTaken) f)
 
           pub take-done : tally n allTaken < takenLimit L
               → take L n a phase ≡ give (woken n (distance (n .nodes) (n .number) a)) done
-          unfolding take
-          take-done f =
-              rw (v, lt-leb (n .nodes) a h, ne-eqb a (n .number) e, t, lt-leb (takenLimit L) (tally n allTaken) f)
+          take-done f = take-timed Now z ∙ choose-no _ _ (lt-leb (takenLimit L) (tally n allTaken) f)

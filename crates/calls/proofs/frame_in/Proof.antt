@@ -1,160 +1,128 @@
+-- `frame_in` answers `frameIn`.
 use borrow.Author.Needs.{needs}
+use borrow.Author.Tests.{not-true, not-false}
+use native.Mathlib.Omega.{arith}
+use mathlib.Core.Path.{_≡_, sym, ap, _∙_}
+use mathlib.Core.Bool.{true, false}
+use mathlib.Core.List.{List}
+use Prim.Native.Nat.{ℕ, _≤_, _<_}
+use denote.Ref.{now}
+use Rattle.base.specs.Limits.{base}
+use Rattle.tree.specs.Tree.{awaited}
+use Rattle.frame.specs.declared.Frame.{Frame}
+use Rattle.frame.specs.declared.Timing.{Timing}
+use Rattle.frame.specs.declared.Timing.the-variants.{Now, Early, Late, Foreign}
+use Rattle.frame.proofs.RoundTripAccepted.{Read}
+use Rattle.node.specs.Answers.{give, done}
+use Rattle.node.specs.Calls.{frameIn, isAwaited, byTiming}
+use Rattle.node.specs.declared.Node.{Node}
+use Rattle.calls.proofs.Known.{Known, failed, passed, board-known, few-dims}
+use Rattle.calls.proofs.Intake.{heard, frame-state, frame-refused, frame-read, frame-heard}
+use Rattle.calls.proofs.Intake.{heard-self, heard-partner, heard-timed}
 use Rattle.calls.proofs.frame_in.Statement.{statement}
 use Rattle.calls.proofs.frame_in.Tie as tie
-use Rattle.calls.proofs.frame_in.Reads as reads
-use Rattle.calls.proofs.frame_in.Lts as lts
-use Rattle.calls.proofs.is_awaited.Reads as is-awaited-reads
-use Rattle.calls.proofs.refuse.Reads as refuse-reads
-use Rattle.calls.proofs.store.Reads as store-reads
-use Rattle.calls.proofs.survey_of.Reads as survey-of-reads
-use Rattle.frame.proofs.read.Reads as read-reads
-use Rattle.frame.proofs.timing_of.Reads as timing-of-reads
 
--- src/lib.rt:323:9
-survey-of-requires : tie.Need-survey-of-requires
-survey-of-requires c κs = search needs
-
--- src/lib.rt:325:9
-refuse-requires : tie.Need-refuse-requires
-refuse-requires c κs = search needs
-
--- src/lib.rt:325:9
 returns : tie.Need-returns
-returns c = ?
+returns c =
+    let s = c .before .before .before in
+    c .refuse .ensures
+    ∙ sym (frame-state base _ _ (failed base _ _ (s .survey-of .ensures) (not-true _ (c .before .if1 .taken))))
 
--- src/lib.rt:327:17
-cast-nodes : tie.Need-cast-nodes
-cast-nodes c = search needs
+-- what is handed, and the frame that was read
+abbrev node : tie.After-read → Node
+node c = c .before .before .before .before .before .before .before .args .n
 
--- src/lib.rt:328:18
-cast-number : tie.Need-cast-number
-cast-number c = search needs
+abbrev bytes : tie.After-read → List ℕ
+bytes c = now (c .before .before .before .before .before .before .before .args .bytes)
 
--- src/lib.rt:329:9
-read-requires : tie.Need-read-requires
-read-requires c κs = search needs
+abbrev got : tie.After-read → Frame
+got c = c .read .result .frame
 
--- src/lib.rt:332:29
-enum-known-answer : tie.Need-enum-known-answer
-enum-known-answer c = search needs
+known : (c : tie.After-read) → Known base (node c) (c .before .before .before .before .before .survey-of .result)
+known c =
+    let e = c .before .before .before in passed base _ _ (e .before .before .survey-of .ensures) (not-false _ (e .if1 .left))
 
--- src/lib.rt:333:9
-refuse-requires-2 : tie.Need-refuse-requires-2
-refuse-requires-2 c κs = search needs
-
--- src/lib.rt:333:9
 returns-2 : tie.Need-returns-2
-returns-2 c = ?
+returns-2 c =
+    let a = c .before .before in
+    let r = a .before .before .before in
+    c .refuse2 .ensures ∙ sym (frame-refused base _ _ (known r .valid) _ (r .read .ensures) _ (a .answer .given .1))
 
-enum-told : tie.Need-enum-told
-enum-told c = search needs
+read : (c : tie.After-enum-told)
+    → let r = c .before .before .before in
+    Read base (node r .nodes) (bytes r) (got r)
+read c =
+    let r = c .before .before .before in
+    frame-read base _ _ (known r .valid) _ (r .read .ensures) (c .enum-told .given .1)
 
--- src/lib.rt:336:9
-refuse-requires-3 : tie.Need-refuse-requires-3
-refuse-requires-3 c κs = search needs
+here : (c : tie.After-enum-told)
+    → let r = c .before .before .before in
+    frameIn base (node r) (bytes r) ≡ heard (node r) (got r)
+here c =
+    let r = c .before .before .before in
+    frame-heard base _ _ (known r .valid) _ (r .read .ensures) (c .enum-told .given .1)
 
--- src/lib.rt:336:9
 returns-3 : tie.Need-returns-3
-returns-3 c = ?
+returns-3 c =
+    let d = c .before .before .before .before in
+    c .refuse3 .ensures ∙ sym (here d ∙ heard-self _ _ (c .before .if2 .taken))
 
--- src/lib.rt:338:35
-cast-is-awaited : tie.Need-cast-is-awaited
-cast-is-awaited c = search needs
-
--- src/lib.rt:338:49
-cast-is-awaited-2 : tie.Need-cast-is-awaited-2
-cast-is-awaited-2 c = search needs
-
--- src/lib.rt:338:9
 is-awaited-requires : tie.Need-is-awaited-requires
-is-awaited-requires c κs = ?
+is-awaited-requires c κs =
+    let d = c .before .before .before .before .before in
+    let b = board-known base _ (known (d .before .before .before) .valid) in
+    (b .good, b .own, read d .accepted .dim)
 
--- src/lib.rt:339:9
-refuse-requires-4 : tie.Need-refuse-requires-4
-refuse-requires-4 c κs = search needs
-
--- src/lib.rt:339:9
 returns-4 : tie.Need-returns-4
-returns-4 c = ?
+returns-4 c =
+    let w = c .before .before in
+    let e = w .before .before .before in
+    c .refuse4 .ensures
+    ∙ sym
+    (here (e .before .before .before)
+    ∙ heard-partner _ _ (e .if2 .left) (sym (w .is-awaited .ensures) ∙ not-true _ (c .before .if3 .taken)))
 
--- src/lib.rt:341:9
-timing-of-requires : tie.Need-timing-of-requires
-timing-of-requires c κs = search needs
+timed : (c : tie.After-timing-of) (t : Timing) → c .timing-of .result ≡ t
+    → let r = c .before .before .before .before .before .before .before .before .before .before .before in
+    frameIn base (node r) (bytes r) ≡ byTiming (node r) (got r) t
+timed c t z =
+    let w = c .before .before in
+    let e = w .before .before .before in
+    here (e .before .before .before)
+    ∙ heard-timed _ _ (e .if2 .left) (sym (w .is-awaited .ensures) ∙ not-false _ (c .before .if3 .left)) t
+    (sym (c .timing-of .ensures) ∙ z)
 
--- src/lib.rt:344:19
-enum-told-2 : tie.Need-enum-told-2
-enum-told-2 c = search needs
-
--- src/lib.rt:344:19
 store-requires : tie.Need-store-requires
-store-requires c κs = ?
+store-requires c κs =
+    let d = c .before .before .before .before .before .before .before .before .before .before in
+    let r = d .before .before .before in
+    let l = read d .accepted .dim in
+    let s = few-dims (node r) (known r .valid) in
+    (omega arith, rw (known r .dims) s, known r .dims)
 
--- src/lib.rt:347:26
-enum-told-3 : tie.Need-enum-told-3
-enum-told-3 c = search needs
-
--- src/lib.rt:347:26
-refuse-requires-5 : tie.Need-refuse-requires-5
-refuse-requires-5 c κs = search needs
-
--- src/lib.rt:350:21
-enum-told-4 : tie.Need-enum-told-4
-enum-told-4 c = search needs
-
--- src/lib.rt:352:28
-enum-told-5 : tie.Need-enum-told-5
-enum-told-5 c = search needs
-
--- src/lib.rt:352:28
-refuse-requires-6 : tie.Need-refuse-requires-6
-refuse-requires-6 c κs = search needs
-
--- src/lib.rt:320:1
 returns-5 : tie.Need-returns-5
-returns-5 c = ?
+returns-5 c =
+    let t = c .before in
+    ap (λ m. give m done) (c .store .ensures) ∙ sym (timed (t .before .before) Now (t .enum-told2 .given .1))
 
--- src/lib.rt:320:1
 returns-6 : tie.Need-returns-6
-returns-6 c = ?
+returns-6 c =
+    let t = c .before in
+    c .refuse5 .ensures ∙ sym (timed (t .before .before) Early (t .enum-told3 .given .1))
 
--- src/lib.rt:320:1
 returns-7 : tie.Need-returns-7
-returns-7 c = ?
+returns-7 c = sym (timed (c .before .before) Late (c .enum-told4 .given .1))
 
--- src/lib.rt:320:1
 returns-8 : tie.Need-returns-8
-returns-8 c = ?
+returns-8 c =
+    let t = c .before in
+    c .refuse6 .ensures ∙ sym (timed (t .before .before) Foreign (t .enum-told5 .given .1))
 
 pub frame-in-spec : {M : Type 1} → statement M
 frame-in-spec =
     tie.close
-    (tie.spec
-    survey-of-requires
-    refuse-requires
-    returns
-    cast-nodes
-    cast-number
-    read-requires
-    enum-known-answer
-    refuse-requires-2
-    returns-2
-    enum-told
-    refuse-requires-3
-    returns-3
-    cast-is-awaited
-    cast-is-awaited-2
-    is-awaited-requires
-    refuse-requires-4
-    returns-4
-    timing-of-requires
-    enum-told-2
-    store-requires
-    enum-told-3
-    refuse-requires-5
-    enum-told-4
-    enum-told-5
-    refuse-requires-6
-    returns-5
-    returns-6
-    returns-7
-    returns-8)
+    (tie.spec (λ c κs. search needs) (λ c κs. search needs) returns (λ c. search needs) (λ c. search needs)
+    (λ c κs. search needs) (λ c. search needs) (λ c κs. search needs) returns-2 (λ c. search needs)
+    (λ c κs. search needs) returns-3 (λ c. search needs) (λ c. search needs) is-awaited-requires (λ c κs. search needs)
+    returns-4 (λ c κs. search needs) (λ c. search needs) store-requires (λ c. search needs) (λ c κs. search needs)
+    (λ c. search needs) (λ c. search needs) (λ c κs. search needs) returns-5 returns-6 returns-7 returns-8)

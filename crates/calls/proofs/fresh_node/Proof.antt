@@ -36,25 +36,9 @@ returns-3 c =
     ∙ ap (λ n. refusal n 2) (e .before .before .no-node .ensures)
     ∙ sym (fresh-stranger base _ _ (good e) (c .before .if3 .taken))
 
--- of the zeros these are kept
-abbrev started : Node → Node → Node
-started a b = record {
-      nodes = a .nodes;
-      number = a .number;
-      phase = b .phase;
-      busy = true;
-      sent = b .sent;
-      taken = b .taken;
-      pass = 1;
-      dim = b .dim;
-      flag = true;
-      first = b .first;
-      second = b .second;
-      agreed = b .agreed;
-    }
-
 returns-4 : tie.Need-returns-4
-returns-4 c = ?
+returns-4 c =
+    rw (c .before .before .before .no-node .ensures) (sym (fresh-done base _ _ (good (c .before)) (c .if3 .left)))
 
 pub fresh-node-spec : {M : Type 1} → statement M
 fresh-node-spec =

@@ -41,9 +41,10 @@ steps c =
     let j = c .before .before in
     let n = node j in
     let f = got j in
-    let e = j .before .before .before .pre .2 in
-    (c .before .step-of .ensures ∙ ap (λ p. stepNumber p (n .pass) (n .dim)) e,
-    c .step-of2 .ensures ∙ ap (λ p. stepNumber p (f .pass) (f .dim)) e)
+    let e = j .before .before .before .pre .2 in (
+      c .before .step-of .ensures ∙ ap (λ p. stepNumber p (n .pass) (n .dim)) e,
+      c .step-of2 .ensures ∙ ap (λ p. stepNumber p (f .pass) (f .dim)) e,
+    )
 
 returns : tie.Need-returns
 returns c =

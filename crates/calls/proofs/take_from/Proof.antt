@@ -1,158 +1,107 @@
+-- `take_from` answers `take`.
 use borrow.Author.Needs.{needs}
+use borrow.Author.Tests.{not-true, not-false}
+use native.Mathlib.Omega.{arith}
+use mathlib.Core.Path.{_≡_, sym, ap, _∙_}
+use mathlib.Core.Bool.{false}
+use Prim.Native.Nat.{_≤_, _<_}
+use Rattle.base.specs.Limits.{base}
+use Rattle.frame.specs.Frame.{takenAt}
+use Rattle.frame.specs.declared.Timing.{Timing}
+use Rattle.frame.specs.declared.Timing.the-variants.{Now, Early, Late, Foreign}
+use Rattle.node.specs.Sums.{dims, allTaken, tally}
+use Rattle.node.specs.Answers.{give, done}
+use Rattle.node.specs.Calls.{woken, take}
+use Rattle.node.specs.declared.Node.{Node}
+use Rattle.calls.proofs.Known.{Known, failed, passed, board-known, part-below}
+use Rattle.calls.proofs.Answers.{take-state, take-stranger, take-self, byTime, take-timed, take-full, take-done}
 use Rattle.calls.proofs.take_from.Statement.{statement}
 use Rattle.calls.proofs.take_from.Tie as tie
-use Rattle.calls.proofs.take_from.Reads as reads
-use Rattle.calls.proofs.take_from.Lts as lts
-use Rattle.calls.proofs.refuse.Reads as refuse-reads
-use Rattle.calls.proofs.shell_of.Reads as shell-of-reads
-use Rattle.calls.proofs.survey_of.Reads as survey-of-reads
-use Rattle.frame.proofs.timing_of.Reads as timing-of-reads
 
--- src/lib.rt:189:9
-survey-of-requires : tie.Need-survey-of-requires
-survey-of-requires c κs = search needs
-
--- src/lib.rt:191:9
-refuse-requires : tie.Need-refuse-requires
-refuse-requires c κs = search needs
-
--- src/lib.rt:191:9
 returns : tie.Need-returns
-returns c = ?
+returns c =
+    let s = c .before .before .before in
+    c .refuse .ensures
+    ∙ sym (take-state base _ _ _ (failed base _ _ (s .survey-of .ensures) (not-true _ (c .before .if1 .taken))))
 
--- src/lib.rt:193:17
-cast-nodes : tie.Need-cast-nodes
-cast-nodes c = search needs
+known : (c : tie.Else1) → Known base (c .before .before .before .args .t1) (c .before .before .survey-of .result)
+known c = passed base _ _ (c .before .before .survey-of .ensures) (not-false _ (c .if1 .left))
 
--- src/lib.rt:194:18
-cast-number : tie.Need-cast-number
-cast-number c = search needs
-
--- src/lib.rt:196:9
-refuse-requires-2 : tie.Need-refuse-requires-2
-refuse-requires-2 c κs = search needs
-
--- src/lib.rt:196:9
 returns-2 : tie.Need-returns-2
-returns-2 c = ?
+returns-2 c =
+    c .refuse2 .ensures ∙ sym (take-stranger base _ _ _ (known (c .before .before) .valid) (c .before .if2 .taken))
 
--- src/lib.rt:199:9
-refuse-requires-3 : tie.Need-refuse-requires-3
-refuse-requires-3 c κs = search needs
-
--- src/lib.rt:199:9
 returns-3 : tie.Need-returns-3
-returns-3 c = ?
+returns-3 c =
+    let l = c .before .before in
+    c .refuse3 .ensures ∙ sym (take-self base _ _ _ (known (l .before) .valid) (l .if2 .left) (c .before .if3 .taken))
 
--- src/lib.rt:201:9
-timing-of-requires : tie.Need-timing-of-requires
-timing-of-requires c κs = search needs
+timed : (c : tie.After-timing-of) (t : Timing) → c .timing-of .result ≡ t
+    → let x = c .before .before .before .before .before .before .args in
+    take base (x .t1) (x .from) (x .phase) ≡ byTime base (x .t1) (x .from) (x .phase) t
+timed c t z =
+    let e = c .before in
+    let l = e .before in
+    take-timed base _ _ _ (known (l .before) .valid) (l .if2 .left) (e .if3 .left) t (sym (c .timing-of .ensures) ∙ z)
 
-enum-told : tie.Need-enum-told
-enum-told c = search needs
-
--- src/lib.rt:204:40
-enum-told-2 : tie.Need-enum-told-2
-enum-told-2 c = search needs
-
--- src/lib.rt:204:26
-refuse-requires-4 : tie.Need-refuse-requires-4
-refuse-requires-4 c κs = search needs
-
--- src/lib.rt:204:26
 returns-4 : tie.Need-returns-4
-returns-4 c = ?
+returns-4 c = c .refuse4 .ensures ∙ sym (timed (c .before .before .before) Early (c .before .enum-told2 .given .1))
 
--- src/lib.rt:205:39
-enum-told-3 : tie.Need-enum-told-3
-enum-told-3 c = search needs
-
--- src/lib.rt:205:25
-refuse-requires-5 : tie.Need-refuse-requires-5
-refuse-requires-5 c κs = search needs
-
--- src/lib.rt:205:25
 returns-5 : tie.Need-returns-5
-returns-5 c = ?
+returns-5 c = c .refuse5 .ensures ∙ sym (timed (c .before .before .before) Late (c .before .enum-told3 .given .1))
 
--- src/lib.rt:206:42
-enum-told-4 : tie.Need-enum-told-4
-enum-told-4 c = search needs
-
--- src/lib.rt:206:28
-refuse-requires-6 : tie.Need-refuse-requires-6
-refuse-requires-6 c κs = search needs
-
--- src/lib.rt:206:28
 returns-6 : tie.Need-returns-6
-returns-6 c = ?
+returns-6 c = c .refuse6 .ensures ∙ sym (timed (c .before .before .before) Foreign (c .before .enum-told4 .given .1))
 
--- src/lib.rt:209:9
-refuse-requires-7 : tie.Need-refuse-requires-7
-refuse-requires-7 c κs = search needs
-
--- src/lib.rt:209:9
 returns-7 : tie.Need-returns-7
-returns-7 c = ?
+returns-7 c =
+    let w = c .before .before .before in
+    let t = w .before .before in
+    let e = t .before in
+    let l = e .before in
+    let k = known (l .before) in
+    c .refuse7 .ensures
+    ∙ sym
+    (take-full base _ _ _ (k .valid) (l .if2 .left) (e .if3 .left) (sym (t .timing-of .ensures) ∙ w .enum-told .given .1)
+    (rw (k .takes) at (c .before .if4 .taken)))
 
--- src/lib.rt:211:9
 shell-of-requires : tie.Need-shell-of-requires
-shell-of-requires c κs = ?
+shell-of-requires c κs =
+    let e = c .before .before .before .before .before in
+    let b = board-known base _ (known (e .before .before) .valid) in
+    (b .good, b .own, e .before .if2 .left, e .if3 .left)
 
--- src/lib.rt:212:13
-mul-x : tie.Need-mul-x
-mul-x c = search needs
+abbrev node : tie.Else4 → Node
+node c = c .before .before .before .before .before .before .before .before .before .before .args .t1
 
--- src/lib.rt:212:13
-element-copy-out-x : tie.Need-element-copy-out-x
-element-copy-out-x c = search needs
+-- the total is below the limit
+room : (c : tie.Else4) → tally (node c) allTaken < 16711425
+room c = rw (known (c .before .before .before .before .before .before .before) .takes) at (c .if4 .left)
 
--- src/lib.rt:214:28
 add-t27 : tie.Need-add-t27
-add-t27 c = ?
+add-t27 c =
+    let m = c .before .before in
+    let r = room (m .before) in
+    let n = node (m .before) in
+    omega (arith, part-below (takenAt (n .taken)) (dims n) _ (m .shell-of .ensures .1))
 
--- src/lib.rt:214:5
-mul-t23 : tie.Need-mul-t23
-mul-t23 c = search needs
-
--- src/lib.rt:214:5
-element-set-from-after : tie.Need-element-set-from-after
-element-set-from-after c = search needs
-
--- src/lib.rt:186:1
 returns-8 : tie.Need-returns-8
-returns-8 c = ?
+returns-8 c =
+    let x = c .before .before .before in
+    let w = x .before .before in
+    let t = w .before .before in
+    let e = t .before in
+    let l = e .before in
+    ap (λ m. give (woken (node x) m) done) (c .before .before .shell-of .ensures .0)
+    ∙ sym
+    (take-done base _ _ _ (known (l .before) .valid) (l .if2 .left) (e .if3 .left)
+    (sym (t .timing-of .ensures) ∙ w .enum-told .given .1) (room x))
 
 pub take-from-spec : {M : Type 1} → statement M
 take-from-spec =
     tie.close
-    (tie.spec
-    survey-of-requires
-    refuse-requires
-    returns
-    cast-nodes
-    cast-number
-    refuse-requires-2
-    returns-2
-    refuse-requires-3
-    returns-3
-    timing-of-requires
-    enum-told
-    enum-told-2
-    refuse-requires-4
-    returns-4
-    enum-told-3
-    refuse-requires-5
-    returns-5
-    enum-told-4
-    refuse-requires-6
-    returns-6
-    refuse-requires-7
-    returns-7
-    shell-of-requires
-    mul-x
-    element-copy-out-x
-    add-t27
-    mul-t23
-    element-set-from-after
-    returns-8)
+    (tie.spec (λ c κs. search needs) (λ c κs. search needs) returns (λ c. search needs) (λ c. search needs)
+    (λ c κs. search needs) returns-2 (λ c κs. search needs) returns-3 (λ c κs. search needs) (λ c. search needs)
+    (λ c. search needs) (λ c κs. search needs) returns-4 (λ c. search needs) (λ c κs. search needs) returns-5
+    (λ c. search needs) (λ c κs. search needs) returns-6 (λ c κs. search needs) returns-7 shell-of-requires
+    (λ c. search needs) (λ c. search needs) add-t27 (λ c. search needs) (λ c. search needs) returns-8)
