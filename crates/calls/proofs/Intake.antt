@@ -24,7 +24,7 @@ use Rattle.node.specs.State.{valid}
 use Rattle.node.specs.Answers.{Given, Outcome}
 use Rattle.node.specs.Calls.{refusal, frameIn, isAwaited, byTiming}
 use Rattle.node.specs.declared.Node.{Node}
-use Rattle.calls.proofs.Known.{board-known}
+use Rattle.node.proofs.Valid.{valid-known}
 
 -- ---- the reader's answer
 
@@ -72,16 +72,12 @@ unfoldable pub heard : Node → Frame → Given Outcome
 heard n f = inOrder (refusal n) (rest n f) (byTiming n f (timing (f .phase) (n .phase)))
 
 module _ (L : Limits) (n : Node) (bs : List ℕ) where
-  pub frame-state : valid L n ≡ false → frameIn L n bs ≡ refusal n 13
-  unfolding frameIn
-  frame-state v = rw v
-
   module _ (v : valid L n ≡ true) where
     made : frameIn L n bs ≡ unless (refusal n) (heard n (fieldsOf (dims n) bs)) (readFrame L (n .nodes) bs)
     unfolding frameIn readFrame heard
     made =
         let f = fieldsOf (dims n) bs in
-        rw (v, board-known L n v .good)
+        rw (v, valid-known L n v .board)
         (checks-made (refusal n) (readChecks L (n .nodes) bs) (rest n f) f (byTiming n f (timing (f .phase) (n .phase))))
 
     module _ (w : Reading) (e : w ≡ reading (readFrame L (n .nodes) bs)) where

@@ -1,5 +1,4 @@
 pub mod Known
 pub mod Lookups
-pub mod Answers
 pub mod Storing
 pub mod Intake

@@ -8,6 +8,7 @@ use mathlib.Core.List.{List}
 use Prim.Native.Nat.{ℕ, _≤_, _<_}
 use denote.Ref.{now}
 use Rattle.base.specs.Limits.{base}
+use Rattle.base.proofs.Laws.{here}
 use Rattle.tree.specs.Tree.{awaited}
 use Rattle.frame.specs.declared.Frame.{Frame}
 use Rattle.frame.specs.declared.Timing.{Timing}
@@ -16,8 +17,10 @@ use Rattle.frame.proofs.RoundTripAccepted.{Read}
 use Rattle.node.specs.Answers.{give, done}
 use Rattle.node.specs.Calls.{frameIn, isAwaited, byTiming}
 use Rattle.node.specs.declared.Node.{Node}
-use Rattle.calls.proofs.Known.{Known, failed, passed, board-known, few-dims}
-use Rattle.calls.proofs.Intake.{heard, frame-state, frame-refused, frame-read, frame-heard}
+use Rattle.node.proofs.Valid.{valid-width}
+use Rattle.node.proofs.Ways.{frame-refuses}
+use Rattle.calls.proofs.Known.{Known, failed, passed}
+use Rattle.calls.proofs.Intake.{heard, frame-refused, frame-read, frame-heard}
 use Rattle.calls.proofs.Intake.{heard-self, heard-partner, heard-timed}
 use Rattle.calls.proofs.frame_in.Statement.{statement}
 use Rattle.calls.proofs.frame_in.Tie as tie
@@ -26,7 +29,7 @@ returns : tie.Need-returns
 returns c =
     let s = c .before .before .before in
     c .refuse .ensures
-    ∙ sym (frame-state base _ _ (failed base _ _ (s .survey-of .ensures) (not-true _ (c .before .if1 .taken))))
+    ∙ sym (frame-refuses base _ _ (here (failed base _ _ (s .survey-of .ensures) (c .before .if1 .taken))))
 
 -- what is handed, and the frame that was read
 abbrev node : tie.After-read → Node
@@ -40,7 +43,7 @@ got c = c .read .result .frame
 
 known : (c : tie.After-read) → Known base (node c) (c .before .before .before .before .before .survey-of .result)
 known c =
-    let e = c .before .before .before in passed base _ _ (e .before .before .survey-of .ensures) (not-false _ (e .if1 .left))
+    let e = c .before .before .before in passed base _ _ (e .before .before .survey-of .ensures) (e .if1 .left)
 
 returns-2 : tie.Need-returns-2
 returns-2 c =
@@ -55,23 +58,23 @@ read c =
     let r = c .before .before .before in
     frame-read base _ _ (known r .valid) _ (r .read .ensures) (c .enum-told .given .1)
 
-here : (c : tie.After-enum-told)
+rest : (c : tie.After-enum-told)
     → let r = c .before .before .before in
     frameIn base (node r) (bytes r) ≡ heard (node r) (got r)
-here c =
+rest c =
     let r = c .before .before .before in
     frame-heard base _ _ (known r .valid) _ (r .read .ensures) (c .enum-told .given .1)
 
 returns-3 : tie.Need-returns-3
 returns-3 c =
     let d = c .before .before .before .before in
-    c .refuse3 .ensures ∙ sym (here d ∙ heard-self _ _ (c .before .if2 .taken))
+    c .refuse3 .ensures ∙ sym (rest d ∙ heard-self _ _ (c .before .if2 .taken))
 
 is-awaited-requires : tie.Need-is-awaited-requires
 is-awaited-requires c κs =
     let d = c .before .before .before .before .before in
-    let b = board-known base _ (known (d .before .before .before) .valid) in
-    (b .good, b .own, read d .accepted .dim)
+    let v = known (d .before .before .before) .state in
+    (v .board, v .number, read d .accepted .dim)
 
 returns-4 : tie.Need-returns-4
 returns-4 c =
@@ -79,7 +82,7 @@ returns-4 c =
     let e = w .before .before .before in
     c .refuse4 .ensures
     ∙ sym
-    (here (e .before .before .before)
+    (rest (e .before .before .before)
     ∙ heard-partner _ _ (e .if2 .left) (sym (w .is-awaited .ensures) ∙ not-true _ (c .before .if3 .taken)))
 
 timed : (c : tie.After-timing-of) (t : Timing) → c .timing-of .result ≡ t
@@ -88,7 +91,7 @@ timed : (c : tie.After-timing-of) (t : Timing) → c .timing-of .result ≡ t
 timed c t z =
     let w = c .before .before in
     let e = w .before .before .before in
-    here (e .before .before .before)
+    rest (e .before .before .before)
     ∙ heard-timed _ _ (e .if2 .left) (sym (w .is-awaited .ensures) ∙ not-false _ (c .before .if3 .left)) t
     (sym (c .timing-of .ensures) ∙ z)
 
@@ -97,7 +100,7 @@ store-requires c κs =
     let d = c .before .before .before .before .before .before .before .before .before .before in
     let r = d .before .before .before in
     let l = read d .accepted .dim in
-    let s = few-dims (node r) (known r .valid) in
+    let s = valid-width base (node r) (omega arith) (known r .state) in
     (omega arith, rw (known r .dims) s, known r .dims)
 
 returns-5 : tie.Need-returns-5

@@ -1,18 +1,19 @@
 -- `send_to` answers `send`.
 use borrow.Author.Needs.{needs}
-use borrow.Author.Tests.{not-true, not-false}
+use borrow.Author.Tests.{le-leb, lt-leb, eq-eqb, ne-eqb, not-false}
 use native.Mathlib.Omega.{arith}
 use mathlib.Core.Path.{_≡_, sym, ap, _∙_}
 use mathlib.Core.Bool.{false}
 use Prim.Native.Nat.{_≤_, _<_}
 use Rattle.base.specs.Limits.{base}
+use Rattle.base.proofs.Laws.{here, later}
 use Rattle.frame.specs.Frame.{sentAt}
 use Rattle.node.specs.Sums.{dims, allSent, tally}
 use Rattle.node.specs.Answers.{give, done}
 use Rattle.node.specs.Calls.{oneSent}
 use Rattle.node.specs.declared.Node.{Node}
-use Rattle.calls.proofs.Known.{Known, failed, passed, board-known, part-below}
-use Rattle.calls.proofs.Answers.{send-state, send-stranger, send-self, send-resting, send-out, send-done}
+use Rattle.node.proofs.Ways.{send-refuses, send-does}
+use Rattle.calls.proofs.Known.{Known, failed, passed, part-below}
 use Rattle.calls.proofs.send_to.Statement.{statement}
 use Rattle.calls.proofs.send_to.Tie as tie
 
@@ -20,19 +21,23 @@ returns : tie.Need-returns
 returns c =
     let s = c .before .before .before in
     c .refuse .ensures
-    ∙ sym (send-state base _ _ (failed base _ _ (s .survey-of .ensures) (not-true _ (c .before .if1 .taken))))
+    ∙ sym (send-refuses base _ _ (here (failed base _ _ (s .survey-of .ensures) (c .before .if1 .taken))))
 
 known : (c : tie.Else1) → Known base (c .before .before .before .args .t1) (c .before .before .survey-of .result)
-known c = passed base _ _ (c .before .before .survey-of .ensures) (not-false _ (c .if1 .left))
+known c = passed base _ _ (c .before .before .survey-of .ensures) (c .if1 .left)
 
 returns-2 : tie.Need-returns-2
 returns-2 c =
-    c .refuse2 .ensures ∙ sym (send-stranger base _ _ (known (c .before .before) .valid) (c .before .if2 .taken))
+    c .refuse2 .ensures
+    ∙ sym (send-refuses base _ _ (later (known (c .before .before) .ok) (here (le-leb _ _ (c .before .if2 .taken)))))
 
 returns-3 : tie.Need-returns-3
 returns-3 c =
     let l = c .before .before in
-    c .refuse3 .ensures ∙ sym (send-self base _ _ (known (l .before) .valid) (l .if2 .left) (c .before .if3 .taken))
+    c .refuse3 .ensures
+    ∙ sym
+    (send-refuses base _ _
+    (later (known (l .before) .ok) (later (lt-leb _ _ (l .if2 .left)) (here (eq-eqb _ _ (c .before .if3 .taken))))))
 
 returns-4 : tie.Need-returns-4
 returns-4 c =
@@ -40,7 +45,9 @@ returns-4 c =
     let l = e .before in
     c .refuse4 .ensures
     ∙ sym
-    (send-resting base _ _ (known (l .before) .valid) (l .if2 .left) (e .if3 .left) (not-true _ (c .before .if4 .taken)))
+    (send-refuses base _ _
+    (later (known (l .before) .ok)
+    (later (lt-leb _ _ (l .if2 .left)) (later (ne-eqb _ _ (e .if3 .left)) (here (c .before .if4 .taken))))))
 
 returns-5 : tie.Need-returns-5
 returns-5 c =
@@ -50,14 +57,17 @@ returns-5 c =
     let k = known (l .before) in
     c .refuse5 .ensures
     ∙ sym
-    (send-out base _ _ (k .valid) (l .if2 .left) (e .if3 .left) (not-false _ (w .if4 .left))
-    (rw (k .sends) at (c .before .if5 .taken)))
+    (send-refuses base _ _
+    (later (k .ok)
+    (later (lt-leb _ _ (l .if2 .left))
+    (later (ne-eqb _ _ (e .if3 .left))
+    (later (w .if4 .left) (here (le-leb _ _ (rw (k .sends) at (c .before .if5 .taken)))))))))
 
 shell-of-requires : tie.Need-shell-of-requires
 shell-of-requires c κs =
     let e = c .before .before .before in
-    let b = board-known base _ (known (e .before .before) .valid) in
-    (b .good, b .own, e .before .if2 .left, e .if3 .left)
+    let v = known (e .before .before) .state in
+    (v .board, v .number, e .before .if2 .left, e .if3 .left)
 
 abbrev node : tie.Else5 → Node
 node c = c .before .before .before .before .before .before .before .before .args .t1
@@ -81,7 +91,7 @@ returns-6 c =
     let l = e .before in
     ap (λ m. give (oneSent (node x) m) done) (c .before .before .shell-of .ensures .0)
     ∙ sym
-    (send-done base _ _ (known (l .before) .valid) (l .if2 .left) (e .if3 .left) (not-false _ (w .if4 .left)) (room x))
+    (send-does base _ _ (known (l .before) .valid) (l .if2 .left) (e .if3 .left) (not-false _ (w .if4 .left)) (room x))
 
 pub send-to-spec : {M : Type 1} → statement M
 send-to-spec =

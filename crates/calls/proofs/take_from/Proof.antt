@@ -1,20 +1,22 @@
 -- `take_from` answers `take`.
 use borrow.Author.Needs.{needs}
-use borrow.Author.Tests.{not-true, not-false}
+use borrow.Author.Tests.{le-leb, lt-leb, eq-eqb, ne-eqb, not-false}
 use native.Mathlib.Omega.{arith}
 use mathlib.Core.Path.{_≡_, sym, ap, _∙_}
-use mathlib.Core.Bool.{false}
+use mathlib.Core.Bool.{false, not}
+use lib.Dec.{leb, eqb}
 use Prim.Native.Nat.{_≤_, _<_}
 use Rattle.base.specs.Limits.{base}
+use Rattle.base.proofs.Laws.{here, later, order-passes}
 use Rattle.frame.specs.Frame.{takenAt}
-use Rattle.frame.specs.declared.Timing.{Timing}
-use Rattle.frame.specs.declared.Timing.the-variants.{Now, Early, Late, Foreign}
+use Rattle.frame.specs.Timing.{timing}
 use Rattle.node.specs.Sums.{dims, allTaken, tally}
+use Rattle.node.specs.State.{valid}
 use Rattle.node.specs.Answers.{give, done}
-use Rattle.node.specs.Calls.{woken, take}
+use Rattle.node.specs.Calls.{refusal, isEarly, isForeignWork, woken, take}
 use Rattle.node.specs.declared.Node.{Node}
-use Rattle.calls.proofs.Known.{Known, failed, passed, board-known, part-below}
-use Rattle.calls.proofs.Answers.{take-state, take-stranger, take-self, byTime, take-timed, take-full, take-done}
+use Rattle.node.proofs.Ways.{takeChecks, take-refuses}
+use Rattle.calls.proofs.Known.{Known, failed, passed, part-below}
 use Rattle.calls.proofs.take_from.Statement.{statement}
 use Rattle.calls.proofs.take_from.Tie as tie
 
@@ -22,54 +24,81 @@ returns : tie.Need-returns
 returns c =
     let s = c .before .before .before in
     c .refuse .ensures
-    ∙ sym (take-state base _ _ _ (failed base _ _ (s .survey-of .ensures) (not-true _ (c .before .if1 .taken))))
+    ∙ sym (take-refuses base _ _ _ (here (failed base _ _ (s .survey-of .ensures) (c .before .if1 .taken))))
 
 known : (c : tie.Else1) → Known base (c .before .before .before .args .t1) (c .before .before .survey-of .result)
-known c = passed base _ _ (c .before .before .survey-of .ensures) (not-false _ (c .if1 .left))
+known c = passed base _ _ (c .before .before .survey-of .ensures) (c .if1 .left)
 
 returns-2 : tie.Need-returns-2
 returns-2 c =
-    c .refuse2 .ensures ∙ sym (take-stranger base _ _ _ (known (c .before .before) .valid) (c .before .if2 .taken))
+    c .refuse2 .ensures
+    ∙ sym (take-refuses base _ _ _ (later (known (c .before .before) .ok) (here (le-leb _ _ (c .before .if2 .taken)))))
 
 returns-3 : tie.Need-returns-3
 returns-3 c =
     let l = c .before .before in
-    c .refuse3 .ensures ∙ sym (take-self base _ _ _ (known (l .before) .valid) (l .if2 .left) (c .before .if3 .taken))
+    c .refuse3 .ensures
+    ∙ sym
+    (take-refuses base _ _ _
+    (later (known (l .before) .ok) (later (lt-leb _ _ (l .if2 .left)) (here (eq-eqb _ _ (c .before .if3 .taken))))))
 
-timed : (c : tie.After-timing-of) (t : Timing) → c .timing-of .result ≡ t
-    → let x = c .before .before .before .before .before .before .args in
-    take base (x .t1) (x .from) (x .phase) ≡ byTime base (x .t1) (x .from) (x .phase) t
-timed c t z =
+-- what is known where the sender's checks are passed and the timing is looked up
+time : (c : tie.After-timing-of)
+    → let a = c .before .before .before .before .before .before .args in
+    (not (valid base (a .t1)) ≡ false)
+    × (leb (a .t1 .nodes) (a .from) ≡ false)
+    × (eqb (a .from) (a .t1 .number) ≡ false)
+    × (timing (a .phase) (a .t1 .phase) ≡ c .timing-of .result)
+time c =
     let e = c .before in
     let l = e .before in
-    take-timed base _ _ _ (known (l .before) .valid) (l .if2 .left) (e .if3 .left) t (sym (c .timing-of .ensures) ∙ z)
+    (known (l .before) .ok, lt-leb _ _ (l .if2 .left), ne-eqb _ _ (e .if3 .left), sym (c .timing-of .ensures))
 
 returns-4 : tie.Need-returns-4
-returns-4 c = c .refuse4 .ensures ∙ sym (timed (c .before .before .before) Early (c .before .enum-told2 .given .1))
+returns-4 c =
+    let t = time (c .before .before .before) in
+    let z = t .3 ∙ c .before .enum-told2 .given .1 in
+    c .refuse4 .ensures
+    ∙ sym (take-refuses base _ _ _ (later (t .0) (later (t .1) (later (t .2) (here (ap isEarly z))))))
 
 returns-5 : tie.Need-returns-5
-returns-5 c = c .refuse5 .ensures ∙ sym (timed (c .before .before .before) Late (c .before .enum-told3 .given .1))
+returns-5 c =
+    let t = time (c .before .before .before) in
+    let z = t .3 ∙ c .before .enum-told3 .given .1 in
+    c .refuse5 .ensures
+    ∙ sym
+    (take-refuses base _ _ _
+    (later (t .0) (later (t .1) (later (t .2) (later (ap isEarly z) (here (ap isForeignWork z)))))))
 
 returns-6 : tie.Need-returns-6
-returns-6 c = c .refuse6 .ensures ∙ sym (timed (c .before .before .before) Foreign (c .before .enum-told4 .given .1))
+returns-6 c =
+    let t = time (c .before .before .before) in
+    let z = t .3 ∙ c .before .enum-told4 .given .1 in
+    c .refuse6 .ensures
+    ∙ sym
+    (take-refuses base _ _ _
+    (later (t .0) (later (t .1) (later (t .2) (later (ap isEarly z) (here (ap isForeignWork z)))))))
 
 returns-7 : tie.Need-returns-7
 returns-7 c =
     let w = c .before .before .before in
-    let t = w .before .before in
-    let e = t .before in
-    let l = e .before in
-    let k = known (l .before) in
+    let t = time (w .before .before) in
+    let z = t .3 ∙ w .enum-told .given .1 in
+    let k = known (w .before .before .before .before .before) in
     c .refuse7 .ensures
     ∙ sym
-    (take-full base _ _ _ (k .valid) (l .if2 .left) (e .if3 .left) (sym (t .timing-of .ensures) ∙ w .enum-told .given .1)
-    (rw (k .takes) at (c .before .if4 .taken)))
+    (take-refuses base _ _ _
+    (later (t .0)
+    (later (t .1)
+    (later (t .2)
+    (later (ap isEarly z)
+    (later (ap isForeignWork z) (here (le-leb _ _ (rw (k .takes) at (c .before .if4 .taken))))))))))
 
 shell-of-requires : tie.Need-shell-of-requires
 shell-of-requires c κs =
     let e = c .before .before .before .before .before in
-    let b = board-known base _ (known (e .before .before) .valid) in
-    (b .good, b .own, e .before .if2 .left, e .if3 .left)
+    let v = known (e .before .before) .state in
+    (v .board, v .number, e .before .if2 .left, e .if3 .left)
 
 abbrev node : tie.Else4 → Node
 node c = c .before .before .before .before .before .before .before .before .before .before .args .t1
@@ -86,16 +115,17 @@ add-t27 c =
     omega (arith, part-below (takenAt (n .taken)) (dims n) _ (m .shell-of .ensures .1))
 
 returns-8 : tie.Need-returns-8
+unfolding take
 returns-8 c =
     let x = c .before .before .before in
     let w = x .before .before in
-    let t = w .before .before in
-    let e = t .before in
-    let l = e .before in
-    ap (λ m. give (woken (node x) m) done) (c .before .before .shell-of .ensures .0)
+    let t = time (w .before .before) in
+    let z = t .3 ∙ w .enum-told .given .1 in
+    let n = node x in
+    ap (λ m. give (woken n m) done) (c .before .before .shell-of .ensures .0)
     ∙ sym
-    (take-done base _ _ _ (known (l .before) .valid) (l .if2 .left) (e .if3 .left)
-    (sym (t .timing-of .ensures) ∙ w .enum-told .given .1) (room x))
+    (order-passes (refusal n) (takeChecks base n _ _) _
+    (t .0, (t .1, (t .2, (ap isEarly z, (ap isForeignWork z, (lt-leb _ _ (room x), tt)))))))
 
 pub take-from-spec : {M : Type 1} → statement M
 take-from-spec =
