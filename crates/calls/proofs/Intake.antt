@@ -77,8 +77,9 @@ module _ (L : Limits) (n : Node) (bs : List ℕ) where
     unfolding frameIn readFrame heard
     made =
         let f = fieldsOf (dims n) bs in
+        let t = timing (f .phase) (n .phase) in
         rw (v, valid-known L n v .board)
-        (checks-made (refusal n) (readChecks L (n .nodes) bs) (rest n f) f (byTiming n f (timing (f .phase) (n .phase))))
+        (checks-made (refusal n) (readChecks L (n .nodes) bs) (rest n f) f (byTiming n f t))
 
     module _ (w : Reading) (e : w ≡ reading (readFrame L (n .nodes) bs)) where
       pub frame-refused : (x : ℕ) → w .answer ≡ Refused x → frameIn L n bs ≡ refusal n x
@@ -100,11 +101,13 @@ module _ (n : Node) (f : Frame) where
   heard-self e = choose-yes _ _ (eq-eqb (f .sender) (n .number) e)
 
   module _ (e : f .sender ≢ n .number) where
-    pub heard-partner : isAwaited (awaited (n .nodes) (f .dim) (n .number)) (f .sender) ≡ false → heard n f ≡ refusal n 11
+    abbrev expected : Bool
+    expected = isAwaited (awaited (n .nodes) (f .dim) (n .number)) (f .sender)
+
+    pub heard-partner : expected ≡ false → heard n f ≡ refusal n 11
     unfolding heard
     heard-partner h = rw (ne-eqb (f .sender) (n .number) e, h)
 
-    pub heard-timed : isAwaited (awaited (n .nodes) (f .dim) (n .number)) (f .sender) ≡ true
-        → (t : Timing) → timing (f .phase) (n .phase) ≡ t → heard n f ≡ byTiming n f t
+    pub heard-timed : expected ≡ true → (t : Timing) → timing (f .phase) (n .phase) ≡ t → heard n f ≡ byTiming n f t
     unfolding heard
     heard-timed h t z = rw (ne-eqb (f .sender) (n .number) e, h, z)

@@ -1,16 +1,12 @@
 -- What a survey says of a state, and that each tally is within their total.
-use mathlib.Core.Path.{_≡_, refl, sym, ap, _∙_}
+use mathlib.Core.Path.{_≡_, sym, ap, _∙_}
 use mathlib.Core.Bool.{true, false, not}
 use Prim.Native.Nat.{ℕ, zero, suc, _≤_, _<_}
 use native.Mathlib.Decide.{ℕ-discrete}
-use native.Mathlib.Nat.{le-trans}
 use native.Mathlib.Omega.{arith}
 use borrow.Author.Tests.{not-false}
-use Rattle.base.specs.Limits.{Limits, width, base}
-use Rattle.base.proofs.Laws.{choose-yes, cases, both-true}
-use Rattle.tree.specs.Tree.{dimension}
-use Rattle.tree.specs.Lookups.{badBoard}
-use Rattle.frame.proofs.RoundTripAccepted.{board-width, small-base}
+use Rattle.base.specs.Limits.{Limits}
+use Rattle.base.proofs.Laws.{choose-yes, cases}
 use Rattle.node.specs.Sums.{dims, total, allSent, allTaken, tally}
 use Rattle.node.specs.State.{valid}
 use Rattle.node.specs.declared.Node.{Node}

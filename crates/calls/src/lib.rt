@@ -1,5 +1,5 @@
-// The calls fresh, send, take, idle and frame in. Any state, number and bytes may be handed; what document 01 does not allow is
-// refused with its number, and a refused call gives back the state it got.
+// The calls fresh, send, take, idle and frame in. Any state, number and bytes may be handed; what document 01 does not
+// allow is refused with its number, and a refused call gives back the state it got.
 ghost use mathlib.Core.Path.{_≡_};
 ghost use mathlib.Core.Logic.{_≢_};
 ghost use mathlib.Core.Bool.{false};
@@ -10,7 +10,8 @@ ghost use Rattle.tree.specs.Lookups.{badBoard};
 ghost use Rattle.node.specs.Sums.{dims};
 ghost use Rattle.node.specs.Change.{noNode};
 ghost use Rattle.node.specs.Answers.{replied};
-ghost use Rattle.node.specs.Calls.{refusal, fresh, send, take, idle, frameIn, stepNumber, firstOf, secondOf, gotten, isAwaited};
+ghost use Rattle.node.specs.Calls.{refusal, fresh, send, take, idle, frameIn};
+ghost use Rattle.node.specs.Calls.{stepNumber, firstOf, secondOf, gotten, isAwaited};
 ghost use Rattle.calls.specs.Survey.{surveyed};
 use frame::Frame;
 use frame::Outcome;
@@ -167,8 +168,9 @@ pub fn send_to(n: Node, to: u32) -> Reply
     }
     let m = shell_of(nodes, number, to);
     let x = n.sent[m];
+    let more = x.0 + 1;
     let mut after = n;
-    after.sent[m] = Sent(x.0 + 1);
+    after.sent[m] = Sent(more);
     Reply {
         node: after,
         answer: Answer::Done,
@@ -203,8 +205,9 @@ pub fn take_from(n: Node, from: u32, phase: u8) -> Reply
     }
     let m = shell_of(nodes, number, from);
     let x = n.taken[m];
+    let more = x.0 + 1;
     let mut after = n;
-    after.taken[m] = Taken(x.0 + 1);
+    after.taken[m] = Taken(more);
     after.busy = true;
     after.pass = 1;
     after.dim = 0;

@@ -3,19 +3,17 @@ use borrow.Author.Needs.{needs}
 use borrow.Author.Tests.{not-true, not-false}
 use native.Mathlib.Omega.{arith}
 use mathlib.Core.Path.{_≡_, sym, ap, _∙_}
-use mathlib.Core.Bool.{true, false}
 use mathlib.Core.List.{List}
-use Prim.Native.Nat.{ℕ, _≤_, _<_}
+use Prim.Native.Nat.{ℕ}
 use denote.Ref.{now}
 use Rattle.base.specs.Limits.{base}
 use Rattle.base.proofs.Laws.{here}
-use Rattle.tree.specs.Tree.{awaited}
 use Rattle.frame.specs.declared.Frame.{Frame}
 use Rattle.frame.specs.declared.Timing.{Timing}
 use Rattle.frame.specs.declared.Timing.the-variants.{Now, Early, Late, Foreign}
 use Rattle.frame.proofs.RoundTripAccepted.{Read}
 use Rattle.node.specs.Answers.{give, done}
-use Rattle.node.specs.Calls.{frameIn, isAwaited, byTiming}
+use Rattle.node.specs.Calls.{frameIn, byTiming}
 use Rattle.node.specs.declared.Node.{Node}
 use Rattle.node.proofs.Valid.{valid-width}
 use Rattle.node.proofs.Ways.{frame-refuses}

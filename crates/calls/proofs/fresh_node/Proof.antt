@@ -1,15 +1,12 @@
 -- `fresh_node` answers `fresh`.
 use borrow.Author.Needs.{needs}
 use borrow.Author.Tests.{eq-eqb, ne-eqb, lt-ltb, le-ltb, le-leb}
-use native.Mathlib.Omega.{arith}
 use mathlib.Core.Path.{_≡_, sym, ap, _∙_}
-use mathlib.Core.Bool.{true, false}
+use mathlib.Core.Bool.{false}
 use Rattle.base.specs.Limits.{base}
 use Rattle.base.proofs.Laws.{here, later}
 use Rattle.tree.specs.Lookups.{badBoard}
-use Rattle.node.specs.Answers.{give, done}
 use Rattle.node.specs.Calls.{refusal}
-use Rattle.node.specs.declared.Node.{Node}
 use Rattle.node.proofs.Ways.{fresh-refuses, fresh-does}
 use Rattle.calls.proofs.fresh_node.Statement.{statement}
 use Rattle.calls.proofs.fresh_node.Tie as tie

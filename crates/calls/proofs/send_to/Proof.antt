@@ -2,9 +2,8 @@
 use borrow.Author.Needs.{needs}
 use borrow.Author.Tests.{le-leb, lt-leb, eq-eqb, ne-eqb, not-false}
 use native.Mathlib.Omega.{arith}
-use mathlib.Core.Path.{_≡_, sym, ap, _∙_}
-use mathlib.Core.Bool.{false}
-use Prim.Native.Nat.{_≤_, _<_}
+use mathlib.Core.Path.{sym, ap, _∙_}
+use Prim.Native.Nat.{_<_}
 use Rattle.base.specs.Limits.{base}
 use Rattle.base.proofs.Laws.{here, later}
 use Rattle.frame.specs.Frame.{sentAt}
@@ -76,8 +75,8 @@ node c = c .before .before .before .before .before .before .before .before .args
 room : (c : tie.Else5) → tally (node c) allSent < 65535
 room c = rw (known (c .before .before .before .before .before) .sends) at (c .if5 .left)
 
-add-t24 : tie.Need-add-t24
-add-t24 c =
+add-more : tie.Need-add-more
+add-more c =
     let m = c .before .before in
     let r = room (m .before) in
     let n = node (m .before) in
@@ -98,5 +97,5 @@ send-to-spec =
     tie.close
     (tie.spec (λ c κs. search needs) (λ c κs. search needs) returns (λ c. search needs) (λ c. search needs)
     (λ c κs. search needs) returns-2 (λ c κs. search needs) returns-3 (λ c κs. search needs) returns-4
-    (λ c κs. search needs) returns-5 shell-of-requires (λ c. search needs) (λ c. search needs) add-t24 (λ c. search needs)
-    (λ c. search needs) returns-6)
+    (λ c κs. search needs) returns-5 shell-of-requires (λ c. search needs) (λ c. search needs) add-more
+    (λ c. search needs) (λ c. search needs) returns-6)

@@ -2,7 +2,7 @@
 use borrow.Author.Needs.{needs}
 use native.Mathlib.Omega.{arith}
 use mathlib.Core.Path.{_≡_, sym, ap, _∙_}
-use Prim.Native.Nat.{_≤_, _<_}
+use Prim.Native.Nat.{_≤_}
 use Rattle.base.specs.Limits.{base}
 use Rattle.base.specs.Refusal.{found}
 use Rattle.tree.specs.Tree.{dimension, distance}
@@ -29,7 +29,7 @@ returns-2 c =
     let a = d .before .args in
     let r = d .before .pre in
     let e = found-same (sym (ap foundAnswer (c .before .m .given .1)) ∙ looked d) in
-    let b : distance (a .nodes) (a .number) (a .other) < dimension (a .nodes) = distance-below _ _ _ (r .1) (λ z. r .3 (sym z)) (r .2) in
+    let b = distance-below _ _ _ (r .1) (λ z. r .3 (sym z)) (r .2) in
     let w : dimension (a .nodes) ≤ 8 = board-width base _ small-base (r .0) in
     (e, omega arith, omega arith)
 

@@ -4,7 +4,7 @@ use mathlib.Core.Path.{_≡_, sym, ap, _∙_}
 use mathlib.Core.Logic.{⊎-elim}
 use mathlib.Core.Bool.{false}
 use lib.ListN.{set}
-use Prim.Native.Nat.{_≤_, _<_}
+use Prim.Native.Nat.{_<_}
 use Rattle.frame.specs.declared.Frame.{Frame}
 use Rattle.node.specs.Sums.{dims}
 use Rattle.node.specs.Change.{at, withFirst, withSecond}
@@ -26,8 +26,14 @@ kept c =
     let n = node c in
     let f = got c in
     ⊎-elim
-    (λ w. w .2 ∙ ap (λ x. withFirst n (set (n .first) (f .dim) x)) (w .1 .ensures) ∙ sym (stored-first n f (w .0 .taken)))
-    (λ w. w .2 ∙ ap (λ x. withSecond n (set (n .second) (f .dim) x)) (w .1 .ensures) ∙ sym (stored-second n f (w .0 .left)))
+    (λ w.
+    w .2
+    ∙ ap (λ x. withFirst n (set (n .first) (f .dim) x)) (w .1 .ensures)
+    ∙ sym (stored-first n f (w .0 .taken)))
+    (λ w.
+    w .2
+    ∙ ap (λ x. withSecond n (set (n .second) (f .dim) x)) (w .1 .ensures)
+    ∙ sym (stored-second n f (w .0 .left)))
     (c .if1 .came)
 
 -- the position's step and the frame's

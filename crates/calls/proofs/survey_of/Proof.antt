@@ -1,7 +1,5 @@
 use Rattle.calls.proofs.survey_of.Statement.{statement}
 use Rattle.calls.proofs.survey_of.Tie as tie
-use Rattle.calls.proofs.survey_of.Reads as reads
-use Rattle.calls.proofs.survey_of.Lts as lts
 
 -- src/lib.rt:52:1
 returns : tie.Need-returns

@@ -1,11 +1,11 @@
 -- `take_from` answers `take`.
 use borrow.Author.Needs.{needs}
-use borrow.Author.Tests.{le-leb, lt-leb, eq-eqb, ne-eqb, not-false}
+use borrow.Author.Tests.{le-leb, lt-leb, eq-eqb, ne-eqb}
 use native.Mathlib.Omega.{arith}
 use mathlib.Core.Path.{_≡_, sym, ap, _∙_}
 use mathlib.Core.Bool.{false, not}
 use lib.Dec.{leb, eqb}
-use Prim.Native.Nat.{_≤_, _<_}
+use Prim.Native.Nat.{_<_}
 use Rattle.base.specs.Limits.{base}
 use Rattle.base.proofs.Laws.{here, later, order-passes}
 use Rattle.frame.specs.Frame.{takenAt}
@@ -107,8 +107,8 @@ node c = c .before .before .before .before .before .before .before .before .befo
 room : (c : tie.Else4) → tally (node c) allTaken < 16711425
 room c = rw (known (c .before .before .before .before .before .before .before) .takes) at (c .if4 .left)
 
-add-t27 : tie.Need-add-t27
-add-t27 c =
+add-more : tie.Need-add-more
+add-more c =
     let m = c .before .before in
     let r = room (m .before) in
     let n = node (m .before) in
@@ -134,4 +134,4 @@ take-from-spec =
     (λ c κs. search needs) returns-2 (λ c κs. search needs) returns-3 (λ c κs. search needs) (λ c. search needs)
     (λ c. search needs) (λ c κs. search needs) returns-4 (λ c. search needs) (λ c κs. search needs) returns-5
     (λ c. search needs) (λ c κs. search needs) returns-6 (λ c κs. search needs) returns-7 shell-of-requires
-    (λ c. search needs) (λ c. search needs) add-t27 (λ c. search needs) (λ c. search needs) returns-8)
+    (λ c. search needs) (λ c. search needs) add-more (λ c. search needs) (λ c. search needs) returns-8)
