@@ -71,29 +71,29 @@ rest n f =
 unfoldable pub heard : Node → Frame → Given Outcome
 heard n f = inOrder (refusal n) (rest n f) (byTiming n f (timing (f .phase) (n .phase)))
 
-module _ (L : Limits) (n : Node) (bs : List ℕ) where
-  module _ (v : valid L n ≡ true) where
-    made : frameIn L n bs ≡ unless (refusal n) (heard n (fieldsOf (dims n) bs)) (readFrame L (n .nodes) bs)
-    unfolding frameIn readFrame heard
-    made =
-        let f = fieldsOf (dims n) bs in
-        let t = timing (f .phase) (n .phase) in
-        rw (v, valid-known L n v .board)
-        (checks-made (refusal n) (readChecks L (n .nodes) bs) (rest n f) f (byTiming n f t))
+module _ (L : Limits) (n : Node) (bs : List ℕ) (v : valid L n ≡ true) where
+  -- the reader's answer decides, then the rest
+  made : frameIn L n bs ≡ unless (refusal n) (heard n (fieldsOf (dims n) bs)) (readFrame L (n .nodes) bs)
+  unfolding frameIn readFrame heard
+  made =
+      let f = fieldsOf (dims n) bs in
+      let t = timing (f .phase) (n .phase) in
+      rw (v, valid-known L n v .board)
+      (checks-made (refusal n) (readChecks L (n .nodes) bs) (rest n f) f (byTiming n f t))
 
-    module _ (w : Reading) (e : w ≡ reading (readFrame L (n .nodes) bs)) where
-      pub frame-refused : (x : ℕ) → w .answer ≡ Refused x → frameIn L n bs ≡ refusal n x
-      frame-refused x a = rw (made, reading-refused (readFrame L (n .nodes) bs) w e x a)
+  module _ (w : Reading) (e : w ≡ reading (readFrame L (n .nodes) bs)) where
+    pub frame-refused : (x : ℕ) → w .answer ≡ Refused x → frameIn L n bs ≡ refusal n x
+    frame-refused x a = rw (made, reading-refused (readFrame L (n .nodes) bs) w e x a)
 
-      module _ (a : w .answer ≡ Done) where
-        done : readFrame L (n .nodes) bs ≡ found (w .frame)
-        done = reading-done (readFrame L (n .nodes) bs) w e a
+    module _ (a : w .answer ≡ Done) where
+      done : readFrame L (n .nodes) bs ≡ found (w .frame)
+      done = reading-done (readFrame L (n .nodes) bs) w e a
 
-        pub frame-read : Read L (n .nodes) bs (w .frame)
-        frame-read = read-known L (n .nodes) bs (w .frame) done
+      pub frame-read : Read L (n .nodes) bs (w .frame)
+      frame-read = read-known L (n .nodes) bs (w .frame) done
 
-        pub frame-heard : frameIn L n bs ≡ heard n (w .frame)
-        frame-heard = rw (made, done) (ap (heard n) (sym (frame-read .fields)))
+      pub frame-heard : frameIn L n bs ≡ heard n (w .frame)
+      frame-heard = rw (made, done) (ap (heard n) (sym (frame-read .fields)))
 
 module _ (n : Node) (f : Frame) where
   pub heard-self : f .sender ≡ n .number → heard n f ≡ refusal n 3
