@@ -1,18 +1,15 @@
--- What a survey says of a state, and that each tally is within their total.
+-- What a survey says of a state.
 use mathlib.Core.Path.{_≡_, sym, ap, _∙_}
 use mathlib.Core.Bool.{true, false, not}
-use Prim.Native.Nat.{ℕ, zero, suc, _≤_, _<_}
-use native.Mathlib.Decide.{ℕ-discrete}
-use native.Mathlib.Omega.{arith}
 use borrow.Author.Tests.{not-false}
 use Rattle.base.specs.Limits.{Limits}
 use Rattle.base.proofs.Laws.{choose-yes, cases}
-use Rattle.node.specs.Sums.{dims, total, allSent, allTaken, tally}
+use Rattle.node.specs.Sums.{dims, allSent, allTaken, tally}
 use Rattle.node.specs.State.{valid}
 use Rattle.node.specs.declared.Node.{Node}
 use Rattle.node.proofs.Valid.{Valid, valid-known}
-use Rattle.calls.specs.Survey.{surveyed}
-use Rattle.calls.specs.declared.Survey.{Survey}
+use Rattle.survey.specs.Survey.{surveyed}
+use Rattle.survey.specs.declared.Survey.{Survey}
 
 pub surveyed-ok : (L : Limits) (n : Node) → surveyed L n .ok ≡ valid L n
 unfolding surveyed
@@ -47,12 +44,3 @@ module _ (L : Limits) (n : Node) (s : Survey) (r : s ≡ surveyed L n) where
         sends = ap (λ (x : Survey). x .sends .0) z;
         takes = ap (λ (x : Survey). x .takes .0) z;
       }
-
--- each number of a sum is at most the sum
-pub part-below : (f : ℕ → ℕ) (p m : ℕ) → m < p → f m ≤ total f p
-part-below f zero m h = absurd (omega arith)
-part-below f (suc p) m h = go (part-below f p m) (ℕ-discrete m p)
-  where
-    go : (m < p → f m ≤ total f p) → Dec (m ≡ p) → f m ≤ total f (suc p)
-    go r (yes e) = let z : f m ≡ f p = ap f e in omega arith
-    go r (no e) = let z = r (omega arith) in omega arith

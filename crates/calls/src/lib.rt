@@ -12,7 +12,6 @@ ghost use Rattle.node.specs.Change.{noNode};
 ghost use Rattle.node.specs.Answers.{replied};
 ghost use Rattle.node.specs.Calls.{refusal, fresh, send, take, idle, frameIn};
 ghost use Rattle.node.specs.Calls.{stepNumber, firstOf, secondOf, gotten, isAwaited};
-ghost use Rattle.calls.specs.Survey.{surveyed};
 use frame::Frame;
 use frame::Outcome;
 use frame::Sent;
@@ -25,48 +24,6 @@ use node::Reply;
 use node::Stored;
 use tree::Found;
 use tree::Placed;
-
-pub struct Sums {
-    pub sent: [Sent; 8],
-    pub taken: [Taken; 8],
-    // total sent and total taken
-    pub issued: Sent,
-    pub received: Taken,
-}
-
-// What is known of a state. Where it does not pass the test, all else is 0.
-pub struct Survey {
-    pub ok: bool,
-    // p
-    pub dims: u32,
-    // the node's own total sent and total taken
-    pub sends: Sent,
-    pub takes: Taken,
-    // the own sums for the node's dimension in pass 1, and in pass 2
-    pub own: Sums,
-    pub issued: Sent,
-    // total taken, with the stored frames of all dimensions of pass 1
-    pub total: u32,
-}
-
-pub fn survey_of(n: Node) -> Survey
-    ensures { λ r. ⌜ r ≡ surveyed base n ⌝ }
-{
-    Survey {
-        ok: true,
-        dims: 1,
-        sends: Sent(0),
-        takes: Taken(0),
-        own: Sums {
-            sent: [Sent(0); 8],
-            taken: [Taken(0); 8],
-            issued: Sent(0),
-            received: Taken(0),
-        },
-        issued: Sent(0),
-        total: 0,
-    }
-}
 
 // The refusal of a call, by its number, and the state that the call got.
 fn refuse(n: Node, no: u8) -> Reply
@@ -148,7 +105,7 @@ fn shell_of(nodes: u32, number: u32, other: u32) -> usize
 pub fn send_to(n: Node, to: u32) -> Reply
     ensures { λ r. ⌜ replied r ≡ send base n to ⌝ }
 {
-    let s = survey_of(n);
+    let s = survey::survey_of(n);
     if !s.ok {
         return refuse(n, 13);
     }
@@ -181,7 +138,7 @@ pub fn send_to(n: Node, to: u32) -> Reply
 pub fn take_from(n: Node, from: u32, phase: u8) -> Reply
     ensures { λ r. ⌜ replied r ≡ take base n from phase ⌝ }
 {
-    let s = survey_of(n);
+    let s = survey::survey_of(n);
     if !s.ok {
         return refuse(n, 13);
     }
@@ -223,7 +180,7 @@ pub fn take_from(n: Node, from: u32, phase: u8) -> Reply
 pub fn go_idle(n: Node) -> Reply
     ensures { λ r. ⌜ replied r ≡ idle base n ⌝ }
 {
-    let s = survey_of(n);
+    let s = survey::survey_of(n);
     if !s.ok {
         return refuse(n, 13);
     }
@@ -317,7 +274,7 @@ fn store(n: Node, p: u32, f: Frame) -> Node
 pub fn frame_in(n: Node, bytes: &[u8]) -> Reply
     ensures { λ r. ⌜ replied r ≡ frameIn base n (now (bytes .entry)) ⌝ }
 {
-    let s = survey_of(n);
+    let s = survey::survey_of(n);
     if !s.ok {
         return refuse(n, 13);
     }

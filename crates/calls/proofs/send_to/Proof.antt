@@ -12,7 +12,8 @@ use Rattle.node.specs.Answers.{give, done}
 use Rattle.node.specs.Calls.{oneSent}
 use Rattle.node.specs.declared.Node.{Node}
 use Rattle.node.proofs.Ways.{send-refuses, send-does}
-use Rattle.calls.proofs.Known.{Known, failed, passed, part-below}
+use Rattle.survey.proofs.Lists.{total-has}
+use Rattle.calls.proofs.Known.{Known, failed, passed}
 use Rattle.calls.proofs.send_to.Statement.{statement}
 use Rattle.calls.proofs.send_to.Tie as tie
 
@@ -80,7 +81,7 @@ add-more c =
     let m = c .before .before in
     let r = room (m .before) in
     let n = node (m .before) in
-    omega (arith, part-below (sentAt (n .sent)) (dims n) _ (m .shell-of .ensures .1))
+    omega (arith, total-has (sentAt (n .sent)) (dims n) _ (m .shell-of .ensures .1))
 
 returns-6 : tie.Need-returns-6
 returns-6 c =

@@ -16,7 +16,8 @@ use Rattle.node.specs.Answers.{give, done}
 use Rattle.node.specs.Calls.{refusal, isEarly, isForeignWork, woken, take}
 use Rattle.node.specs.declared.Node.{Node}
 use Rattle.node.proofs.Ways.{takeChecks, take-refuses}
-use Rattle.calls.proofs.Known.{Known, failed, passed, part-below}
+use Rattle.survey.proofs.Lists.{total-has}
+use Rattle.calls.proofs.Known.{Known, failed, passed}
 use Rattle.calls.proofs.take_from.Statement.{statement}
 use Rattle.calls.proofs.take_from.Tie as tie
 
@@ -112,7 +113,7 @@ add-more c =
     let m = c .before .before in
     let r = room (m .before) in
     let n = node (m .before) in
-    omega (arith, part-below (takenAt (n .taken)) (dims n) _ (m .shell-of .ensures .1))
+    omega (arith, total-has (takenAt (n .taken)) (dims n) _ (m .shell-of .ensures .1))
 
 returns-8 : tie.Need-returns-8
 unfolding take
