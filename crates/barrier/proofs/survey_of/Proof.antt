@@ -1,0 +1,11 @@
+use Rattle.barrier.proofs.survey_of.Statement.{statement}
+use Rattle.barrier.proofs.survey_of.Tie as tie
+use Rattle.barrier.proofs.survey_of.Reads as reads
+use Rattle.barrier.proofs.survey_of.Lts as lts
+
+-- src/lib.rt:67:1
+returns : tie.Need-returns
+returns c = ?
+
+pub survey-of-spec : {M : Type 1} → statement M
+survey-of-spec = tie.close (tie.spec returns)

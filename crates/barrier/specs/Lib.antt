@@ -1,0 +1,2 @@
+pub mod Standin
+pub mod Pieces
