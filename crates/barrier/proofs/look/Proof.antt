@@ -1,33 +1,33 @@
+-- `look` answers `lookTurn`.
 use borrow.Author.Needs.{needs}
+use borrow.Author.Tests.{eq-eqb, ne-eqb}
+use mathlib.Core.Path.{sym, ap, _∙_}
+use Rattle.base.proofs.Laws.{choose-yes, choose-no}
+use Rattle.barrier.specs.Pieces.{lookTurn, byVerdict}
 use Rattle.barrier.proofs.look.Statement.{statement}
 use Rattle.barrier.proofs.look.Tie as tie
 use Rattle.barrier.proofs.look.Reads as reads
 use Rattle.barrier.proofs.look.Lts as lts
 use Rattle.barrier.proofs.onward.Reads as onward-reads
 
--- src/lib.rt:272:9
 returns : tie.Need-returns
-returns c = ?
+unfolding lookTurn
+returns c = sym (choose-yes _ _ (eq-eqb _ _ (c .if1 .taken)))
 
--- src/lib.rt:275:28
-enum-told : tie.Need-enum-told
-enum-told c = search needs
-
--- src/lib.rt:275:28
-onward-requires : tie.Need-onward-requires
-onward-requires c κs = search needs
-
--- src/lib.rt:276:24
-enum-known-v : tie.Need-enum-known-v
-enum-known-v c = search needs
-
--- src/lib.rt:267:1
 returns-2 : tie.Need-returns-2
-returns-2 c = ?
+unfolding lookTurn
+returns-2 c =
+    let e = c .before .before .before in
+    c .onward .ensures
+    ∙ sym (choose-no _ _ (ne-eqb _ _ (e .if1 .left)) ∙ ap (byVerdict _) (c .before .enum-told .given .1))
 
--- src/lib.rt:267:1
 returns-3 : tie.Need-returns-3
-returns-3 c = ?
+unfolding lookTurn
+returns-3 c =
+    let e = c .before .before .before in
+    sym (choose-no _ _ (ne-eqb _ _ (e .if1 .left)) ∙ ap (byVerdict _) (c .before .v .given .1))
 
 pub look-spec : {M : Type 1} → statement M
-look-spec = tie.close (tie.spec returns enum-told onward-requires enum-known-v returns-2 returns-3)
+look-spec =
+    tie.close
+    (tie.spec returns (λ c. search needs) (λ c κs. search needs) (λ c. search needs) returns-2 returns-3)

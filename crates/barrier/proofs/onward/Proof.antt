@@ -1,28 +1,28 @@
+-- `onward` answers `onwardTurn`.
 use borrow.Author.Needs.{needs}
+use borrow.Author.Tests.{lt-ltb, le-ltb, eq-eqb, ne-eqb}
+use native.Mathlib.Numerals.{add-one}
+use mathlib.Core.Path.{sym, _∙_}
+use Rattle.base.proofs.Laws.{choose-yes, choose-no}
+use Rattle.barrier.specs.Pieces.{onwardTurn}
 use Rattle.barrier.proofs.onward.Statement.{statement}
 use Rattle.barrier.proofs.onward.Tie as tie
 use Rattle.barrier.proofs.onward.Reads as reads
 use Rattle.barrier.proofs.onward.Lts as lts
 
--- src/lib.rt:257:8
-add-if1 : tie.Need-add-if1
-add-if1 c = search needs
-
--- src/lib.rt:258:34
-add-t9 : tie.Need-add-t9
-add-t9 c = search needs
-
--- src/lib.rt:258:9
 returns : tie.Need-returns
-returns c = ?
+unfolding onwardTurn
+returns c = rw add-one (sym (choose-yes _ _ (lt-ltb _ _ (rw add-one at (c .if1 .taken)))))
 
--- src/lib.rt:261:9
 returns-2 : tie.Need-returns-2
-returns-2 c = ?
+unfolding onwardTurn
+returns-2 c =
+    sym (choose-no _ _ (le-ltb _ _ (rw add-one at (c .before .if1 .left))) ∙ choose-yes _ _ (eq-eqb _ _ (c .if2 .taken)))
 
--- src/lib.rt:253:1
 returns-3 : tie.Need-returns-3
-returns-3 c = ?
+unfolding onwardTurn
+returns-3 c =
+    sym (choose-no _ _ (le-ltb _ _ (rw add-one at (c .before .if1 .left))) ∙ choose-no _ _ (ne-eqb _ _ (c .if2 .left)))
 
 pub onward-spec : {M : Type 1} → statement M
-onward-spec = tie.close (tie.spec add-if1 add-t9 returns returns-2 returns-3)
+onward-spec = tie.close (tie.spec (λ c. search needs) (λ c. search needs) returns returns-2 returns-3)

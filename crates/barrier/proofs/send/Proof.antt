@@ -1,46 +1,30 @@
+-- `send` answers `sendTurn` and leaves what `frame::write` leaves.
 use borrow.Author.Needs.{needs}
+use mathlib.Core.Path.{sym, ap, _∙_}
+use Rattle.tree.specs.Lookups.{foundAnswer}
+use Rattle.barrier.specs.Pieces.{sentTurn, sendTurn}
 use Rattle.barrier.proofs.send.Statement.{statement}
 use Rattle.barrier.proofs.send.Tie as tie
 use Rattle.barrier.proofs.send.Reads as reads
 use Rattle.barrier.proofs.send.Lts as lts
 use Rattle.frame.proofs.write.Reads as write-reads
 
--- src/lib.rt:229:9
-write-requires : tie.Need-write-requires
-write-requires c κs = search needs
-
--- src/lib.rt:231:19
-enum-known-found : tie.Need-enum-known-found
-enum-known-found c = search needs
-
--- src/lib.rt:232:24
-enum-known-found-2 : tie.Need-enum-known-found-2
-enum-known-found-2 c = search needs
-
--- src/lib.rt:225:1
-same-length : tie.Need-same-length
-same-length c = search needs
-
--- src/lib.rt:225:1
 returns : tie.Need-returns
-returns c = ?
+unfolding sendTurn
+returns c =
+    let w = c .before .before .before .before .before in
+    let e = sym (ap foundAnswer (c .before .found .given .1)) ∙ w .write .ensures .0 in
+    (ap (sentTurn _) e, w .write .ensures .1)
 
--- src/lib.rt:225:1
-same-length-2 : tie.Need-same-length-2
-same-length-2 c = search needs
-
--- src/lib.rt:225:1
 returns-2 : tie.Need-returns-2
-returns-2 c = ?
+unfolding sendTurn
+returns-2 c =
+    let w = c .before .before .before .before .before in
+    let e = sym (ap foundAnswer (c .before .found2 .given .1)) ∙ w .write .ensures .0 in
+    (ap (sentTurn _) e, w .write .ensures .1)
 
 pub send-spec : {M : Type 1} → statement M
 send-spec =
     tie.close
-    (tie.spec
-    write-requires
-    enum-known-found
-    enum-known-found-2
-    same-length
-    returns
-    same-length-2
+    (tie.spec (λ c κs. search needs) (λ c. search needs) (λ c. search needs) (λ c. search needs) returns (λ c. search needs)
     returns-2)

@@ -1,62 +1,35 @@
+-- `taken_within`: before shell m is set, the sums are those of shells k to m - 1.
+use borrow.Author.Needs.{needs}
+use native.Mathlib.Omega.{arith}
+use mathlib.Core.Path.{_≡_}
+use Prim.Native.Nat.{_≤_, _-_}
+use Rattle.frame.specs.Frame.{takenNumber, takenAt}
+use Rattle.barrier.specs.Pieces.{within}
+use Rattle.barrier.proofs.Within.{within-none, within-more}
 use Rattle.barrier.proofs.taken_within.Statement.{statement}
 use Rattle.barrier.proofs.taken_within.Tie as tie
 use Rattle.barrier.proofs.taken_within.Reads as reads
 use Rattle.barrier.proofs.taken_within.Lts as lts
 
 abbrev Inv-loop : tie.InvT-loop
-Inv-loop p k l out₀ m₀ out m = ?
+Inv-loop p k l out₀ m₀ out m = (k ≤ m) × (m ≤ p) × (out ≡ within takenNumber (takenAt l) m k)
 
 abbrev μ-loop : tie.MeasureT-loop
-μ-loop p k l out₀ m₀ out m = ?
+μ-loop p k l out₀ m₀ out m = p - m
 
--- src/lib.rt:154:5
 loop-holds : tie.Need-loop-holds Inv-loop μ-loop
-loop-holds c = ?
+loop-holds c = (search needs, search needs, within-none takenNumber _ _)
 
--- src/lib.rt:155:17
-mul-x : tie.Need-mul-x Inv-loop μ-loop
-mul-x c = ?
-
--- src/lib.rt:155:17
-array-copy-out-x : tie.Need-array-copy-out-x Inv-loop μ-loop
-array-copy-out-x c = ?
-
--- src/lib.rt:156:9
-mul-out : tie.Need-mul-out Inv-loop μ-loop
-mul-out c = ?
-
--- src/lib.rt:156:9
-array-set-from-out : tie.Need-array-set-from-out Inv-loop μ-loop
-array-set-from-out c = ?
-
--- src/lib.rt:154:9
-add-m : tie.Need-add-m Inv-loop μ-loop
-add-m c = ?
-
--- src/lib.rt:154:5
-loop-less : tie.Need-loop-less Inv-loop μ-loop
-loop-less c = ?
-
--- src/lib.rt:154:5
 loop-again : tie.Need-loop-again Inv-loop μ-loop
-loop-again c = ?
+loop-again c =
+    let b = c .before .before in
+    (search needs, search needs, within-more takenNumber _ _ _ _ (b .loop .inv .0) (omega arith) (b .loop .inv .2))
 
--- src/lib.rt:149:1
 returns : tie.Need-returns Inv-loop μ-loop
-returns c = ?
+returns c = let e : c .before .loop .m ≡ c .before .before .args .p = omega arith in cc
 
 pub taken-within-spec : {M : Type 1} → statement M
 taken-within-spec =
     tie.close
-    (tie.spec
-    Inv-loop
-    μ-loop
-    loop-holds
-    mul-x
-    array-copy-out-x
-    mul-out
-    array-set-from-out
-    add-m
-    loop-less
-    loop-again
-    returns)
+    (tie.spec Inv-loop μ-loop loop-holds (λ c. search needs) (λ c. search needs) (λ c. search needs) (λ c. search needs)
+    (λ c. search needs) (λ c. search needs) loop-again returns)

@@ -1,4 +1,10 @@
+-- `verdict_on` gives a verdict on the clauses of the step.
 use borrow.Author.Needs.{needs}
+use borrow.Author.Tests.{eq-eqb, ne-eqb}
+use mathlib.Core.Path.{sym, ap, _∙_}
+use Rattle.base.proofs.Laws.{choose-yes, choose-no}
+use Rattle.barrier.specs.Standin.{isVerdict}
+use Rattle.barrier.specs.Pieces.{clausesOf}
 use Rattle.barrier.proofs.verdict_on.Statement.{statement}
 use Rattle.barrier.proofs.verdict_on.Tie as tie
 use Rattle.barrier.proofs.verdict_on.Reads as reads
@@ -6,26 +12,22 @@ use Rattle.barrier.proofs.verdict_on.Lts as lts
 use Rattle.barrier.proofs.first_verdict.Reads as first-verdict-reads
 use Rattle.barrier.proofs.second_verdict.Reads as second-verdict-reads
 
--- src/lib.rt:241:9
 returns : tie.Need-returns
-returns c = ?
+unfolding clausesOf
+returns c = rw (c .if1 .taken)
 
--- src/lib.rt:246:9
-first-verdict-requires : tie.Need-first-verdict-requires
-first-verdict-requires c κs = search needs
-
--- src/lib.rt:248:9
-second-verdict-requires : tie.Need-second-verdict-requires
-second-verdict-requires c κs = search needs
-
--- src/lib.rt:237:1
 returns-2 : tie.Need-returns-2
-returns-2 c = ?
+unfolding clausesOf
+returns-2 c =
+    let e = c .before .before .before .before in
+    rw (e .if1 .left, eq-eqb _ _ (c .before .if2 .taken)) (c .first-verdict .ensures)
 
--- src/lib.rt:237:1
 returns-3 : tie.Need-returns-3
-returns-3 c = ?
+unfolding clausesOf
+returns-3 c =
+    let e = c .before .before .before .before in
+    rw (e .if1 .left, ne-eqb _ _ (c .before .if2 .left)) (c .second-verdict .ensures)
 
 pub verdict-on-spec : {M : Type 1} → statement M
 verdict-on-spec =
-    tie.close (tie.spec returns first-verdict-requires second-verdict-requires returns-2 returns-3)
+    tie.close (tie.spec returns (λ c κs. search needs) (λ c κs. search needs) returns-2 returns-3)

@@ -1,75 +1,38 @@
+-- `whom_of` names those to whom a node at a place sends.
 use borrow.Author.Needs.{needs}
+use mathlib.Core.Path.{_≡_, refl, sym, ap, subst}
+use mathlib.Core.List.{List·Memᴰ, List·Memᴰ·head, List·Memᴰ·tail}
+use Prim.Native.Nat.{ℕ, _<_}
+use Rattle.tree.specs.declared.Placed.{Placed}
+use Rattle.tree.specs.Lookups.{placedAnswer}
+use Rattle.barrier.specs.Pieces.{toWhom}
 use Rattle.barrier.proofs.whom_of.Statement.{statement}
 use Rattle.barrier.proofs.whom_of.Tie as tie
 use Rattle.barrier.proofs.whom_of.Reads as reads
 use Rattle.barrier.proofs.whom_of.Lts as lts
 
--- src/lib.rt:99:27
-enum-known-placed : tie.Need-enum-known-placed
-enum-known-placed c = search needs
+-- who is named at a place that is told apart is one byte
+told : (c : tie.Start) {q : Placed} {b : ℕ} → c .args .placed ≡ q → List·Memᴰ b (toWhom (placedAnswer q)) → b < 256
+told c {b = b} e m = c .pre b (subst (λ p. List·Memᴰ b (toWhom (placedAnswer p))) (sym e) m)
 
--- src/lib.rt:100:20
 cast-t6 : tie.Need-cast-t6
-cast-t6 c = ?
+cast-t6 c = record { fits = told (c .before .before .before) (c .before .placed .given .1) (List·Memᴰ·head refl) }
 
--- src/lib.rt:103:27
-enum-known-placed-2 : tie.Need-enum-known-placed-2
-enum-known-placed-2 c = search needs
-
--- src/lib.rt:104:20
 cast-t9 : tie.Need-cast-t9
-cast-t9 c = ?
+cast-t9 c = record { fits = told (c .before .before .before) (c .before .placed2 .given .1) (List·Memᴰ·head refl) }
 
--- src/lib.rt:105:32
 cast-t10 : tie.Need-cast-t10
-cast-t10 c = ?
+cast-t10 c =
+    record { fits = told (c .before .before .before) (c .before .placed2 .given .1) (List·Memᴰ·tail (List·Memᴰ·head refl)) }
 
--- src/lib.rt:107:26
-enum-told : tie.Need-enum-told
-enum-told c = search needs
-
--- src/lib.rt:108:30
-enum-told-2 : tie.Need-enum-told-2
-enum-told-2 c = search needs
-
--- src/lib.rt:109:31
-enum-told-3 : tie.Need-enum-told-3
-enum-told-3 c = search needs
-
--- src/lib.rt:94:1
 returns : tie.Need-returns
-returns c = ?
+returns c = sym (ap (λ p. toWhom (placedAnswer p)) (c .before .placed .given .1))
 
--- src/lib.rt:94:1
 returns-2 : tie.Need-returns-2
-returns-2 c = ?
-
--- src/lib.rt:94:1
-returns-3 : tie.Need-returns-3
-returns-3 c = search needs
-
--- src/lib.rt:94:1
-returns-4 : tie.Need-returns-4
-returns-4 c = search needs
-
--- src/lib.rt:94:1
-returns-5 : tie.Need-returns-5
-returns-5 c = search needs
+returns-2 c = sym (ap (λ p. toWhom (placedAnswer p)) (c .before .placed2 .given .1))
 
 pub whom-of-spec : {M : Type 1} → statement M
 whom-of-spec =
     tie.close
-    (tie.spec
-    enum-known-placed
-    cast-t6
-    enum-known-placed-2
-    cast-t9
-    cast-t10
-    enum-told
-    enum-told-2
-    enum-told-3
-    returns
-    returns-2
-    returns-3
-    returns-4
-    returns-5)
+    (tie.spec (λ c. search needs) cast-t6 (λ c. search needs) cast-t9 cast-t10 (λ c. search needs) (λ c. search needs)
+    (λ c. search needs) returns returns-2 (λ c. search needs) (λ c. search needs) (λ c. search needs))
