@@ -13,7 +13,7 @@ use Rattle.barrier.proofs.second_due.Reads as second-due-reads
 
 returns : tie.Need-returns
 unfolding frameOf
-returns c = c .first-due .ensures ∙ sym (choose-yes _ _ (eq-eqb _ _ (c .before .if1 .taken)))
+returns c = c .first-due .ensures ∙ sym (choose-yes _ _ (eq-eqb _ _ (c .before .before .if1 .taken)))
 
 returns-2 : tie.Need-returns-2
 unfolding frameOf

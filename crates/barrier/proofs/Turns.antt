@@ -1,0 +1,129 @@
+-- Laws of turns: the reply to a turn is the definition's, with a clause that may be named and the lent bytes.
+use mathlib.Core.Path.{_≡_, refl, sym, ap, _∙_}
+use mathlib.Core.Bool.{Bool, true, false, not}
+use mathlib.Core.List.{List, [], _∷_}
+use Prim.Native.Nat.{ℕ, zero, suc}
+use lib.Dec.{ltb, eqb}
+use lib.ListN.{length, getD}
+use borrow.Author.Tests.{not-true}
+use Rattle.base.specs.Choice.{choose, both}
+use Rattle.base.specs.Limits.{base}
+use Rattle.base.proofs.Laws.{Stops, clash, choose-yes, choose-no, cases}
+use Rattle.node.specs.Sums.{dims, allTaken, own}
+use Rattle.node.specs.Agree.{isAlone, clauses, allHold, agrees, mayName}
+use Rattle.node.specs.State.{valid}
+use Rattle.node.specs.Answers.{barrierOf, barrierReplied}
+use Rattle.node.specs.Barrier.{moving, looking, barrier, clauseFails, lentAfter, barrierBytes}
+use Rattle.node.specs.declared.Node.{Node}
+use Rattle.node.specs.declared.BarrierReply.{BarrierReply}
+use Rattle.node.proofs.Ways.{callChecks, NoneDue, call-refuses, call-looks}
+use Rattle.barrier.specs.Standin.{isVerdict}
+use Rattle.barrier.specs.Pieces.{byVerdict, onwardTurn, lookTurn, turnedBy}
+use Rattle.barrier.specs.declared.Verdict.{Verdict}
+use Rattle.barrier.specs.declared.Verdict.the-variants.{Agrees, Fails}
+use Rattle.barrier.specs.declared.Turn.{Turn}
+use Rattle.barrier.specs.declared.Turn.the-variants.{Refuses, Moves, Leaves}
+
+-- what a call promises of its reply, and of lent bytes and what they were left as
+abbrev pub Answers : Node → List ℕ → List ℕ → BarrierReply → Type 0
+Answers n buf after r =
+    (barrierReplied r ≡ barrier base n (length buf))
+    × ((clauseFails base n (r .answer) ≡ true) × (after ≡ barrierBytes base n buf))
+
+pub answers : (n : Node) (buf after : List ℕ) (r : BarrierReply) → barrierReplied r ≡ barrier base n (length buf)
+    → clauseFails base n (r .answer) ≡ true → after ≡ lentAfter n buf (barrierOf (r .answer)) → Answers n buf after r
+unfolding barrierBytes
+answers n buf after r e f g = (e, (f, g ∙ ap (λ x. lentAfter n buf (x .answer)) e))
+
+pub refuses : (n : Node) (buf : List ℕ) {x : ℕ} → Stops (callChecks base n (length buf)) x
+    → Answers n buf buf (turnedBy n (Refuses x))
+refuses n buf {x} s = answers n buf buf (turnedBy n (Refuses x)) (sym (call-refuses base n (length buf) s)) refl refl
+
+-- ---- verdicts
+
+-- where a clause may be named, not all hold
+not-all : (cs : List Bool) (c : ℕ) → getD cs c true ≡ false → allHold cs ≡ false
+not-all [] c e = clash e
+not-all (b ∷ cs) zero e = rw e
+not-all (true ∷ cs) (suc c) e = not-all cs c e
+not-all (false ∷ cs) (suc c) e = refl
+
+named-fails : (cs : List Bool) (c : ℕ) → mayName cs c ≡ true → allHold cs ≡ false
+unfolding mayName
+named-fails cs c e = go (getD cs 0 true) refl e
+  where
+    go : (t : Bool) → getD cs 0 true ≡ t → choose t (not (getD cs c true)) (eqb c 0) ≡ true → allHold cs ≡ false
+    go true f q = not-all cs c (not-true _ q)
+    go false f q = not-all cs 0 f
+
+module _ (n : Node) where
+  abbrev here : List Bool
+  here = clauses base n (n .pass) (n .dim)
+
+  -- the clauses of the position's step, none if it is alone
+  abbrev pub tried : List Bool
+  tried = choose (isAlone n (n .dim)) [] here
+
+  abbrev agreed : Bool
+  agreed = agrees base n (n .pass) (n .dim)
+
+  said-yes : isVerdict tried Agrees ≡ true → agreed ≡ true
+  unfolding agrees
+  said-yes e = go (isAlone n (n .dim)) e
+    where
+      go : (t : Bool) → allHold (choose t [] here) ≡ true → choose t true (allHold here) ≡ true
+      go true q = refl
+      go false q = q
+
+  said-no : (c : ℕ) → isVerdict tried (Fails c) ≡ true → (agreed ≡ false) × (mayName here c ≡ true)
+  unfolding agrees mayName
+  said-no c e = go (isAlone n (n .dim)) e
+    where
+      go : (t : Bool) → mayName (choose t [] here) c ≡ true → (choose t true (allHold here) ≡ false) × (mayName here c ≡ true)
+      go true q = clash (sym q)
+      go false q = (named-fails here c q, q)
+
+  -- ---- a node that looks
+
+  module _ (buf : List ℕ) where
+    record Seen (t : Turn) : Type 0 where
+      reply : barrierReplied (turnedBy n t) ≡ looking base n
+      clause : clauseFails base n (turnedBy n t .answer) ≡ true
+      bytes : buf ≡ lentAfter n buf (barrierOf (turnedBy n t .answer))
+
+    abbrev onwards : Turn
+    onwards = onwardTurn (dims n) (n .pass) (n .dim) (n .agreed) (own n (dims n) allTaken)
+
+    onward-seen : eqb (dims n) 0 ≡ false → agreed ≡ true → Seen onwards
+    unfolding onwardTurn
+    onward-seen z g =
+        cases Seen (ltb (suc (n .dim)) (dims n)) _ _
+        (λ e. record { reply = sym (moves ∙ choose-yes _ _ e); clause = refl; bytes = refl })
+        (λ e.
+        cases Seen (eqb (n .pass) 1) _ _
+        (λ f. record { reply = sym (moves ∙ choose-no _ _ e ∙ choose-yes _ _ f); clause = refl; bytes = refl })
+        (λ f. record { reply = sym (moves ∙ choose-no _ _ e ∙ choose-no _ _ f); clause = refl; bytes = refl }))
+      where
+        moves : looking base n ≡ moving n
+        moves = choose-no _ _ z ∙ choose-yes _ _ g
+
+    by-verdict : eqb (dims n) 0 ≡ false → (v : Verdict) → isVerdict tried v ≡ true → Seen (byVerdict onwards v)
+    by-verdict z Agrees e = onward-seen z (said-yes e)
+    by-verdict z (Fails c) e =
+        let q = said-no c e in
+        record { reply = sym (choose-no _ _ z ∙ choose-no _ _ (q .0)); clause = q .1; bytes = refl }
+
+    seen : (v : Verdict) → isVerdict tried v ≡ true
+        → Seen (lookTurn v (dims n) (n .pass) (n .dim) (n .agreed) (own n (dims n) allTaken))
+    unfolding lookTurn
+    seen v e =
+        cases Seen (eqb (dims n) 0) Leaves (byVerdict onwards v)
+        (λ z. record { reply = sym (choose-yes _ _ z); clause = refl; bytes = refl }) (λ z. by-verdict z v e)
+
+    pub looks : valid base n ≡ true → n .busy ≡ false → NoneDue base n → (v : Verdict) → isVerdict tried v ≡ true
+        → Answers n buf buf
+        (turnedBy n (lookTurn v (dims n) (n .pass) (n .dim) (n .agreed) (own n (dims n) allTaken)))
+    looks ok b d v e =
+        let t : Turn = lookTurn v (dims n) (n .pass) (n .dim) (n .agreed) (own n (dims n) allTaken) in
+        let s = seen v e in
+        answers n buf buf (turnedBy n t) (s .reply ∙ sym (call-looks base n (length buf) ok b d)) (s .clause) (s .bytes)
