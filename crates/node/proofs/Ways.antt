@@ -8,12 +8,12 @@ use mathlib.Core.List.{List, [], _∷_, _++_}
 use Prim.Native.Nat.{ℕ, suc, _≤_, _<_}
 use native.Mathlib.Omega.{arith}
 use lib.Dec.{ltb, leb, eqb}
-use borrow.Author.Tests.{leb-false, ltb-true, ltb-false, eqb-true, eqb-false, not-true, not-false}
+use borrow.Author.Tests.{leb-false, ltb-true, ltb-false, eqb-true, eqb-false, not-false}
 use borrow.Author.Tests.{le-ltb, lt-leb, eq-eqb, ne-eqb}
 use Rattle.base.specs.Choice.{choose, both}
 use Rattle.base.specs.Limits.{Limits, takenLimit}
 use Rattle.base.specs.Refusal.{Refusal, refused as unread, found, Check, when}
-use Rattle.base.proofs.Laws.{clash, choose-yes, choose-no, cases, both-true}
+use Rattle.base.proofs.Laws.{clash, choose-yes, choose-no, cases}
 use Rattle.base.proofs.Laws.{Passes, Stops, order-passes, order-stops, order-cases}
 use Rattle.tree.specs.Tree.{awaited, distance}
 use Rattle.tree.specs.Lookups.{badBoard}
@@ -26,7 +26,7 @@ use Rattle.frame.proofs.RoundTripChecks.{checks-known}
 use Rattle.frame.proofs.RoundTripAccepted.{Read, read-known, read-good}
 use Rattle.node.specs.Sums.{dims, allSent, allTaken, tally, own}
 use Rattle.node.specs.Agree.{agrees}
-use Rattle.node.specs.State.{boardOk, valid}
+use Rattle.node.specs.State.{valid}
 use Rattle.node.specs.Change.{withBusy, at, freshIn, noNode}
 use Rattle.node.specs.Answers.{Given, give, Outcome, Barrier}
 use Rattle.node.specs.Answers.{dropped, moved, barred}
@@ -35,6 +35,7 @@ use Rattle.node.specs.Calls.{gotten, isAwaited, byTiming, frameIn}
 use Rattle.node.specs.Barrier.{lengthDue, receiversDue, isEmpty, isDue}
 use Rattle.node.specs.Barrier.{sending, leaving, waiting, looking, barrier}
 use Rattle.node.specs.declared.Node.{Node}
+use Rattle.node.proofs.Valid.{valid-known}
 
 -- ---- the phase difference
 
@@ -242,10 +243,6 @@ module _ (L : Limits) (n : Node) where
   is-awaited none a e = clash (sym e)
   is-awaited (some w) a e = ap some (eqb-true w a e)
 
-  board-of : valid L n ≡ true → badBoard L (n .nodes) ≡ false
-  unfolding valid boardOk
-  board-of e = not-true _ (both-true (not (badBoard L (n .nodes))) _ (both-true (boardOk L n) _ e .0) .0)
-
   -- the checks of the reader, which is given P
   readAll : List ℕ → List Check
   readAll bs = when (badBoard L (n .nodes)) Refusal.board ∷ readChecks L (n .nodes) bs
@@ -261,7 +258,7 @@ module _ (L : Limits) (n : Node) where
         read =
             read-known L (n .nodes) bs (frameOf bs)
             (order-passes unread (readAll bs) (found (frameOf bs))
-            (board-of v, (r .0, (r .1 .0, (r .1 .1 .0, (r .1 .1 .1 .0, (r .1 .1 .1 .1 .0, tt)))))));
+            (valid-known L n v .board, (r .0, (r .1 .0, (r .1 .1 .0, (r .1 .1 .1 .0, (r .1 .1 .1 .1 .0, tt)))))));
         other = eqb-false _ _ (s .0);
         awaits = is-awaited _ _ (not-false _ (s .1 .0));
       }
