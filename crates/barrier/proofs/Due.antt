@@ -106,5 +106,5 @@ module _ (n : Node) (s : Survey) (t : Told n s) (few : dims n ≤ 8) where
   clauses-are true h = refl
   clauses-are false h =
       rw (t .shells, t .sums, t .sent)
-      (ap (λ cs. choose (eqb (n .pass) 1) cs (secondClauses base (dims n) (n .dim) _ (n .agreed) (secondAt n (n .dim))))
+      (ap (λ cs. choose (eqb (n .pass) 1) cs (secondClauses base (dims n) (n .dim) (ownIssued n (n .dim)) (n .agreed) (secondAt n (n .dim))))
       (sums-first n (dims n) (n .dim) (firstAt n (n .dim)) (h refl) few))

@@ -4,11 +4,13 @@ use mathlib.Core.Logic.{_⊎_, inl, inr}
 use mathlib.Core.Bool.{Bool, true, false}
 use mathlib.Core.List.{List, [], _∷_, List·Memᴰ}
 use Prim.Native.Nat.{ℕ, _^_, _≤_, _<_}
+use native.Mathlib.Decide.{ℕ-discrete}
 use native.Mathlib.Omega.{arith}
 use borrow.Author.Tests.{le-leb, lt-leb}
 use Rattle.base.specs.Choice.{choose}
 use Rattle.base.specs.Limits.{base}
 use Rattle.base.specs.Refusal.{Answered, refused, found}
+use Rattle.base.proofs.Laws.{clash}
 use Rattle.tree.specs.Tree.{smallestFrom, dimension, runBelow, runOf, Place, alone, placeIn, place, awaits, sendsTo, awaited, receivers}
 use Rattle.tree.specs.Lookups.{badBoard, placeLookup}
 use Rattle.tree.proofs.Dimension.{fits}
@@ -18,16 +20,15 @@ use Rattle.node.specs.Sums.{dims}
 use Rattle.node.specs.Agree.{isNone, isAlone}
 use Rattle.node.specs.Barrier.{receiversDue}
 use Rattle.node.specs.declared.Node.{Node}
-use Rattle.node.proofs.Ways.{NoneDue}
+use Rattle.node.proofs.Valid.{Valid}
 use Rattle.barrier.specs.Pieces.{toWhom, isLone}
-use Rattle.barrier.proofs.State.{Position, single, within, Stands}
 
 -- the node of a board of one is alone
 single-alone : place 1 0 0 ≡ alone
 unfolding smallestFrom dimension runBelow runOf placeIn place
 single-alone = refl
 
-module _ (n : Node) (h : Stands base n) where
+module _ (n : Node) (h : Valid base n) where
   abbrev looked : Answered Place
   looked = placeLookup base (n .nodes) (n .dim) (n .number)
 
@@ -36,7 +37,7 @@ module _ (n : Node) (h : Stands base n) where
     unfolding placeLookup
     there = rw (h .board, lt-leb (n .nodes) _ (h .number), lt-leb (dims n) _ d)
 
-  module _ (z : dims n ≡ 0) (d : n .dim ≡ 0) where
+  module _ (z : dims n ≡ 0) where
     nowhere : looked ≡ refused 10
     unfolding placeLookup
     nowhere = rw (h .board, lt-leb (n .nodes) _ (h .number), le-leb (dims n) (n .dim) (omega arith))
@@ -46,23 +47,43 @@ module _ (n : Node) (h : Stands base n) where
         let f : n .nodes ≤ 2 ^ 0 = rw z at (fits (n .nodes)) in
         let P : n .nodes ≡ 1 = omega (arith, board-good base (n .nodes) (h .board)) in
         let a : n .number ≡ 0 = omega (arith, h .number) in
-        rw (P, d, a) single-alone
+        rw (P, h .lone z .1, a) single-alone
 
   pub looked-whom : toWhom looked ≡ receiversDue n
   unfolding receivers
-  looked-whom = go (h .position)
+  looked-whom = go (ℕ-discrete (dims n) 0)
     where
-      go : Position n → toWhom looked ≡ receiversDue n
-      go (single z d) = ap toWhom (nowhere z d) ∙ ap sendsTo (sym (lone z d))
-      go (within q d) = ap toWhom (there d)
+      go : Dec (dims n ≡ 0) → toWhom looked ≡ receiversDue n
+      go (yes z) = ap toWhom (nowhere z) ∙ ap sendsTo (sym (lone z))
+      go (no z) = ap toWhom (there (h .dim (omega arith)))
 
   pub looked-alone : isLone looked ≡ isAlone n (n .dim)
   unfolding awaited
-  looked-alone = go (h .position)
+  looked-alone = go (ℕ-discrete (dims n) 0)
     where
-      go : Position n → isLone looked ≡ isAlone n (n .dim)
-      go (single z d) = ap isLone (nowhere z d) ∙ ap (λ p. isNone (awaits p)) (sym (lone z d))
-      go (within q d) = ap isLone (there d)
+      go : Dec (dims n ≡ 0) → isLone looked ≡ isAlone n (n .dim)
+      go (yes z) = ap isLone (nowhere z) ∙ ap (λ p. isNone (awaits p)) (sym (lone z))
+      go (no z) = ap isLone (there (h .dim (omega arith)))
+
+  -- a step that awaits a frame, or has receivers, is one of the node's dimensions
+  pub not-alone-low : isAlone n (n .dim) ≡ false → n .dim < dims n
+  unfolding awaited
+  not-alone-low e = go (ℕ-discrete (dims n) 0)
+    where
+      go : Dec (dims n ≡ 0) → n .dim < dims n
+      go (yes z) = clash (sym (ap (λ p. isNone (awaits p)) (lone z)) ∙ e)
+      go (no z) = h .dim (omega arith)
+
+  pub some-low : {a : ℕ} {r : List ℕ} → receiversDue n ≡ a ∷ r → n .dim < dims n
+  unfolding receivers
+  some-low {a} {r} e = go (ℕ-discrete (dims n) 0)
+    where
+      go : Dec (dims n ≡ 0) → n .dim < dims n
+      go (yes z) =
+          let f : _≡_ {A = List ℕ} [] (a ∷ r) = sym (ap sendsTo (lone z)) ∙ e in
+          let c : _≡_ {A = ℕ} 0 1 = cc in
+          absurd (omega arith)
+      go (no z) = h .dim (omega arith)
 
   -- a receiver's number is one byte
   pub receivers-low : (b : ℕ) → List·Memᴰ b (toWhom looked) → b < 256

@@ -2,18 +2,20 @@
 use mathlib.Core.Path.{_≡_, refl, sym, ap, _∙_}
 use mathlib.Core.Bool.{Bool, true, false, not}
 use mathlib.Core.List.{List, [], _∷_}
-use Prim.Native.Nat.{ℕ, zero, suc}
+use Prim.Native.Nat.{ℕ, zero, suc, _<_}
 use lib.Dec.{ltb, eqb}
 use lib.ListN.{length, getD}
-use borrow.Author.Tests.{not-true}
+use borrow.Author.Tests.{lt-ltb, not-true}
 use Rattle.base.specs.Choice.{choose, both}
 use Rattle.base.specs.Limits.{base}
-use Rattle.base.proofs.Laws.{Stops, clash, choose-yes, choose-no, cases}
+use Rattle.base.specs.Refusal.{Refusal, when}
+use Rattle.base.proofs.Laws.{Stops, here, later, clash, choose-yes, choose-no, cases, both-make}
 use Rattle.node.specs.Sums.{dims, allTaken, own}
 use Rattle.node.specs.Agree.{isAlone, clauses, allHold, agrees, mayName}
 use Rattle.node.specs.State.{valid}
 use Rattle.node.specs.Answers.{barrierOf, barrierReplied}
-use Rattle.node.specs.Barrier.{moving, looking, barrier, clauseFails, lentAfter, barrierBytes}
+use Rattle.node.specs.Calls.{badState}
+use Rattle.node.specs.Barrier.{lengthDue, isDue, moving, looking, barrier, clauseFails, lentAfter, barrierBytes}
 use Rattle.node.specs.declared.Node.{Node}
 use Rattle.node.specs.declared.BarrierReply.{BarrierReply}
 use Rattle.node.proofs.Ways.{callChecks, NoneDue, call-refuses, call-looks}
@@ -35,9 +37,27 @@ pub answers : (n : Node) (buf after : List ℕ) (r : BarrierReply) → barrierRe
 unfolding barrierBytes
 answers n buf after r e f g = (e, (f, g ∙ ap (λ x. lentAfter n buf (x .answer)) e))
 
-pub refuses : (n : Node) (buf : List ℕ) {x : ℕ} → Stops (callChecks base n (length buf)) x
-    → Answers n buf buf (turnedBy n (Refuses x))
-refuses n buf {x} s = answers n buf buf (turnedBy n (Refuses x)) (sym (call-refuses base n (length buf) s)) refl refl
+-- the same reply and bytes
+pub answers-same : (n : Node) (buf : List ℕ) {a b : List ℕ} {r s : BarrierReply} → a ≡ b → r ≡ s → Answers n buf b s
+    → Answers n buf a r
+answers-same n buf e f x = rw (e, f) x
+
+module _ (n : Node) (buf : List ℕ) where
+  refuses : {x : ℕ} → Stops (callChecks base n (length buf)) x → Answers n buf buf (turnedBy n (Refuses x))
+  refuses {x} s = answers n buf buf (turnedBy n (Refuses x)) (sym (call-refuses base n (length buf) s)) refl refl
+
+  pub refuses-state : valid base n ≡ false → Answers n buf buf (turnedBy n (Refuses 13))
+  refuses-state e = refuses (here {c = badState base n} (ap not e))
+
+  module _ (ok : valid base n ≡ true) where
+    pub refuses-busy : n .busy ≡ true → Answers n buf buf (turnedBy n (Refuses 12))
+    refuses-busy e = refuses (later (ap not ok) (here {c = when (n .busy) Refusal.working} e))
+
+    pub refuses-short : n .busy ≡ false → isDue n ≡ true → length buf < lengthDue n
+        → Answers n buf buf (turnedBy n (Refuses 14))
+    refuses-short b d l =
+        let short = when (both (isDue n) (ltb (length buf) (lengthDue n))) Refusal.buffer in
+        refuses (later (ap not ok) (later b (here {c = short} (both-make d (lt-ltb _ _ l)))))
 
 -- ---- verdicts
 
@@ -57,12 +77,12 @@ named-fails cs c e = go (getD cs 0 true) refl e
     go false f q = not-all cs 0 f
 
 module _ (n : Node) where
-  abbrev here : List Bool
-  here = clauses base n (n .pass) (n .dim)
+  abbrev tests : List Bool
+  tests = clauses base n (n .pass) (n .dim)
 
   -- the clauses of the position's step, none if it is alone
   abbrev pub tried : List Bool
-  tried = choose (isAlone n (n .dim)) [] here
+  tried = choose (isAlone n (n .dim)) [] tests
 
   abbrev agreed : Bool
   agreed = agrees base n (n .pass) (n .dim)
@@ -71,17 +91,17 @@ module _ (n : Node) where
   unfolding agrees
   said-yes e = go (isAlone n (n .dim)) e
     where
-      go : (t : Bool) → allHold (choose t [] here) ≡ true → choose t true (allHold here) ≡ true
+      go : (t : Bool) → allHold (choose t [] tests) ≡ true → choose t true (allHold tests) ≡ true
       go true q = refl
       go false q = q
 
-  said-no : (c : ℕ) → isVerdict tried (Fails c) ≡ true → (agreed ≡ false) × (mayName here c ≡ true)
+  said-no : (c : ℕ) → isVerdict tried (Fails c) ≡ true → (agreed ≡ false) × (mayName tests c ≡ true)
   unfolding agrees mayName
   said-no c e = go (isAlone n (n .dim)) e
     where
-      go : (t : Bool) → mayName (choose t [] here) c ≡ true → (choose t true (allHold here) ≡ false) × (mayName here c ≡ true)
+      go : (t : Bool) → mayName (choose t [] tests) c ≡ true → (choose t true (allHold tests) ≡ false) × (mayName tests c ≡ true)
       go true q = clash (sym q)
-      go false q = (named-fails here c q, q)
+      go false q = (named-fails tests c q, q)
 
   -- ---- a node that looks
 

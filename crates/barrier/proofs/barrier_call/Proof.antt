@@ -1,4 +1,28 @@
+-- `barrier_call` answers `barrier`: each turn is the definition's, by the survey of the state and the node's place.
 use borrow.Author.Needs.{needs}
+use borrow.Author.Tests.{not-true, not-false}
+use native.Mathlib.Omega.{arith}
+use mathlib.Core.Path.{_≡_, refl, sym, ap, _∙_, subst}
+use mathlib.Core.Bool.{true, false}
+use mathlib.Core.List.{List, [], _∷_, List·Memᴰ}
+use Prim.Native.Nat.{ℕ, _≤_, _<_}
+use lib.ListN.{length}
+use denote.Ref.{now}
+use Rattle.base.specs.Choice.{choose}
+use Rattle.base.specs.Limits.{base}
+use Rattle.node.specs.Sums.{dims}
+use Rattle.node.specs.State.{valid}
+use Rattle.node.specs.Answers.{also}
+use Rattle.node.specs.Barrier.{receiversDue}
+use Rattle.node.specs.declared.Node.{Node}
+use Rattle.node.specs.declared.Receivers.{Receivers}
+use Rattle.node.proofs.Valid.{Valid, valid-known, valid-width}
+use Rattle.barrier.specs.Pieces.{toWhom, whomList, lookTurn, sendTurn, turnedBy}
+use Rattle.barrier.specs.declared.Survey.{Survey}
+use Rattle.barrier.proofs.Turns.{answers-same, refuses-state, refuses-busy, looks}
+use Rattle.barrier.proofs.Placing.{looked-whom, looked-alone, not-alone-low, some-low, receivers-low, some-due, none-due}
+use Rattle.barrier.proofs.Due.{Told, survey-ok, survey-told, frame-is, clauses-are}
+use Rattle.barrier.proofs.Sending.{sends}
 use Rattle.barrier.proofs.barrier_call.Statement.{statement}
 use Rattle.barrier.proofs.barrier_call.Tie as tie
 use Rattle.barrier.proofs.barrier_call.Reads as reads
@@ -13,114 +37,117 @@ use Rattle.barrier.proofs.verdict_on.Reads as verdict-on-reads
 use Rattle.barrier.proofs.whom_due.Reads as whom-due-reads
 use Rattle.tree.proofs.place_of.Reads as place-of-reads
 
--- src/lib.rt:356:9
-survey-of-requires : tie.Need-survey-of-requires
-survey-of-requires c κs = search needs
+-- ---- what is handed, and its survey
 
--- src/lib.rt:358:9
-turned-requires : tie.Need-turned-requires
-turned-requires c κs = search needs
+abbrev node : tie.After-struct-known → Node
+node k = k .before .before .before .args .t1
 
--- src/lib.rt:358:9
+abbrev lent : tie.After-struct-known → List ℕ
+lent k = now (k .before .before .before .args .buf)
+
+abbrev survey : tie.After-struct-known → Survey
+survey k = k .before .survey-of .result
+
+tested : (k : tie.After-struct-known) → survey k .ok ≡ valid base (node k)
+tested k = survey-ok base (node k) (survey k) (k .before .survey-of .ensures)
+
 returns : tie.Need-returns
-returns c = ?
+returns c =
+    let k = c .before .before in
+    answers-same (node k) (lent k) refl (c .turned .ensures)
+    (refuses-state (node k) (lent k) (sym (tested k) ∙ not-true _ (c .before .if1 .taken)))
 
--- src/lib.rt:361:9
-turned-requires-2 : tie.Need-turned-requires-2
-turned-requires-2 c κs = search needs
+passed : (c : tie.Else1) → valid base (node (c .before)) ≡ true
+passed c = sym (tested (c .before)) ∙ not-false _ (c .if1 .left)
 
--- src/lib.rt:361:9
 returns-2 : tie.Need-returns-2
-returns-2 c = ?
+returns-2 c =
+    let e = c .before .before in
+    let k = e .before in
+    answers-same (node k) (lent k) refl (c .turned2 .ensures)
+    (refuses-busy (node k) (lent k) (passed e) (c .before .if2 .taken))
 
--- src/lib.rt:363:17
-cast-nodes : tie.Need-cast-nodes
-cast-nodes c = search needs
+-- ---- an idle node that passes the test
 
--- src/lib.rt:364:40
-cast-place-of : tie.Need-cast-place-of
-cast-place-of c = search needs
+abbrev idler : tie.Else2 → Node
+idler i = node (i .before .before)
 
--- src/lib.rt:364:54
-cast-place-of-2 : tie.Need-cast-place-of-2
-cast-place-of-2 c = search needs
+good : (i : tie.Else2) → Valid base (idler i)
+good i = valid-known base (idler i) (passed (i .before))
 
--- src/lib.rt:364:9
-place-of-requires : tie.Need-place-of-requires
-place-of-requires c κs = search needs
+told : (i : tie.Else2) → Told (idler i) (survey (i .before .before))
+told i =
+    let k = i .before .before in
+    survey-told base (node k) (survey k) (k .before .survey-of .ensures) (passed (i .before))
 
--- src/lib.rt:365:9
+few : (i : tie.Else2) → dims (idler i) ≤ 8
+few i = valid-width base (idler i) (omega arith) (good i)
+
 whom-due-requires : tie.Need-whom-due-requires
-whom-due-requires c κs = ?
+whom-due-requires c κs b m =
+    receivers-low (idler (c .before)) (good (c .before)) b
+    (subst (λ a. List·Memᴰ b (toWhom a)) (c .place-of .ensures) m)
 
--- src/lib.rt:366:21
-enum-known-whom : tie.Need-enum-known-whom
-enum-known-whom c = search needs
+-- those to whom a frame is due
+due : (w : tie.After-whom-due)
+    → let n = idler (w .before .before) in
+    whomList (w .whom-due .result) ≡ choose (n .flag) (receiversDue n) []
+due w =
+    let i = w .before .before in
+    let n = idler i in
+    w .whom-due .ensures
+    ∙ ap (λ l. choose (n .flag) l []) (ap toWhom (w .before .place-of .ensures) ∙ looked-whom n (good i))
 
--- src/lib.rt:367:13
+-- ---- somebody
+
+abbrev sender : tie.After-known-told → tie.Else2
+sender k = k .before .before .before .before .before
+
+abbrev to : tie.After-known-told → Receivers
+to k = k .before .whom .given .0 .0
+
+somebody : (k : tie.After-known-told)
+    → let n = idler (sender k) in
+    (n .flag ≡ true) × (receiversDue n ≡ to k .first ∷ also (to k .extra))
+somebody k =
+    let n = idler (sender k) in
+    some-due (n .flag) (receiversDue n) (sym (ap whomList (k .before .whom .given .1)) ∙ due (k .before .before .before))
+
+low : (k : tie.After-known-told) → let n = idler (sender k) in n .dim < dims n
+low k = some-low (idler (sender k)) (good (sender k)) (somebody k .1)
+
 frame-due-requires : tie.Need-frame-due-requires
-frame-due-requires c κs = ?
+frame-due-requires c κs =
+    let i = sender c in
+    let e = told i .shells in
+    (omega (arith, low c, e), omega (arith, few i, e))
 
--- src/lib.rt:368:13
-send-requires : tie.Need-send-requires
-send-requires c κs = search needs
-
--- src/lib.rt:369:9
-turned-requires-3 : tie.Need-turned-requires-3
-turned-requires-3 c κs = search needs
-
--- src/lib.rt:369:9
-same-length : tie.Need-same-length
-same-length c = search needs
-
--- src/lib.rt:369:9
 returns-3 : tie.Need-returns-3
 returns-3 c = ?
 
-enum-told : tie.Need-enum-told
-enum-told c = search needs
+-- ---- nobody
 
--- src/lib.rt:371:13
 cast-k : tie.Need-cast-k
 cast-k c = ?
 
--- src/lib.rt:372:17
 mul-first : tie.Need-mul-first
 mul-first c = ?
 
--- src/lib.rt:372:17
 element-copy-out-first : tie.Need-element-copy-out-first
 element-copy-out-first c = ?
 
--- src/lib.rt:373:18
 mul-second : tie.Need-mul-second
 mul-second c = ?
 
--- src/lib.rt:373:18
 element-copy-out-second : tie.Need-element-copy-out-second
 element-copy-out-second c = ?
 
--- src/lib.rt:374:24
-lone-at-requires : tie.Need-lone-at-requires
-lone-at-requires c κs = search needs
-
--- src/lib.rt:374:49
 cast-verdict-on : tie.Need-cast-verdict-on
 cast-verdict-on c = ?
 
--- src/lib.rt:374:9
-verdict-on-requires : tie.Need-verdict-on-requires
-verdict-on-requires c κs = search needs
-
--- src/lib.rt:375:9
 look-requires : tie.Need-look-requires
 look-requires c κs = ?
 
--- src/lib.rt:376:5
-turned-requires-4 : tie.Need-turned-requires-4
-turned-requires-4 c κs = search needs
-
--- src/lib.rt:351:1
 returns-4 : tie.Need-returns-4
 returns-4 c = ?
 
@@ -128,31 +155,31 @@ pub barrier-call-spec : {M : Type 1} → statement M
 barrier-call-spec =
     tie.close
     (tie.spec
-    survey-of-requires
-    turned-requires
+    (λ c κs. search needs)
+    (λ c κs. search needs)
     returns
-    turned-requires-2
+    (λ c κs. search needs)
     returns-2
-    cast-nodes
-    cast-place-of
-    cast-place-of-2
-    place-of-requires
+    (λ c. search needs)
+    (λ c. search needs)
+    (λ c. search needs)
+    (λ c κs. search needs)
     whom-due-requires
-    enum-known-whom
+    (λ c. search needs)
     frame-due-requires
-    send-requires
-    turned-requires-3
-    same-length
+    (λ c κs. search needs)
+    (λ c κs. search needs)
+    (λ c. search needs)
     returns-3
-    enum-told
+    (λ c. search needs)
     cast-k
     mul-first
     element-copy-out-first
     mul-second
     element-copy-out-second
-    lone-at-requires
+    (λ c κs. search needs)
     cast-verdict-on
-    verdict-on-requires
+    (λ c κs. search needs)
     look-requires
-    turned-requires-4
+    (λ c κs. search needs)
     returns-4)
