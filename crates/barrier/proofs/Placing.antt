@@ -20,7 +20,7 @@ use Rattle.node.specs.Sums.{dims}
 use Rattle.node.specs.Agree.{isNone, isAlone}
 use Rattle.node.specs.Barrier.{receiversDue}
 use Rattle.node.specs.declared.Node.{Node}
-use Rattle.node.proofs.Valid.{Valid}
+use Rattle.node.proofs.Valid.{Valid, valid-width}
 use Rattle.barrier.specs.Pieces.{toWhom, isLone}
 
 -- the node of a board of one is alone
@@ -84,6 +84,14 @@ module _ (n : Node) (h : Valid base n) where
           let c : _≡_ {A = ℕ} 0 1 = cc in
           absurd (omega arith)
       go (no z) = h .dim (omega arith)
+
+  -- there is a place for the frames of the position's dimension
+  pub dim-room : n .dim < 8
+  dim-room = go (ℕ-discrete (dims n) 0)
+    where
+      go : Dec (dims n ≡ 0) → n .dim < 8
+      go (yes z) = omega (arith, h .lone z .1)
+      go (no z) = omega (arith, h .dim (omega arith), valid-width base n (omega arith) h)
 
   -- a receiver's number is one byte
   pub receivers-low : (b : ℕ) → List·Memᴰ b (toWhom looked) → b < 256

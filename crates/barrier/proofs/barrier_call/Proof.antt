@@ -10,17 +10,23 @@ use lib.ListN.{length}
 use denote.Ref.{now}
 use Rattle.base.specs.Choice.{choose}
 use Rattle.base.specs.Limits.{base}
-use Rattle.node.specs.Sums.{dims}
+use Rattle.frame.specs.Frame.{written}
+use Rattle.node.specs.Sums.{dims, firstAt, secondAt}
+use Rattle.node.specs.Agree.{isAlone}
 use Rattle.node.specs.State.{valid}
 use Rattle.node.specs.Answers.{also}
 use Rattle.node.specs.Barrier.{receiversDue}
 use Rattle.node.specs.declared.Node.{Node}
 use Rattle.node.specs.declared.Receivers.{Receivers}
+use Rattle.node.proofs.Ways.{NoneDue}
 use Rattle.node.proofs.Valid.{Valid, valid-known, valid-width}
-use Rattle.barrier.specs.Pieces.{toWhom, whomList, lookTurn, sendTurn, turnedBy}
+use Rattle.barrier.specs.Standin.{isVerdict}
+use Rattle.barrier.specs.Pieces.{toWhom, isLone, whomList, clausesOf, sendTurn, lookTurn, turnedBy}
 use Rattle.barrier.specs.declared.Survey.{Survey}
-use Rattle.barrier.proofs.Turns.{answers-same, refuses-state, refuses-busy, looks}
-use Rattle.barrier.proofs.Placing.{looked-whom, looked-alone, not-alone-low, some-low, receivers-low, some-due, none-due}
+use Rattle.barrier.specs.declared.Verdict.{Verdict}
+use Rattle.barrier.proofs.Turns.{answers-same, refuses-state, refuses-busy, tried, looks}
+use Rattle.barrier.proofs.Placing.{looked-whom, looked-alone, not-alone-low, some-low, dim-room}
+use Rattle.barrier.proofs.Placing.{receivers-low, some-due, none-due}
 use Rattle.barrier.proofs.Due.{Told, survey-ok, survey-told, frame-is, clauses-are}
 use Rattle.barrier.proofs.Sending.{sends}
 use Rattle.barrier.proofs.barrier_call.Statement.{statement}
@@ -123,33 +129,84 @@ frame-due-requires c κs =
     (omega (arith, low c, e), omega (arith, few i, e))
 
 returns-3 : tie.Need-returns-3
-returns-3 c = ?
+returns-3 c =
+    let t = c .before .before .before in
+    let k = t .before .before .before in
+    let i = sender k in
+    let n = idler i in
+    let buf = lent (i .before .before) in
+    let f = t .before .before .frame-due .ensures ∙ frame-is n _ (told i) (few i) in
+    answers-same n buf (t .send .ensures .1 ∙ ap (λ x. written base (n .nodes) x buf) f)
+    (c .turned3 .ensures
+    ∙ ap (turnedBy n) (t .send .ensures .0 ∙ ap (λ x. sendTurn base (n .nodes) x (to k) (length buf)) f))
+    (sends n (good i) buf (to k) (passed (i .before)) (i .if2 .left) (somebody k .0) (somebody k .1) (low k))
 
 -- ---- nobody
 
+abbrev looker : tie.After-enum-told → tie.Else2
+looker k = k .before .before .before .before
+
+room : (k : tie.After-enum-told) → idler (looker k) .dim < 8
+room k = dim-room (idler (looker k)) (good (looker k))
+
 cast-k : tie.Need-cast-k
-cast-k c = ?
+cast-k c = omega (arith, room c)
 
 mul-first : tie.Need-mul-first
-mul-first c = ?
+mul-first c = omega (arith, room c)
 
 element-copy-out-first : tie.Need-element-copy-out-first
-element-copy-out-first c = ?
+element-copy-out-first c = room c
 
 mul-second : tie.Need-mul-second
-mul-second c = ?
+mul-second c = omega (arith, room (c .before))
 
 element-copy-out-second : tie.Need-element-copy-out-second
-element-copy-out-second c = ?
+element-copy-out-second c = room (c .before)
 
 cast-verdict-on : tie.Need-cast-verdict-on
-cast-verdict-on c = ?
+cast-verdict-on c = omega (arith, room (c .before .before .before))
 
 look-requires : tie.Need-look-requires
-look-requires c κs = ?
+look-requires c κs =
+    let i = looker (c .before .before .before .before) in
+    omega (arith, few i, told i .shells)
+
+nobody : (k : tie.After-enum-told) → NoneDue base (idler (looker k))
+nobody k =
+    let n = idler (looker k) in
+    none-due (n .flag) (receiversDue n) (sym (ap whomList (k .enum-told .given .1)) ∙ due (k .before .before))
+
+-- the verdict is on the clauses of the position's step
+judged : (v : tie.After-verdict-on)
+    → let n = idler (looker (v .before .before .before .before)) in
+    isVerdict (tried n) (v .verdict-on .result) ≡ true
+judged v =
+    let l = v .before in
+    let w = l .before .before .before .before .before in
+    let i = w .before .before in
+    let n = idler i in
+    let s = survey (i .before .before) in
+    let alone = l .lone-at .ensures ∙ ap isLone (w .before .place-of .ensures) ∙ looked-alone n (good i) in
+    let tests =
+    ap (λ a. clausesOf base a (n .pass) (n .dim) s (n .agreed) (firstAt n (n .dim)) (secondAt n (n .dim))) alone
+    ∙ clauses-are n s (told i) (few i) (isAlone n (n .dim)) (not-alone-low n (good i)) in
+    subst (λ cs. isVerdict cs (v .verdict-on .result) ≡ true) tests (v .verdict-on .ensures)
 
 returns-4 : tie.Need-returns-4
-returns-4 c = ?
+returns-4 c =
+    let v = c .before .before in
+    let k = v .before .before .before .before in
+    let i = looker k in
+    let n = idler i in
+    let t = told i in
+    answers-same n (lent (i .before .before)) refl
+    (c .turned4 .ensures ∙ ap (turnedBy n) (c .before .look .ensures ∙ turn (t .shells) (t .whole)))
+    (looks n (lent (i .before .before)) (passed (i .before)) (i .if2 .left) (nobody k) (v .verdict-on .result) (judged v))
+  where
+    turn : {v : Verdict} {p q pass k agreed x y : ℕ} → p ≡ q → x ≡ y
+        → lookTurn v p pass k agreed x ≡ lookTurn v q pass k agreed y
+    turn e f = rw (e, f)
 
 pub barrier-call-spec : {M : Type 1} → statement M
 barrier-call-spec =
