@@ -4,9 +4,10 @@ use mathlib.Core.Bool.{Bool, true, false}
 use mathlib.Core.List.{List, [], _∷_, _++_}
 use Prim.Native.Nat.{ℕ, zero, suc, _+_, _-_, _≤_, _<_}
 use native.Mathlib.Decide.{ℕ-discrete}
+use native.Mathlib.Nat.{zero-add}
 use native.Mathlib.Numerals.{add-one}
 use native.Mathlib.Omega.{arith}
-use lib.ListN.{length, set}
+use lib.ListN.{length, getD, set}
 use Rattle.base.specs.Choice.{choose, both, every, list}
 use Rattle.base.specs.Refusal.{Check, inOrder, number}
 
@@ -88,6 +89,16 @@ module _ {A : Type 0} (refuse : ℕ → A) where
 pub length-list : {A : Type 0} (start count : ℕ) (f : ℕ → A) → length (list start count f) ≡ count
 length-list start zero f = refl
 length-list start (suc count) f = ap suc (length-list (suc start) count f)
+
+pub getD-list : {A : Type 0} (start count : ℕ) (f : ℕ → A) (i : ℕ) (d : A) → i < count
+    → getD (list start count f) i d ≡ f (start + i)
+getD-list start zero f i d h = absurd (omega arith)
+getD-list start (suc count) f zero d h = let e : start ≡ start + 0 = omega arith in ap f e
+getD-list start (suc count) f (suc i) d h =
+    let e : suc start + i ≡ start + suc i = omega arith in getD-list (suc start) count f i d (omega arith) ∙ ap f e
+
+pub list-at : {A : Type 0} (count : ℕ) (f : ℕ → A) (i : ℕ) (d : A) → i < count → getD (list 0 count f) i d ≡ f i
+list-at count f i d h = getD-list 0 count f i d h ∙ ap f (zero-add i)
 
 -- one value more at the end
 pub list-more : {A : Type 0} (start count : ℕ) (f : ℕ → A)

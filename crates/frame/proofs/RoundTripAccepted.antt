@@ -10,8 +10,8 @@ use lib.Dec.{ltb, leb, eqb}
 use lib.ListN.{length, getD}
 use borrow.Author.Tests.{leb-false, ltb-false, eqb-true, lt-leb, le-ltb, eq-eqb, ne-eqb, not-false}
 use Rattle.base.specs.Limits.{Limits, fieldLimit, width, base}
-use Rattle.base.specs.Refusal.{Refusal, refused, found, Check, when}
-use Rattle.base.proofs.Laws.{choose-yes, choose-no, cases, Passes, order-passes}
+use Rattle.base.specs.Refusal.{Refusal, found, Check, when}
+use Rattle.base.proofs.Laws.{choose-yes, choose-no, cases}
 use Rattle.tree.specs.Tree.{dimension}
 use Rattle.tree.specs.Lookups.{badBoard}
 use Rattle.tree.proofs.Dimension.{smallest}
@@ -19,7 +19,7 @@ use Rattle.tree.proofs.Lookups.{board-good}
 use Rattle.frame.specs.Frame.{frameLength, firstFields, secondFields, fieldsOf}
 use Rattle.frame.specs.Frame.{badStep, numbersOk, readChecks, readFrame, writeFrame}
 use Rattle.frame.specs.declared.Frame.{Frame}
-use Rattle.frame.proofs.RoundTripChecks.{checks-known, step-known, step-good}
+use Rattle.frame.proofs.RoundTripChecks.{Passes, checks-known, checks-good, step-known, step-good}
 
 -- ---- acceptance
 
@@ -112,7 +112,7 @@ module _ (L : Limits) (P : ℕ) (f : Frame) (room : ℕ) where
   unfolding writeFrame writeChecks
   write-good a h =
       let step = step-good _ _ _ (a .pass) (a .dim) in
-      order-passes refused (writeChecks L P f room) (found (size P f))
+      checks-good (writeChecks L P f room) (size P f)
       (a .board, (step, (ap not (a .numbers), (lt-leb P _ (a .sender), (le-ltb room (size P f) h, tt)))))
 
 -- ---- the reader
@@ -186,7 +186,7 @@ module _ (L : Limits) (P : ℕ) (bs : List ℕ) where
       let long : 4 ≤ length bs = omega (arith, size-low P (fieldsOf p bs)) in
       let sender = lt-leb P _ (rw (head-sender p bs) at (a .sender)) in
       let size-ok = ap not (eq-eqb (length bs) _ count) in
-      order-passes refused checks (found (fieldsOf p bs))
+      checks-good checks (fieldsOf p bs)
       (a .board, (le-ltb (length bs) 4 long, (step, (size-ok, (ap not (a .numbers), (sender, tt))))))
 
 -- ---- the length of a written frame

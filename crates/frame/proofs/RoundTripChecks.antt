@@ -10,7 +10,8 @@ use borrow.Author.Tests.{leb-true, leb-false, ltb-true, eqb-true, le-leb, lt-leb
 use Rattle.base.specs.Choice.{choose, either, every}
 use Rattle.base.specs.Limits.{Limits, fieldLimit, width}
 use Rattle.base.specs.Refusal.{refused, found, Check, inOrder, number}
-use Rattle.base.proofs.Laws.{clash, both-true, both-make, every-at, every-make, Passes}
+pub use Rattle.base.proofs.Laws.{Passes}
+use Rattle.base.proofs.Laws.{clash, both-true, both-make, every-at, every-make, order-passes}
 use Rattle.frame.specs.Frame.{sentAt, takenAt, hasShell, badStep, numberOk, numbersOk}
 use Rattle.frame.specs.Parts.{hasTallies, shellOk}
 use Rattle.frame.specs.declared.Frame.{Frame}
@@ -28,6 +29,9 @@ checks-known (c ∷ cs) a b e = go (c .met) refl (checks-known cs a b) e
         → ((c .met ≡ false) × Passes cs) × (a ≡ b)
     go true m rest q = let z : _≡_ {A = ℕ} 0 1 = cc in absurd (omega arith)
     go false m rest q = let r = rest q in ((m, r .0), r .1)
+
+pub checks-good : {A : Type 0} (cs : List Check) (a : A) → Passes cs → inOrder refused cs (found a) ≡ found a
+checks-good cs a h = order-passes refused cs (found a) h
 
 -- ---- a step: its pass and its dimension
 
