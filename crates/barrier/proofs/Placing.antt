@@ -3,7 +3,7 @@ use mathlib.Core.Path.{_≡_, refl, sym, ap, _∙_, subst}
 use mathlib.Core.Logic.{_⊎_, inl, inr}
 use mathlib.Core.Bool.{Bool, true, false}
 use mathlib.Core.List.{List, [], _∷_, List·Memᴰ}
-use Prim.Native.Nat.{ℕ, _^_, _≤_, _<_}
+use Prim.Native.Nat.{ℕ, _<_}
 use native.Mathlib.Decide.{ℕ-discrete}
 use native.Mathlib.Omega.{arith}
 use borrow.Author.Tests.{le-leb, lt-leb}
@@ -11,22 +11,17 @@ use Rattle.base.specs.Choice.{choose}
 use Rattle.base.specs.Limits.{base}
 use Rattle.base.specs.Refusal.{Answered, refused, found}
 use Rattle.base.proofs.Laws.{clash}
-use Rattle.tree.specs.Tree.{smallestFrom, dimension, runBelow, runOf, Place, alone, placeIn, place, awaits, sendsTo, awaited, receivers}
-use Rattle.tree.specs.Lookups.{badBoard, placeLookup}
-use Rattle.tree.proofs.Dimension.{fits}
+use Rattle.tree.specs.Tree.{Place, place, awaited, receivers}
+use Rattle.tree.specs.Lookups.{placeLookup}
 use Rattle.tree.proofs.Lookups.{board-good}
 use Rattle.tree.proofs.Places.{receives-awaits}
 use Rattle.node.specs.Sums.{dims}
 use Rattle.node.specs.Agree.{isNone, isAlone}
 use Rattle.node.specs.Barrier.{receiversDue}
 use Rattle.node.specs.declared.Node.{Node}
+use Rattle.node.proofs.Bound.{one-receivers, one-awaited}
 use Rattle.node.proofs.Valid.{Valid, valid-width}
 use Rattle.barrier.specs.Pieces.{toWhom, isLone}
-
--- the node of a board of one is alone
-single-alone : place 1 0 0 ≡ alone
-unfolding smallestFrom dimension runBelow runOf placeIn place
-single-alone = refl
 
 module _ (n : Node) (h : Valid base n) where
   abbrev looked : Answered Place
@@ -42,19 +37,12 @@ module _ (n : Node) (h : Valid base n) where
     unfolding placeLookup
     nowhere = rw (h .board, lt-leb (n .nodes) _ (h .number), le-leb (dims n) (n .dim) (omega arith))
 
-    lone : place (n .nodes) (n .dim) (n .number) ≡ alone
-    lone =
-        let f : n .nodes ≤ 2 ^ 0 = rw z at (fits (n .nodes)) in
-        let P : n .nodes ≡ 1 = omega (arith, board-good base (n .nodes) (h .board)) in
-        let a : n .number ≡ 0 = omega (arith, h .number) in
-        rw (P, h .lone z .1, a) single-alone
-
   pub looked-whom : toWhom looked ≡ receiversDue n
   unfolding receivers
   looked-whom = go (ℕ-discrete (dims n) 0)
     where
       go : Dec (dims n ≡ 0) → toWhom looked ≡ receiversDue n
-      go (yes z) = ap toWhom (nowhere z) ∙ ap sendsTo (sym (lone z))
+      go (yes z) = ap toWhom (nowhere z) ∙ sym (one-receivers (n .nodes) (n .dim) (n .number) z)
       go (no z) = ap toWhom (there (h .dim (omega arith)))
 
   pub looked-alone : isLone looked ≡ isAlone n (n .dim)
@@ -62,27 +50,15 @@ module _ (n : Node) (h : Valid base n) where
   looked-alone = go (ℕ-discrete (dims n) 0)
     where
       go : Dec (dims n ≡ 0) → isLone looked ≡ isAlone n (n .dim)
-      go (yes z) = ap isLone (nowhere z) ∙ ap (λ p. isNone (awaits p)) (sym (lone z))
+      go (yes z) = ap isLone (nowhere z) ∙ ap isNone (sym (one-awaited (n .nodes) (n .dim) (n .number) z))
       go (no z) = ap isLone (there (h .dim (omega arith)))
 
-  -- a step that awaits a frame, or has receivers, is one of the node's dimensions
+  -- a step that awaits a frame is one of the node's dimensions
   pub not-alone-low : isAlone n (n .dim) ≡ false → n .dim < dims n
-  unfolding awaited
   not-alone-low e = go (ℕ-discrete (dims n) 0)
     where
       go : Dec (dims n ≡ 0) → n .dim < dims n
-      go (yes z) = clash (sym (ap (λ p. isNone (awaits p)) (lone z)) ∙ e)
-      go (no z) = h .dim (omega arith)
-
-  pub some-low : {a : ℕ} {r : List ℕ} → receiversDue n ≡ a ∷ r → n .dim < dims n
-  unfolding receivers
-  some-low {a} {r} e = go (ℕ-discrete (dims n) 0)
-    where
-      go : Dec (dims n ≡ 0) → n .dim < dims n
-      go (yes z) =
-          let f : _≡_ {A = List ℕ} [] (a ∷ r) = sym (ap sendsTo (lone z)) ∙ e in
-          let c : _≡_ {A = ℕ} 0 1 = cc in
-          absurd (omega arith)
+      go (yes z) = clash (ap isNone (sym (one-awaited (n .nodes) (n .dim) (n .number) z)) ∙ e)
       go (no z) = h .dim (omega arith)
 
   -- there is a place for the frames of the position's dimension

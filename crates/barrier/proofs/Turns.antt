@@ -19,12 +19,12 @@ use Rattle.node.specs.Barrier.{lengthDue, isDue, moving, looking, barrier, clau
 use Rattle.node.specs.declared.Node.{Node}
 use Rattle.node.specs.declared.BarrierReply.{BarrierReply}
 use Rattle.node.proofs.Ways.{callChecks, NoneDue, call-refuses, call-looks}
-use Rattle.barrier.specs.Standin.{isVerdict}
+use Rattle.agree.specs.Verdict.{isVerdict}
 use Rattle.barrier.specs.Pieces.{byVerdict, onwardTurn, lookTurn, turnedBy}
-use Rattle.barrier.specs.declared.Verdict.{Verdict}
-use Rattle.barrier.specs.declared.Verdict.the-variants.{Agrees, Fails}
+use Rattle.agree.specs.declared.Verdict.{Verdict}
+use Rattle.agree.specs.declared.Verdict.the-variants.{Agrees, Fails}
 use Rattle.barrier.specs.declared.Turn.{Turn}
-use Rattle.barrier.specs.declared.Turn.the-variants.{Refuses, Moves, Leaves}
+use Rattle.barrier.specs.declared.Turn.the-variants.{Refuses, Leaves}
 
 -- what a call promises of its reply, and of lent bytes and what they were left as
 abbrev pub Answers : Node → List ℕ → List ℕ → BarrierReply → Type 0
@@ -99,7 +99,8 @@ module _ (n : Node) where
   unfolding agrees mayName
   said-no c e = go (isAlone n (n .dim)) e
     where
-      go : (t : Bool) → mayName (choose t [] tests) c ≡ true → (choose t true (allHold tests) ≡ false) × (mayName tests c ≡ true)
+      go : (t : Bool) → mayName (choose t [] tests) c ≡ true
+          → (choose t true (allHold tests) ≡ false) × (mayName tests c ≡ true)
       go true q = clash (sym q)
       go false q = (named-fails tests c q, q)
 

@@ -35,7 +35,8 @@ within-more {A} make f k m l a b e =
     ap make (sym (choose-yes (f m) 0 (shell-in (m + 1) k m a (omega arith)))) ∙ ap g (sym (zero-add m)) in
     rw (e, v)
     (list-set 0 8 (λ j. make (choose (hasShell m k j) (f j) 0)) g m b
-    (λ j c d n. ap (λ t. make (choose t (f j) 0)) (same j (λ z. n (z ∙ sym (zero-add m))) (decLe k j) (decLe (m + 1) j))))
+    (λ j c d n.
+    ap (λ t. make (choose t (f j) 0)) (same j (λ z. n (z ∙ sym (zero-add m))) (decLe k j) (decLe (m + 1) j))))
   where
     same : (j : ℕ) → (j ≡ m → ⊥) → Dec (k ≤ j) → Dec (m + 1 ≤ j) → hasShell m k j ≡ hasShell (m + 1) k j
     same j n (no h) d = shell-low m k j (omega arith) ∙ sym (shell-low (m + 1) k j (omega arith))

@@ -20,11 +20,11 @@ use Rattle.node.specs.declared.Receivers.{Receivers}
 use Rattle.node.specs.declared.BarrierAnswer.{BarrierAnswer}
 use Rattle.node.specs.declared.BarrierAnswer.the-variants.{Sends, Waits, Moved, Left, Refused}
 use Rattle.node.specs.declared.BarrierReply.{BarrierReply}
-use Rattle.barrier.specs.Standin.{sumAt}
-use Rattle.barrier.specs.declared.Sums.{Sums}
+use Rattle.agree.specs.Verdict.{sumAt}
+use Rattle.agree.specs.declared.Sums.{Sums}
 use Rattle.barrier.specs.declared.Survey.{Survey}
-use Rattle.barrier.specs.declared.Verdict.{Verdict}
-use Rattle.barrier.specs.declared.Verdict.the-variants.{Agrees, Fails}
+use Rattle.agree.specs.declared.Verdict.{Verdict}
+use Rattle.agree.specs.declared.Verdict.the-variants.{Agrees, Fails}
 use Rattle.barrier.specs.declared.Whom.{Whom}
 use Rattle.barrier.specs.declared.Whom.the-variants.{Nobody, To}
 use Rattle.barrier.specs.declared.Turn.{Turn}

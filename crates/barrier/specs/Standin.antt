@@ -1,28 +1,14 @@
 -- stand-ins
-use mathlib.Core.Bool.{Bool, true, false}
-use mathlib.Core.List.{List}
+use mathlib.Core.Bool.{true, false}
 use Prim.Native.Nat.{ℕ}
 use Rattle.base.specs.Choice.{choose, list}
 use Rattle.base.specs.Limits.{Limits, width}
-use Rattle.frame.specs.Frame.{sentNumber, takenNumber, sentAt, takenAt}
-use Rattle.node.specs.Sums.{Field, dims, sentIn, takenIn, allSent, allTaken, tally, own, ownIssued}
-use Rattle.node.specs.Agree.{allHold, mayName}
+use Rattle.frame.specs.Frame.{sentNumber, takenNumber}
+use Rattle.node.specs.Sums.{dims, sentIn, takenIn, allSent, allTaken, tally, own, ownIssued}
 use Rattle.node.specs.State.{valid}
 use Rattle.node.specs.declared.Node.{Node}
-use Rattle.barrier.specs.declared.Sums.{Sums}
-use Rattle.barrier.specs.declared.Verdict.{Verdict}
-use Rattle.barrier.specs.declared.Verdict.the-variants.{Agrees, Fails}
+use Rattle.agree.specs.declared.Sums.{Sums}
 use Rattle.barrier.specs.declared.Survey.{Survey}
-
-abbrev pub sumAt : Sums → Field → ℕ
-sumAt s (sentIn m) = sentAt (s .sent) m
-sumAt s (takenIn m) = takenAt (s .taken) m
-sumAt s allSent = s .issued .0
-sumAt s allTaken = s .received .0
-
-abbrev pub isVerdict : List Bool → Verdict → Bool
-isVerdict cs Agrees = allHold cs
-isVerdict cs (Fails clause) = mayName cs clause
 
 unfoldable pub sumsOf : Node → ℕ → Sums
 sumsOf n k =

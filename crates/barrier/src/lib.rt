@@ -8,13 +8,15 @@ ghost use Rattle.base.specs.Choice.{choose};
 ghost use Rattle.base.specs.Limits.{base};
 ghost use Rattle.frame.specs.Frame.{written, sentNumber, takenNumber, sentAt, takenAt};
 ghost use Rattle.tree.specs.Lookups.{placedAnswer};
-ghost use Rattle.node.specs.Agree.{firstClauses, secondClauses};
 ghost use Rattle.node.specs.Answers.{barrierReplied};
 ghost use Rattle.node.specs.Barrier.{barrier, barrierBytes, clauseFails};
 ghost use Rattle.node.specs.Change.{freshIn};
-ghost use Rattle.barrier.specs.Standin.{surveyed, sumAt, isVerdict};
+ghost use Rattle.agree.specs.Verdict.{isVerdict};
+ghost use Rattle.barrier.specs.Standin.{surveyed};
 ghost use Rattle.barrier.specs.Pieces.{toWhom, isLone, whomList, within, firstDue, secondDue, frameOf, clausesOf};
 ghost use Rattle.barrier.specs.Pieces.{sendTurn, onwardTurn, lookTurn, turnedBy};
+use agree::Sums;
+use agree::Verdict;
 use frame::Frame;
 use frame::Sent;
 use frame::Taken;
@@ -30,18 +32,6 @@ use tree::Placed;
 
 // ---- stand-ins
 
-pub struct Sums {
-    pub sent: [Sent; 8],
-    pub taken: [Taken; 8],
-    pub issued: Sent,
-    pub received: Taken,
-}
-
-pub enum Verdict {
-    Agrees,
-    Fails(u8),
-}
-
 pub struct Survey {
     pub ok: bool,
     pub dims: u32,
@@ -50,18 +40,6 @@ pub struct Survey {
     pub own: Sums,
     pub issued: Sent,
     pub total: u32,
-}
-
-pub fn first_verdict(dims: u32, k: u32, own: Sums, stored: Stored) -> Verdict
-    ensures { λ r. ⌜ isVerdict (firstClauses base dims k (sumAt own) stored) r ≡ true ⌝ }
-{
-    Verdict::Fails(0)
-}
-
-pub fn second_verdict(dims: u32, k: u32, issued: Sent, agreed: u32, stored: Confirm) -> Verdict
-    ensures { λ r. ⌜ isVerdict (secondClauses base dims k (issued .0) agreed stored) r ≡ true ⌝ }
-{
-    Verdict::Fails(0)
 }
 
 pub fn survey_of(n: Node) -> Survey
@@ -234,7 +212,15 @@ fn send(nodes: u32, f: Frame, to: Receivers, buf: &mut [u8]) -> Turn
 }
 
 // The verdict on a position's step. An alone step has no clause.
-fn verdict_on(alone: bool, pass: u8, k: u32, s: Survey, agreed: u32, first: Stored, second: Confirm) -> Verdict
+fn verdict_on(
+    alone: bool,
+    pass: u8,
+    k: u32,
+    s: Survey,
+    agreed: u32,
+    first: Stored,
+    second: Confirm,
+) -> Verdict
     ensures { λ r. ⌜ isVerdict (clausesOf base alone pass k s agreed first second) r ≡ true ⌝ }
 {
     if alone {
@@ -243,9 +229,9 @@ fn verdict_on(alone: bool, pass: u8, k: u32, s: Survey, agreed: u32, first: Stor
     let own = s.own;
     let issued = s.issued;
     if pass == 1 {
-        first_verdict(s.dims, k, own, first)
+        agree::first_verdict(s.dims, k, own, first)
     } else {
-        second_verdict(s.dims, k, issued, agreed, second)
+        agree::second_verdict(s.dims, k, issued, agreed, second)
     }
 }
 
@@ -340,10 +326,13 @@ fn turned(n: Node, t: Turn) -> BarrierReply
                 answer: BarrierAnswer::Moved,
             }
         }
-        Turn::Leaves => BarrierReply {
-            node: fresh_in(n.nodes, n.number, std::num::wrapping_add_u8(n.phase, 1)),
-            answer: BarrierAnswer::Left,
-        },
+        Turn::Leaves => {
+            let fresh = fresh_in(n.nodes, n.number, std::num::wrapping_add_u8(n.phase, 1));
+            BarrierReply {
+                node: fresh,
+                answer: BarrierAnswer::Left,
+            }
+        }
     }
 }
 
@@ -371,7 +360,15 @@ pub fn barrier_call(n: Node, buf: &mut [u8]) -> BarrierReply
     let k = n.dim as usize;
     let first = n.first[k];
     let second = n.second[k];
-    let v = verdict_on(lone_at(placed), n.pass, n.dim as u32, s, n.agreed, first, second);
+    let v = verdict_on(
+        lone_at(placed),
+        n.pass,
+        n.dim as u32,
+        s,
+        n.agreed,
+        first,
+        second,
+    );
     let t = look(v, s.dims, n.pass, n.dim, n.agreed, s.total);
     turned(n, t)
 }

@@ -3,7 +3,7 @@ use borrow.Author.Needs.{needs}
 use borrow.Author.Tests.{not-true, not-false}
 use native.Mathlib.Omega.{arith}
 use mathlib.Core.Path.{_≡_, refl, sym, ap, _∙_, subst}
-use mathlib.Core.Bool.{true, false}
+use mathlib.Core.Bool.{true}
 use mathlib.Core.List.{List, [], _∷_, List·Memᴰ}
 use Prim.Native.Nat.{ℕ, _≤_, _<_}
 use lib.ListN.{length}
@@ -19,29 +19,19 @@ use Rattle.node.specs.Barrier.{receiversDue}
 use Rattle.node.specs.declared.Node.{Node}
 use Rattle.node.specs.declared.Receivers.{Receivers}
 use Rattle.node.proofs.Ways.{NoneDue}
+use Rattle.node.proofs.Bound.{due-dim}
 use Rattle.node.proofs.Valid.{Valid, valid-known, valid-width}
-use Rattle.barrier.specs.Standin.{isVerdict}
+use Rattle.agree.specs.Verdict.{isVerdict}
 use Rattle.barrier.specs.Pieces.{toWhom, isLone, whomList, clausesOf, sendTurn, lookTurn, turnedBy}
 use Rattle.barrier.specs.declared.Survey.{Survey}
-use Rattle.barrier.specs.declared.Verdict.{Verdict}
+use Rattle.agree.specs.declared.Verdict.{Verdict}
 use Rattle.barrier.proofs.Turns.{answers-same, refuses-state, refuses-busy, tried, looks}
-use Rattle.barrier.proofs.Placing.{looked-whom, looked-alone, not-alone-low, some-low, dim-room}
+use Rattle.barrier.proofs.Placing.{looked-whom, looked-alone, not-alone-low, dim-room}
 use Rattle.barrier.proofs.Placing.{receivers-low, some-due, none-due}
 use Rattle.barrier.proofs.Due.{Told, survey-ok, survey-told, frame-is, clauses-are}
 use Rattle.barrier.proofs.Sending.{sends}
 use Rattle.barrier.proofs.barrier_call.Statement.{statement}
 use Rattle.barrier.proofs.barrier_call.Tie as tie
-use Rattle.barrier.proofs.barrier_call.Reads as reads
-use Rattle.barrier.proofs.barrier_call.Lts as lts
-use Rattle.barrier.proofs.frame_due.Reads as frame-due-reads
-use Rattle.barrier.proofs.lone_at.Reads as lone-at-reads
-use Rattle.barrier.proofs.look.Reads as look-reads
-use Rattle.barrier.proofs.send.Reads as send-reads
-use Rattle.barrier.proofs.survey_of.Reads as survey-of-reads
-use Rattle.barrier.proofs.turned.Reads as turned-reads
-use Rattle.barrier.proofs.verdict_on.Reads as verdict-on-reads
-use Rattle.barrier.proofs.whom_due.Reads as whom-due-reads
-use Rattle.tree.proofs.place_of.Reads as place-of-reads
 
 -- ---- what is handed, and its survey
 
@@ -117,10 +107,11 @@ somebody : (k : tie.After-known-told)
     (n .flag ≡ true) × (receiversDue n ≡ to k .first ∷ also (to k .extra))
 somebody k =
     let n = idler (sender k) in
-    some-due (n .flag) (receiversDue n) (sym (ap whomList (k .before .whom .given .1)) ∙ due (k .before .before .before))
+    some-due (n .flag) (receiversDue n)
+    (sym (ap whomList (k .before .whom .given .1)) ∙ due (k .before .before .before))
 
 low : (k : tie.After-known-told) → let n = idler (sender k) in n .dim < dims n
-low k = some-low (idler (sender k)) (good (sender k)) (somebody k .1)
+low k = due-dim base (idler (sender k)) (good (sender k)) _ _ (somebody k .1)
 
 frame-due-requires : tie.Need-frame-due-requires
 frame-due-requires c κs =
@@ -139,7 +130,7 @@ returns-3 c =
     answers-same n buf (t .send .ensures .1 ∙ ap (λ x. written base (n .nodes) x buf) f)
     (c .turned3 .ensures
     ∙ ap (turnedBy n) (t .send .ensures .0 ∙ ap (λ x. sendTurn base (n .nodes) x (to k) (length buf)) f))
-    (sends n (good i) buf (to k) (passed (i .before)) (i .if2 .left) (somebody k .0) (somebody k .1) (low k))
+    (sends n (good i) buf (to k) (passed (i .before)) (i .if2 .left) (somebody k .0) (somebody k .1))
 
 -- ---- nobody
 
@@ -199,14 +190,15 @@ returns-4 c =
     let k = v .before .before .before .before in
     let i = looker k in
     let n = idler i in
+    let buf = lent (i .before .before) in
     let t = told i in
-    answers-same n (lent (i .before .before)) refl
-    (c .turned4 .ensures ∙ ap (turnedBy n) (c .before .look .ensures ∙ turn (t .shells) (t .whole)))
-    (looks n (lent (i .before .before)) (passed (i .before)) (i .if2 .left) (nobody k) (v .verdict-on .result) (judged v))
+    answers-same n buf refl
+    (c .turned4 .ensures ∙ ap (turnedBy n) (c .before .look .ensures ∙ turn _ _ _ _ (t .shells) (t .whole)))
+    (looks n buf (passed (i .before)) (i .if2 .left) (nobody k) (v .verdict-on .result) (judged v))
   where
-    turn : {v : Verdict} {p q pass k agreed x y : ℕ} → p ≡ q → x ≡ y
+    turn : (v : Verdict) (pass k agreed : ℕ) {p q x y : ℕ} → p ≡ q → x ≡ y
         → lookTurn v p pass k agreed x ≡ lookTurn v q pass k agreed y
-    turn e f = rw (e, f)
+    turn v pass k agreed e f = rw (e, f)
 
 pub barrier-call-spec : {M : Type 1} → statement M
 barrier-call-spec =

@@ -2,10 +2,6 @@
 use borrow.Author.Needs.{needs}
 use Rattle.barrier.proofs.first_due.Statement.{statement}
 use Rattle.barrier.proofs.first_due.Tie as tie
-use Rattle.barrier.proofs.first_due.Reads as reads
-use Rattle.barrier.proofs.first_due.Lts as lts
-use Rattle.barrier.proofs.sent_within.Reads as sent-within-reads
-use Rattle.barrier.proofs.taken_within.Reads as taken-within-reads
 
 returns : tie.Need-returns
 returns c = rw (c .before .sent-within .ensures, c .taken-within .ensures)

@@ -6,10 +6,6 @@ use Rattle.base.proofs.Laws.{choose-yes, choose-no}
 use Rattle.barrier.specs.Pieces.{frameOf}
 use Rattle.barrier.proofs.frame_due.Statement.{statement}
 use Rattle.barrier.proofs.frame_due.Tie as tie
-use Rattle.barrier.proofs.frame_due.Reads as reads
-use Rattle.barrier.proofs.frame_due.Lts as lts
-use Rattle.barrier.proofs.first_due.Reads as first-due-reads
-use Rattle.barrier.proofs.second_due.Reads as second-due-reads
 
 returns : tie.Need-returns
 unfolding frameOf

@@ -6,9 +6,6 @@ use Rattle.base.proofs.Laws.{choose-yes, choose-no}
 use Rattle.barrier.specs.Pieces.{lookTurn, byVerdict}
 use Rattle.barrier.proofs.look.Statement.{statement}
 use Rattle.barrier.proofs.look.Tie as tie
-use Rattle.barrier.proofs.look.Reads as reads
-use Rattle.barrier.proofs.look.Lts as lts
-use Rattle.barrier.proofs.onward.Reads as onward-reads
 
 returns : tie.Need-returns
 unfolding lookTurn

@@ -7,8 +7,6 @@ use Rattle.base.proofs.Laws.{choose-yes, choose-no}
 use Rattle.barrier.specs.Pieces.{onwardTurn}
 use Rattle.barrier.proofs.onward.Statement.{statement}
 use Rattle.barrier.proofs.onward.Tie as tie
-use Rattle.barrier.proofs.onward.Reads as reads
-use Rattle.barrier.proofs.onward.Lts as lts
 
 returns : tie.Need-returns
 unfolding onwardTurn
@@ -17,12 +15,14 @@ returns c = rw add-one (sym (choose-yes _ _ (lt-ltb _ _ (rw add-one at (c .if1 .
 returns-2 : tie.Need-returns-2
 unfolding onwardTurn
 returns-2 c =
-    sym (choose-no _ _ (le-ltb _ _ (rw add-one at (c .before .if1 .left))) ∙ choose-yes _ _ (eq-eqb _ _ (c .if2 .taken)))
+    let last = le-ltb _ _ (rw add-one at (c .before .if1 .left)) in
+    sym (choose-no _ _ last ∙ choose-yes _ _ (eq-eqb _ _ (c .if2 .taken)))
 
 returns-3 : tie.Need-returns-3
 unfolding onwardTurn
 returns-3 c =
-    sym (choose-no _ _ (le-ltb _ _ (rw add-one at (c .before .if1 .left))) ∙ choose-no _ _ (ne-eqb _ _ (c .if2 .left)))
+    let last = le-ltb _ _ (rw add-one at (c .before .if1 .left)) in
+    sym (choose-no _ _ last ∙ choose-no _ _ (ne-eqb _ _ (c .if2 .left)))
 
 pub onward-spec : {M : Type 1} → statement M
 onward-spec = tie.close (tie.spec (λ c. search needs) (λ c. search needs) returns returns-2 returns-3)

@@ -5,9 +5,6 @@ use Rattle.tree.specs.Lookups.{foundAnswer}
 use Rattle.barrier.specs.Pieces.{sentTurn, sendTurn}
 use Rattle.barrier.proofs.send.Statement.{statement}
 use Rattle.barrier.proofs.send.Tie as tie
-use Rattle.barrier.proofs.send.Reads as reads
-use Rattle.barrier.proofs.send.Lts as lts
-use Rattle.frame.proofs.write.Reads as write-reads
 
 returns : tie.Need-returns
 unfolding sendTurn
@@ -26,5 +23,5 @@ returns-2 c =
 pub send-spec : {M : Type 1} → statement M
 send-spec =
     tie.close
-    (tie.spec (λ c κs. search needs) (λ c. search needs) (λ c. search needs) (λ c. search needs) returns (λ c. search needs)
-    returns-2)
+    (tie.spec (λ c κs. search needs) (λ c. search needs) (λ c. search needs) (λ c. search needs) returns
+    (λ c. search needs) returns-2)

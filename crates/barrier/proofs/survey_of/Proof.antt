@@ -1,7 +1,5 @@
 use Rattle.barrier.proofs.survey_of.Statement.{statement}
 use Rattle.barrier.proofs.survey_of.Tie as tie
-use Rattle.barrier.proofs.survey_of.Reads as reads
-use Rattle.barrier.proofs.survey_of.Lts as lts
 
 -- src/lib.rt:67:1
 returns : tie.Need-returns

@@ -8,10 +8,6 @@ use Rattle.node.specs.declared.BarrierReply.{BarrierReply}
 use Rattle.barrier.specs.Pieces.{reply, turnedBy}
 use Rattle.barrier.proofs.turned.Statement.{statement}
 use Rattle.barrier.proofs.turned.Tie as tie
-use Rattle.barrier.proofs.turned.Reads as reads
-use Rattle.barrier.proofs.turned.Lts as lts
-use Rattle.barrier.proofs.fresh_in.Reads as fresh-in-reads
-use Rattle.std.proofs.num.wrapping_add_u8.Reads as wrapping-add-u8-reads
 
 returns : tie.Need-returns
 returns c = sym (ap (turnedBy (c .before .before .before .args .n)) (c .before .t .given .1))

@@ -1,16 +1,9 @@
 -- `verdict_on` gives a verdict on the clauses of the step.
 use borrow.Author.Needs.{needs}
 use borrow.Author.Tests.{eq-eqb, ne-eqb}
-use mathlib.Core.Path.{sym, ap, _∙_}
-use Rattle.base.proofs.Laws.{choose-yes, choose-no}
-use Rattle.barrier.specs.Standin.{isVerdict}
 use Rattle.barrier.specs.Pieces.{clausesOf}
 use Rattle.barrier.proofs.verdict_on.Statement.{statement}
 use Rattle.barrier.proofs.verdict_on.Tie as tie
-use Rattle.barrier.proofs.verdict_on.Reads as reads
-use Rattle.barrier.proofs.verdict_on.Lts as lts
-use Rattle.barrier.proofs.first_verdict.Reads as first-verdict-reads
-use Rattle.barrier.proofs.second_verdict.Reads as second-verdict-reads
 
 returns : tie.Need-returns
 unfolding clausesOf

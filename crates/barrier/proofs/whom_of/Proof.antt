@@ -8,8 +8,6 @@ use Rattle.tree.specs.Lookups.{placedAnswer}
 use Rattle.barrier.specs.Pieces.{toWhom}
 use Rattle.barrier.proofs.whom_of.Statement.{statement}
 use Rattle.barrier.proofs.whom_of.Tie as tie
-use Rattle.barrier.proofs.whom_of.Reads as reads
-use Rattle.barrier.proofs.whom_of.Lts as lts
 
 -- who is named at a place that is told apart is one byte
 told : (c : tie.Start) {q : Placed} {b : ℕ} → c .args .placed ≡ q → List·Memᴰ b (toWhom (placedAnswer q)) → b < 256
@@ -23,7 +21,8 @@ cast-t9 c = record { fits = told (c .before .before .before) (c .before .placed2
 
 cast-t10 : tie.Need-cast-t10
 cast-t10 c =
-    record { fits = told (c .before .before .before) (c .before .placed2 .given .1) (List·Memᴰ·tail (List·Memᴰ·head refl)) }
+    let second = List·Memᴰ·tail (List·Memᴰ·head refl) in
+    record { fits = told (c .before .before .before) (c .before .placed2 .given .1) second }
 
 returns : tie.Need-returns
 returns c = sym (ap (λ p. toWhom (placedAnswer p)) (c .before .placed .given .1))
