@@ -63,6 +63,7 @@ pub fn survey_of(n: Node) -> Survey
 
 // ---- To whom a frame goes
 
+// The receivers of a frame, if any.
 enum Whom {
     Nobody,
     To(Receivers),
@@ -190,9 +191,12 @@ fn frame_due(pass: u8, phase: u8, dim: u8, sender: u8, s: Survey, agreed: u32) -
 
 // ---- The turn of a node
 
+// What a node does in a call.
 enum Turn {
     Refuses(u8),
+    // to these receivers, a frame of this length
     Sends(Receivers, u32),
+    // for this clause
     Waits(u8),
     // to this pass and dimension, with this T
     Moves(u8, u8, u32),
