@@ -203,32 +203,8 @@ returns-4 c =
 pub barrier-call-spec : {M : Type 1} → statement M
 barrier-call-spec =
     tie.close
-    (tie.spec
-    (λ c κs. search needs)
-    (λ c κs. search needs)
-    returns
-    (λ c κs. search needs)
-    returns-2
-    (λ c. search needs)
-    (λ c. search needs)
-    (λ c. search needs)
-    (λ c κs. search needs)
-    whom-due-requires
-    (λ c. search needs)
-    frame-due-requires
-    (λ c κs. search needs)
-    (λ c κs. search needs)
-    (λ c. search needs)
-    returns-3
-    (λ c. search needs)
-    cast-k
-    mul-first
-    element-copy-out-first
-    mul-second
-    element-copy-out-second
-    (λ c κs. search needs)
-    cast-verdict-on
-    (λ c κs. search needs)
-    look-requires
-    (λ c κs. search needs)
-    returns-4)
+    (tie.spec (λ c κs. search needs) (λ c κs. search needs) returns (λ c κs. search needs) returns-2 (λ c. search needs)
+    (λ c. search needs) (λ c. search needs) (λ c κs. search needs) whom-due-requires (λ c. search needs)
+    frame-due-requires (λ c κs. search needs) (λ c κs. search needs) (λ c. search needs) returns-3 (λ c. search needs)
+    cast-k mul-first element-copy-out-first mul-second element-copy-out-second (λ c κs. search needs) cast-verdict-on
+    (λ c κs. search needs) look-requires (λ c κs. search needs) returns-4)
