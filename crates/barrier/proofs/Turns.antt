@@ -1,11 +1,11 @@
 -- Laws of turns: the reply to a turn is the definition's, with a clause that may be named and the lent bytes.
 use mathlib.Core.Path.{_≡_, refl, sym, ap, _∙_}
 use mathlib.Core.Bool.{Bool, true, false, not}
-use mathlib.Core.List.{List, [], _∷_}
-use Prim.Native.Nat.{ℕ, zero, suc, _<_}
+use mathlib.Core.List.{List, []}
+use Prim.Native.Nat.{ℕ, suc, _<_}
 use lib.Dec.{ltb, eqb}
-use lib.ListN.{length, getD}
-use borrow.Author.Tests.{lt-ltb, not-true}
+use lib.ListN.{length}
+use borrow.Author.Tests.{lt-ltb}
 use Rattle.base.specs.Choice.{choose, both}
 use Rattle.base.specs.Limits.{base}
 use Rattle.base.specs.Refusal.{Refusal, when}
@@ -20,6 +20,7 @@ use Rattle.node.specs.declared.Node.{Node}
 use Rattle.node.specs.declared.BarrierReply.{BarrierReply}
 use Rattle.node.proofs.Ways.{callChecks, NoneDue, call-refuses, call-looks}
 use Rattle.agree.specs.Verdict.{isVerdict}
+use Rattle.agree.proofs.Clauses.{named-fails}
 use Rattle.barrier.specs.Pieces.{byVerdict, onwardTurn, lookTurn, turnedBy}
 use Rattle.agree.specs.declared.Verdict.{Verdict}
 use Rattle.agree.specs.declared.Verdict.the-variants.{Agrees, Fails}
@@ -60,21 +61,6 @@ module _ (n : Node) (buf : List ℕ) where
         refuses (later (ap not ok) (later b (here {c = short} (both-make d (lt-ltb _ _ l)))))
 
 -- ---- verdicts
-
--- where a clause may be named, not all hold
-not-all : (cs : List Bool) (c : ℕ) → getD cs c true ≡ false → allHold cs ≡ false
-not-all [] c e = clash e
-not-all (b ∷ cs) zero e = rw e
-not-all (true ∷ cs) (suc c) e = not-all cs c e
-not-all (false ∷ cs) (suc c) e = refl
-
-named-fails : (cs : List Bool) (c : ℕ) → mayName cs c ≡ true → allHold cs ≡ false
-unfolding mayName
-named-fails cs c e = go (getD cs 0 true) refl e
-  where
-    go : (t : Bool) → getD cs 0 true ≡ t → choose t (not (getD cs c true)) (eqb c 0) ≡ true → allHold cs ≡ false
-    go true f q = not-all cs c (not-true _ q)
-    go false f q = not-all cs 0 f
 
 module _ (n : Node) where
   abbrev tests : List Bool
