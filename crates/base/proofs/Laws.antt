@@ -100,6 +100,12 @@ getD-list start (suc count) f (suc i) d h =
 pub list-at : {A : Type 0} (count : ℕ) (f : ℕ → A) (i : ℕ) (d : A) → i < count → getD (list 0 count f) i d ≡ f i
 list-at count f i d h = getD-list 0 count f i d h ∙ ap f (zero-add i)
 
+-- a list of one value has it everywhere
+pub list-one : {A : Type 0} (start count : ℕ) (x : A) (i : ℕ) → getD (list start count (λ m. x)) i x ≡ x
+list-one start zero x i = refl
+list-one start (suc count) x zero = refl
+list-one start (suc count) x (suc i) = list-one (suc start) count x i
+
 -- one value more at the end
 pub list-more : {A : Type 0} (start count : ℕ) (f : ℕ → A)
     → list start (count + 1) f ≡ list start count f ++ (f (start + count) ∷ [])
