@@ -22,7 +22,7 @@ use Rattle.node.specs.declared.BarrierAnswer.the-variants.{Sends, Waits, Moved,
 use Rattle.node.specs.declared.BarrierReply.{BarrierReply}
 use Rattle.agree.specs.Verdict.{sumAt}
 use Rattle.agree.specs.declared.Sums.{Sums}
-use Rattle.barrier.specs.declared.Survey.{Survey}
+use Rattle.survey.specs.declared.Survey.{Survey}
 use Rattle.agree.specs.declared.Verdict.{Verdict}
 use Rattle.agree.specs.declared.Verdict.the-variants.{Agrees, Fails}
 use Rattle.barrier.specs.declared.Whom.{Whom}

@@ -12,7 +12,6 @@ ghost use Rattle.node.specs.Answers.{barrierReplied};
 ghost use Rattle.node.specs.Barrier.{barrier, barrierBytes, clauseFails};
 ghost use Rattle.node.specs.Change.{freshIn};
 ghost use Rattle.agree.specs.Verdict.{isVerdict};
-ghost use Rattle.barrier.specs.Standin.{surveyed};
 ghost use Rattle.barrier.specs.Pieces.{toWhom, isLone, whomList, within, firstDue, secondDue, frameOf, clausesOf};
 ghost use Rattle.barrier.specs.Pieces.{sendTurn, onwardTurn, lookTurn, turnedBy};
 use agree::Sums;
@@ -27,39 +26,9 @@ use node::Extra;
 use node::Node;
 use node::Receivers;
 use node::Stored;
+use survey::Survey;
 use tree::Found;
 use tree::Placed;
-
-// ---- stand-ins
-
-pub struct Survey {
-    pub ok: bool,
-    pub dims: u32,
-    pub sends: Sent,
-    pub takes: Taken,
-    pub own: Sums,
-    pub issued: Sent,
-    pub total: u32,
-}
-
-pub fn survey_of(n: Node) -> Survey
-    ensures { λ r. ⌜ r ≡ surveyed base n ⌝ }
-{
-    Survey {
-        ok: false,
-        dims: 0,
-        sends: Sent(0),
-        takes: Taken(0),
-        own: Sums {
-            sent: [Sent(0); 8],
-            taken: [Taken(0); 8],
-            issued: Sent(0),
-            received: Taken(0),
-        },
-        issued: Sent(0),
-        total: 0,
-    }
-}
 
 // ---- To whom a frame goes
 
@@ -346,7 +315,7 @@ pub fn barrier_call(n: Node, buf: &mut [u8]) -> BarrierReply
     ensures clause { λ r. ⌜ clauseFails base n (r .answer) ≡ true ⌝ }
     ensures memory { λ r. ⌜ now (buf .exit) ≡ barrierBytes base n (now (buf .entry)) ⌝ }
 {
-    let s = survey_of(n);
+    let s = survey::survey_of(n);
     if !s.ok {
         return turned(n, Turn::Refuses(13));
     }
