@@ -59,7 +59,8 @@ module _ (L : Limits) (awaits : Bool) (p k : ℕ) (x : Stored) (ok : firstTest L
   abbrev told : ℕ → Bool
   told m = both (x .present) (hasShell p k m)
 
-  shell : (m : ℕ) → m < 8 → (numberOk L (told m) (number x (sentIn m)) ≡ true) × (numberOk L (told m) (number x (takenIn m)) ≡ true)
+  shell : (m : ℕ) → m < 8
+      → (numberOk L (told m) (number x (sentIn m)) ≡ true) × (numberOk L (told m) (number x (takenIn m)) ≡ true)
   unfolding shellOk
   shell m l =
       both-true (numberOk L (told m) (number x (sentIn m))) (numberOk L (told m) (number x (takenIn m)))

@@ -1,4 +1,4 @@
--- What each test of the code says of the state: where it fails there is no survey, and where all hold the survey is the one found.
+-- What the code's tests say of the state: where one fails there is no survey, where all hold it is the one found.
 use mathlib.Core.Path.{_≡_, sym, ap, _∙_}
 use mathlib.Core.Bool.{Bool, true, false, not}
 use Prim.Native.Nat.{ℕ, suc, _+_, _-_, _≤_, _<_}
@@ -19,8 +19,8 @@ use Rattle.agree.specs.Verdict.{sumAt}
 use Rattle.steps.specs.Step.{stepTest}
 use Rattle.steps.specs.declared.Spot.{Spot}
 use Rattle.survey.specs.Survey.{sumsOf, noSurvey, surveyed}
-use Rattle.survey.specs.Walk.{positionTest, busyTest, headTest, spareZero, talliesTest, totalTest, walkOf, surveyWith}
-use Rattle.survey.specs.Walk.{addWalk, startOf, RoomFor, fits}
+use Rattle.survey.specs.Walk.{positionTest, busyTest, headTest, spareZero, talliesTest, totalTest, surveyWith}
+use Rattle.survey.specs.Walk.{walkOf, addWalk, startOf, RoomFor, fits}
 use Rattle.survey.specs.declared.Walk.{Walk}
 use Rattle.survey.proofs.Valid.{not-both, refused, passed}
 use Rattle.survey.proofs.Sums.{own-end}
@@ -34,7 +34,9 @@ pub bad-board : (n : Node) → badBoard base (n .nodes) ≡ true → noSurvey �
 unfolding boardOk
 bad-board n e =
     refused n
-    (λ w. not-both e (not-true _ (both-true (not (badBoard base (n .nodes))) (ltb (n .number) (n .nodes)) (w .board) .0)))
+    (λ w.
+    let q = both-true (not (badBoard base (n .nodes))) (ltb (n .number) (n .nodes)) (w .board) in
+    not-both e (not-true _ (q .0)))
 
 module _ (n : Node) (p : ℕ) (good : badBoard base (n .nodes) ≡ false) (e : p ≡ dims n) where
   abbrev position : Bool
@@ -83,7 +85,8 @@ module _ (n : Node) (p : ℕ) (good : badBoard base (n .nodes) ≡ false) (e : p
 
     pub small : tallies ≡ true → (sends ≤ 65535) × (takes ≤ 16711425)
     small f =
-        let q = both-true (both (leb sends 65535) (leb takes 16711425)) (every p (8 - p) (spareZero (n .sent) (n .taken))) f in
+        let z = every p (8 - p) (spareZero (n .sent) (n .taken)) in
+        let q = both-true (both (leb sends 65535) (leb takes 16711425)) z f in
         let r = both-true (leb sends 65535) (leb takes 16711425) (q .0) in
         (leb-true _ _ (r .0), leb-true _ _ (r .1))
 
@@ -144,6 +147,7 @@ module _ (n : Node) (board : boardOk base n ≡ true) (position : positionOk n �
 
     pub found : (tallies : talliesOk base n ≡ true) (busy : busyOk n ≡ true)
         → totalTest base (n .pass) (n .agreed) (w .sums .received .0) ≡ true → (p : ℕ) (start here : Walk) → p ≡ dims n
-        → start ≡ walkOf n 0 → here ≡ walkOf n (n .dim) → surveyWith p start here (w .sums .received .0) ≡ surveyed base n
+        → start ≡ walkOf n 0 → here ≡ walkOf n (n .dim)
+        → surveyWith p start here (w .sums .received .0) ≡ surveyed base n
     found tallies busy f p start here a b c =
         rw (a, b, c, all) (passed n (steps-whole n board position tallies (sym total-is ∙ f) busy steps))

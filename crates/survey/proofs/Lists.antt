@@ -69,7 +69,8 @@ total-has f (suc n) m h = go (total-has f n m) (decLe n m)
     go r (no d) = let i = r (omega arith) in omega arith
 
 -- what stands at a place of a list by a rule
-pub list-at : {A : Type 0} (start count : ℕ) (f : ℕ → A) (i : ℕ) (d : A) → i < count → getD (list start count f) i d ≡ f (start + i)
+pub list-at : {A : Type 0} (start count : ℕ) (f : ℕ → A) (i : ℕ) (d : A) → i < count
+    → getD (list start count f) i d ≡ f (start + i)
 list-at start zero f i d h = absurd (omega arith)
 list-at start (suc count) f zero d h = ap f (omega arith)
 list-at start (suc count) f (suc i) d h =
@@ -91,4 +92,7 @@ pub every-same : (start count : ℕ) (f g : ℕ → Bool) → ((i : ℕ) → sta
     → every start count f ≡ every start count g
 every-same start zero f g h = refl
 every-same start (suc count) f g h =
-    rw (h start (omega arith) (omega arith), every-same (suc start) count f g (λ i a b. h i (omega arith) (omega arith)))
+    rw (
+      h start (omega arith) (omega arith),
+      every-same (suc start) count f g (λ i a b. h i (omega arith) (omega arith)),
+    )

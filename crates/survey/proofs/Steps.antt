@@ -73,7 +73,8 @@ unfolding awaitsAt boardOk
 awaits-same n k ok = go (decLe (dims n) k)
   where
     go : Dec (dims n ≤ k)
-        → both (ltb k (dims n)) (not (both (eqb k 0) (lone (n .nodes) (n .number)))) ≡ both (ltb k (dims n)) (not (isAlone n k))
+        → both (ltb k (dims n)) (not (both (eqb k 0) (lone (n .nodes) (n .number))))
+        ≡ both (ltb k (dims n)) (not (isAlone n k))
     go (yes l) = rw (le-ltb k (dims n) l)
     go (no l) =
         let q = both-true (not (badBoard base (n .nodes))) (ltb (n .number) (n .nodes)) ok in
@@ -125,7 +126,8 @@ module _ (n : Node) (board : boardOk base n ≡ true) (position : positionOk n �
   before k h = ⊎-elim (λ l. omega arith) (λ e. absurd (omega arith)) here
 
   -- a step before the position, in either pass
-  pub passed-first : (k : ℕ) → k < dims n → passedOk base n ≡ true → firstPast (spotOf n) k ≡ true → agrees base n 1 k ≡ true
+  pub passed-first : (k : ℕ) → k < dims n → passedOk base n ≡ true → firstPast (spotOf n) k ≡ true
+      → agrees base n 1 k ≡ true
   unfolding passedOk
   passed-first k l ok = go (eqb (n .pass) 1) ok
     where
@@ -166,7 +168,9 @@ module _ (n : Node) (board : boardOk base n ≡ true) (position : positionOk n �
           (both (every 0 (dims n) (agrees base n 1)) (every 0 (n .dim) (agrees base n 2)))
           ≡ true
       go true a b =
-          every-make 0 (n .dim) (agrees base n 1) (λ k i j. a k (before k (omega arith)) (lt-ltb k (n .dim) (omega arith)))
+          every-make 0 (n .dim) (agrees base n 1)
+          (λ k i j. a k (before k (omega arith)) (lt-ltb k (n .dim) (omega arith)))
       go false a b =
           both-make (every-make 0 (dims n) (agrees base n 1) (λ k i j. a k (omega arith) refl))
-          (every-make 0 (n .dim) (agrees base n 2) (λ k i j. b k (before k (omega arith)) (lt-ltb k (n .dim) (omega arith))))
+          (every-make 0 (n .dim) (agrees base n 2)
+          (λ k i j. b k (before k (omega arith)) (lt-ltb k (n .dim) (omega arith))))

@@ -11,7 +11,8 @@ use Rattle.base.specs.Choice.{both, every}
 use Rattle.base.specs.Limits.{base}
 use Rattle.base.proofs.Laws.{choose-no, both-true, every-at}
 use Rattle.frame.specs.Frame.{sentAt, takenAt}
-use Rattle.node.specs.Sums.{dims, firstAt, secondAt, Field, sentIn, takenIn, allSent, allTaken, tally, number, own, ownIssued}
+use Rattle.node.specs.Sums.{dims, firstAt, secondAt, Field, sentIn, takenIn, allSent, allTaken, tally, number}
+use Rattle.node.specs.Sums.{own, ownIssued}
 use Rattle.node.specs.State.{talliesOk, firstOk, secondOk, awaitsFrame}
 use Rattle.node.specs.declared.Node.{Node}
 use Rattle.steps.specs.Step.{shellOk, firstTest, secondTest}
@@ -66,7 +67,8 @@ pub own-end : (n : Node) (k : ℕ) → ((j : ℕ) → j < k → firstOk base n j
 own-end n zero ok l f = ap (λ j. own n j f) (omega arith)
 own-end n (suc k) ok l f = go (decLe (dims n) k) (own-end n k (λ j h. ok j (omega arith)))
   where
-    go : Dec (dims n ≤ k) → (dims n ≤ k → (f : Field) → own n k f ≡ own n (dims n) f) → own n (suc k) f ≡ own n (dims n) f
+    go : Dec (dims n ≤ k) → (dims n ≤ k → (f : Field) → own n k f ≡ own n (dims n) f)
+        → own n (suc k) f ≡ own n (dims n) f
     go (yes m) r = own-past n k (ok k (omega arith)) m f ∙ r m f
     go (no m) r = ap (λ j. own n j f) (omega arith)
 
@@ -115,7 +117,8 @@ module _ (n : Node) (ok : talliesOk base n ≡ true) where
   tally-low allSent h = omega (arith, sends)
   tally-low allTaken h = omega (arith, takes)
 
-  pub own-low : (k : ℕ) → ((j : ℕ) → j < k → firstOk base n j ≡ true) → (f : Field) → Has f → own n k f ≤ 16776960 * suc k
+  pub own-low : (k : ℕ) → ((j : ℕ) → j < k → firstOk base n j ≡ true) → (f : Field) → Has f
+      → own n k f ≤ 16776960 * suc k
   unfolding own
   own-low zero first f h = omega (arith, tally-low f h)
   own-low (suc k) first f h =

@@ -19,7 +19,8 @@ use Rattle.survey.specs.Survey.{sumsOf}
 use Rattle.survey.proofs.Valid.{Whole}
 use Rattle.survey.proofs.Sums.{first-test, second-test}
 use Rattle.survey.proofs.Walks.{sum-at}
-use Rattle.survey.proofs.Steps.{spotOf, Below, awaits-same, clauses-same, few, passed-first, passed-second, all-passed}
+use Rattle.survey.proofs.Steps.{spotOf, Below, awaits-same, clauses-same, few}
+use Rattle.survey.proofs.Steps.{passed-first, passed-second, all-passed}
 
 -- a test that is made only where another holds
 either-make : (s t : Bool) → (s ≡ true → t ≡ true) → either (not s) t ≡ true
@@ -131,8 +132,8 @@ module _ (n : Node) (board : boardOk base n ≡ true) (position : positionOk n �
         (λ f.
         either-use (secondPast (spotOf n) k) (allHold (clauses base n 2 k)) (sym second-is ∙ both-held l f .1) p)
 
-pub steps-whole : (n : Node) → boardOk base n ≡ true → positionOk n ≡ true → talliesOk base n ≡ true → totalOk base n ≡ true
-    → busyOk n ≡ true → ((k : ℕ) → k < 8 → stepAt n k ≡ true) → Whole base n
+pub steps-whole : (n : Node) → boardOk base n ≡ true → positionOk n ≡ true → talliesOk base n ≡ true
+    → totalOk base n ≡ true → busyOk n ≡ true → ((k : ℕ) → k < 8 → stepAt n k ≡ true) → Whole base n
 steps-whole n board position tallies total busy steps =
     let low : (k : ℕ) → k < dims n → k < 8 = λ k l. omega (arith, few n board position) in
     record {

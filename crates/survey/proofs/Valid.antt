@@ -64,6 +64,7 @@ pub refused : (n : Node) → (Whole base n → ⊥) → noSurvey ≡ surveyed ba
 unfolding surveyed
 refused n f = sym (choose-no _ _ (fails _ (λ e. f (whole base n e))))
 
-pub passed : (n : Node) → Whole base n → surveyWith (dims n) (walkOf n 0) (walkOf n (n .dim)) (own n (dims n) allTaken) ≡ surveyed base n
+pub passed : (n : Node) → Whole base n
+    → surveyWith (dims n) (walkOf n 0) (walkOf n (n .dim)) (own n (dims n) allTaken) ≡ surveyed base n
 unfolding surveyed sumsOf own ownIssued
 passed n w = sym (choose-yes _ _ (whole-valid base n w))

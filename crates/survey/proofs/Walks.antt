@@ -36,7 +36,10 @@ sum-at n k allTaken h = refl
 module _ (n : Node) (k : ℕ) (one : firstOk base n k ≡ true) (two : secondOk base n k ≡ true) where
   -- a sum with the frame's number added
   more : (f : Field) → Has f → sumAt (sumsOf n k) f + number (firstAt n k) f ≡ own n (k + 1) f
-  more f h = ap (λ x. x + number (firstAt n k) f) (sum-at n k f h) ∙ sym (own-more n k one f h) ∙ ap (λ j. own n j f) (sym (add-one k))
+  more f h =
+      ap (λ x. x + number (firstAt n k) f) (sum-at n k f h)
+      ∙ sym (own-more n k one f h)
+      ∙ ap (λ j. own n j f) (sym (add-one k))
 
   confirmed : ownIssued n k + secondAt n k .issued .0 ≡ ownIssued n (k + 1)
   confirmed = sym (issued-more n k two) ∙ ap (ownIssued n) (sym (add-one k))
@@ -65,7 +68,8 @@ module _ (n : Node) (k : ℕ) (one : firstOk base n k ≡ true) (two : secondOk 
       }
 
 -- the frames of one dimension more have room
-module _ (n : Node) (k : ℕ) (l : k < 8) (ok : talliesOk base n ≡ true) (first : (j : ℕ) → j < suc k → firstOk base n j ≡ true) where
+module _ (n : Node) (k : ℕ) (l : k < 8) (ok : talliesOk base n ≡ true)
+    (first : (j : ℕ) → j < suc k → firstOk base n j ≡ true) where
   room-for : (f : Field) → Has f → fits (sumAt (sumsOf n k) f + number (firstAt n k) f)
   room-for f h =
       omega (
@@ -85,8 +89,8 @@ module _ (n : Node) (k : ℕ) (l : k < 8) (ok : talliesOk base n ≡ true) (firs
         received = room-for allTaken tt;
       }
 
-pub issued-room : (n : Node) (k : ℕ) → k < 8 → talliesOk base n ≡ true → ((j : ℕ) → j < suc k → secondOk base n j ≡ true)
-    → fits (ownIssued n k + secondAt n k .issued .0)
+pub issued-room : (n : Node) (k : ℕ) → k < 8 → talliesOk base n ≡ true
+    → ((j : ℕ) → j < suc k → secondOk base n j ≡ true) → fits (ownIssued n k + secondAt n k .issued .0)
 issued-room n k l ok second =
     omega (arith, issued-low n ok k (λ j i. second j (omega arith)), confirm-low n k (second k (omega arith)))
 

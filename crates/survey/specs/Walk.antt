@@ -1,5 +1,5 @@
--- Definitions that only the contracts of private functions cite: the state test over small pieces of the state, and the own
--- sums that a walk over the stored frames gathers.
+-- Definitions that only the contracts of private functions cite: the tests of head and tallies over small pieces of the
+-- state, and the own sums that a walk over the stored frames gathers.
 use mathlib.Core.Bool.{Bool, true, false}
 use mathlib.Core.List.{List}
 use Prim.Native.Nat.{ℕ, _+_, _-_, _<_, _^_}

@@ -37,5 +37,6 @@ returns-2 c = sym (c .before .loop .inv ∙ every-end _ _ _ (c .loop-test .left)
 pub spare-zero-spec : {M : Type 1} → statement M
 spare-zero-spec =
     tie.close
-    (tie.spec Inv-loop μ-loop (λ c. refl) (λ c. search needs) (λ c. search needs) (λ c. search needs) (λ c. search needs)
-    (λ c. search needs) (λ c κs. search needs) returns (λ c. search needs) (λ c. search needs) loop-again returns-2)
+    (tie.spec Inv-loop μ-loop (λ c. refl) (λ c. search needs) (λ c. search needs) (λ c. search needs)
+    (λ c. search needs) (λ c. search needs) (λ c κs. search needs) returns (λ c. search needs) (λ c. search needs)
+    loop-again returns-2)

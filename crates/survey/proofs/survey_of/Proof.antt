@@ -16,8 +16,8 @@ use Rattle.node.specs.declared.Node.{Node}
 use Rattle.survey.specs.Walk.{spotAt, walkOf}
 use Rattle.survey.proofs.Steps.{spotOf, few, low}
 use Rattle.survey.proofs.Tested.{stepAt, step-first, step-second}
-use Rattle.survey.proofs.Exits.{bad-board, bad-head, good-head, bad-tallies, good-tallies, small, bad-step, bad-total, found}
-use Rattle.survey.proofs.Exits.{start-is, room-is, more-is, held-is, step-by}
+use Rattle.survey.proofs.Exits.{bad-board, bad-head, good-head, bad-tallies, good-tallies, small, start-is}
+use Rattle.survey.proofs.Exits.{room-is, more-is, held-is, step-by, bad-step, bad-total, found}
 use Rattle.survey.proofs.survey_of.Statement.{statement}
 use Rattle.survey.proofs.survey_of.Tie as tie
 
@@ -104,8 +104,9 @@ module _ (c : tie.After-start-of Inv-loop μ-loop) where
   start =
       let s = t (c .before .before) in
       let g = told .before .before .before .before .good .0 .1 .1 .1 .1 .1 .1 in
-      start-is (n told) _ _ _ _ (known told .1) (s .before .total-sent .ensures) (s .total-taken .ensures) (c .start-of .ensures)
-      (sym (length-map (n told .sent) _) ∙ g .0 .1 .0 .1) (sym (length-map (n told .taken) _) ∙ g .1 .0 .1 .0 .1)
+      start-is (n told) _ _ _ _ (known told .1) (s .before .total-sent .ensures) (s .total-taken .ensures)
+      (c .start-of .ensures) (sym (length-map (n told .sent) _) ∙ g .0 .1 .0 .1)
+      (sym (length-map (n told .taken) _) ∙ g .1 .0 .1 .0 .1)
 
   spot : c .before .spot-at .result ≡ spotOf (n told)
   spot =
@@ -157,15 +158,16 @@ module _ (c : tie.Else3 Inv-loop μ-loop) where
 added-requires : tie.Need-added-requires Inv-loop μ-loop
 added-requires c κs =
     let b = c .before in
-    room-is (state (s b)) (k b) (s b .before .before .before .before .loop-test .taken) (tallied (l (s b) .before .before .before))
-    (first b) (second b) _ (l (s b) .loop .inv .1)
+    room-is (state (s b)) (k b) (s b .before .before .before .before .loop-test .taken)
+    (tallied (l (s b) .before .before .before)) (first b) (second b) _ (l (s b) .loop .inv .1)
 
 loop-again : tie.Need-loop-again Inv-loop μ-loop
 loop-again c =
     let b = c .before .before in
     let i = l (s b) .loop .inv in (
       search needs,
-      more-is (state (s b)) (k b) (first b (k b) (omega arith)) (second b (k b) (omega arith)) _ _ (i .1) (c .added .ensures),
+      more-is (state (s b)) (k b) (first b (k b) (omega arith)) (second b (k b) (omega arith)) _ _ (i .1)
+          (c .added .ensures),
       held-is (state (s b)) (k b) _ _ _ (i .1) (i .2) (c .before .held .ensures),
       passes b,
     )
@@ -212,10 +214,11 @@ pub survey-of-spec : {M : Type 1} → statement M
 survey-of-spec =
     tie.close
     (tie.spec Inv-loop μ-loop (λ c. search needs) (λ c. search needs) (λ c. search needs) (λ c κs. search needs)
-    (λ c. search needs) (λ c. search needs) (λ c κs. search needs) returns (λ c κs. search needs) (λ c κs. search needs)
-    returns-2 (λ c κs. few-dims (c .before .before)) (λ c κs. few-dims (c .before .before .before)) (λ c κs. search needs)
-    (λ c κs. search needs) returns-3 (λ c κs. search needs) (λ c. omega (arith, fit (c .before) .0))
-    (λ c. omega (arith, fit (c .before) .1)) (λ c κs. search needs) loop-holds
-    (λ c. search needs) (λ c. search needs) (λ c. search needs) (λ c. search needs) (λ c. search needs) (λ c. search needs)
-    (λ c κs. search needs) (λ c κs. search needs) returns-4 (λ c κs. search needs) added-requires (λ c. search needs)
-    (λ c. search needs) loop-again (λ c κs. search needs) (λ c κs. search needs) returns-5 (λ c κs. search needs) returns-6)
+    (λ c. search needs) (λ c. search needs) (λ c κs. search needs) returns (λ c κs. search needs)
+    (λ c κs. search needs) returns-2 (λ c κs. few-dims (c .before .before))
+    (λ c κs. few-dims (c .before .before .before)) (λ c κs. search needs) (λ c κs. search needs) returns-3
+    (λ c κs. search needs) (λ c. omega (arith, fit (c .before) .0)) (λ c. omega (arith, fit (c .before) .1))
+    (λ c κs. search needs) loop-holds (λ c. search needs) (λ c. search needs) (λ c. search needs) (λ c. search needs)
+    (λ c. search needs) (λ c. search needs) (λ c κs. search needs) (λ c κs. search needs) returns-4
+    (λ c κs. search needs) added-requires (λ c. search needs) (λ c. search needs) loop-again (λ c κs. search needs)
+    (λ c κs. search needs) returns-5 (λ c κs. search needs) returns-6)
