@@ -155,13 +155,13 @@ module _ {L : Limits} {P : ℕ} (setting : Setting L P) where
 
   module _ (w : Board) (s : Calm setting w) where
     abbrev ledger : Ledger
-    ledger = s .played .ledger
+    ledger = s .standing .played .ledger
 
-    abbrev sim : Sim setting w (s .played .ledger)
-    sim = s .played .sim
+    abbrev sim : Sim setting w (s .standing .played .ledger)
+    sim = s .standing .played .sim
 
     ok : (a : ℕ) → a < P → valid L (w .nodes a) ≡ true
-    ok a h = s .accepted a h
+    ok a h = s .standing .accepted a h
 
     to-lt : (l : List Item) (ms : List Dated) → Pair (Carried setting) l ms → (m : Item) → List·Memᴰ m l → m .to < P
     to-lt l ms h m k = at l k ms h
@@ -207,7 +207,7 @@ module _ {L : Limits} {P : ℕ} (setting : Setting L P) where
         → (a : ℕ) × ((a < P) × ((w .count a ≡ w .count u)
         × (agrees L (w .nodes a) (w .nodes a .pass) (w .nodes a .dim) ≡ true)))
     stuck f1 f2 f3 =
-        let r = no-board-sticks (s .played .reached) u hu
+        let r = no-board-sticks (s .standing .played .reached) u hu
         (s .calm (ledger .phase u))
         (λ y h. omega (arith, old y h, sim .counts u, sim .counts y)) rest under nobody in
         (r .0, (r .1 .0, (back (r .0) (r .1 .1 .0), agrees-of (r .0) (r .1 .0) (r .1 .1 .0) (r .1 .1 .1))))
@@ -227,7 +227,7 @@ module _ {L : Limits} {P : ℕ} (setting : Setting L P) where
         nobody a h e =
             subst (λ n. (ledger .pages n .nodes a .flag ≡ false) ⊎ Unheard (tree setting) a
             (ledger .pages n .nodes a .step)) e
-            (mute-of (s .played) a h (mute-now f3 a h (back a e)))
+            (mute-of (s .standing .played) a h (mute-now f3 a h (back a e)))
 
         under : All (λ t. (t .to < P) × (ledger .phase u < ledger .phase (t .to)))
             (ofPhase (ledger .phase u) (ledger .items))
@@ -266,7 +266,7 @@ module _ {L : Limits} {P : ℕ} (setting : Setting L P) where
                 let at-is : stateOf ledger a .step ≡ w .nodes a .dim = sym (sim .node a h .like .step)
                 ∙ step-first p (w .nodes a .pass) (w .nodes a .dim) q in
                 subst (λ x. agrees L (w .nodes a) x (w .nodes a .dim) ≡ true) (sym q)
-                (agrees-first setting ledger (s .played .reached) a (w .count a) h (w .nodes a)
+                (agrees-first setting ledger (s .standing .played .reached) a (w .count a) h (w .nodes a)
                 (sim .node a h) (w .nodes a .dim) (sim .node a h .low)
                 (subst (λ t. Agrees p (fieldLimit L) (stateOf ledger a) t
                 (tree setting .awaited (dimOf p t) a)) at-is g))
@@ -274,7 +274,7 @@ module _ {L : Limits} {P : ℕ} (setting : Setting L P) where
                 let at-is : stateOf ledger a .step ≡ p + w .nodes a .dim = sym (sim .node a h .like .step)
                 ∙ step-second p (w .nodes a .pass) (w .nodes a .dim) q in
                 subst (λ x. agrees L (w .nodes a) x (w .nodes a .dim) ≡ true) (sym q)
-                (agrees-second setting ledger (s .played .reached) a (w .count a) h (w .nodes a)
+                (agrees-second setting ledger (s .standing .played .reached) a (w .count a) h (w .nodes a)
                 (sim .node a h) (w .nodes a .dim) (sim .node a h .low)
                 (subst (λ t. Agrees p (fieldLimit L) (stateOf ledger a) t
                 (tree setting .awaited (dimOf p t) a)) at-is g))
