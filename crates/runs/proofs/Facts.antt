@@ -2,13 +2,13 @@
 use mathlib.Core.Path.{_≡_, refl, sym, ap, _∙_, subst}
 use mathlib.Core.Bool.{true}
 use mathlib.Core.Option.{none, some}
-use mathlib.Core.List.{List, [], _∷_, _++_, List·Memᴰ, List·Memᴰ·head, List·Memᴰ·tail}
+use mathlib.Core.List.{List, [], List·Memᴰ, List·Memᴰ·head, List·Memᴰ·tail}
 use Prim.Native.Nat.{ℕ, suc, _≤_, _<_}
 use native.Mathlib.Decide.{decLt}
 use native.Mathlib.Omega.{arith}
 use Rattle.base.specs.Limits.{Limits}
 use Rattle.node.specs.State.{valid}
-use Rattle.runs.specs.Board.{Item, Board, Event, oldest, run}
+use Rattle.runs.specs.Board.{Item, Board, oldest, run}
 use Rattle.runs.specs.Facts.{Facts, EveryRun}
 use Rattle.cycle.proofs.Lists.{All, all-mid}
 use Rattle.cycle.proofs.OnePhase.{Content, message, report}
@@ -16,17 +16,11 @@ use Rattle.cycle.proofs.Ledger.{Dated, Ledger}
 use Rattle.cycle.proofs.Reached.{within-one, message-holds}
 use Rattle.cycle.proofs.Window.{Sent, Close}
 use Rattle.runs.proofs.Setting.{Setting}
-use Rattle.runs.proofs.Pairs.{Pair, Cut, cut}
+use Rattle.runs.proofs.Pairs.{Cut, Placed, placed, mate}
 use Rattle.runs.proofs.Sim.{Carried, Sim}
 use Rattle.runs.proofs.Arriving.{arrives}
 use Rattle.runs.proofs.Early.{take-early, frame-early, Standing, standing-run}
 use Rattle.runs.proofs.Lone.{only-valid, Alone, lone}
-
--- where an item of a list stands
-split : {A : Type 0} (m : A) (l : List A) → List·Memᴰ m l → (pre : List A) × ((post : List A) × (l ≡ pre ++ m ∷ post))
-split m l (List·Memᴰ·head {x = x} {xs = xs} e) = ([], (xs, ap (λ y. y ∷ xs) (sym e)))
-split m l (List·Memᴰ·tail {x = x} {xs = xs} k) =
-    let r = split m xs k in (x ∷ r .0, (r .1 .0, ap (λ l. x ∷ l) (r .1 .1)))
 
 -- ---- two nodes and more
 
@@ -37,9 +31,9 @@ module _ {L : Limits} {P : ℕ} (setting : Setting L P) (w : Board) (s : Standin
   abbrev sim : Sim setting w (s .played .ledger)
   sim = s .played .sim
 
-  near : (m : Item) (pre post : List Item) → w .items ≡ pre ++ m ∷ post
+  near : (m : Item) → List·Memᴰ m (w .items)
       → (m .to < P) × ((m .phase ≤ suc (w .count (m .to))) × (w .count (m .to) ≤ suc (m .phase)))
-  near m pre post e = (
+  near m k = (
     twin .related .to-lt,
     (
       omega (arith, sent, within-one (s .played .reached) from to from-lt to-lt, twin .related .phase, count-is),
@@ -47,9 +41,11 @@ module _ {L : Limits} {P : ℕ} (setting : Setting L P) (w : Board) (s : Standin
     ),
   )
     where
-      twin : Cut (Carried setting) pre post m (ledger .items)
-      twin = cut (Carried setting) pre post m (ledger .items)
-          (subst (λ l. Pair (Carried setting) l (ledger .items)) e (sim .items))
+      place : Placed m (w .items)
+      place = placed m (w .items) k
+
+      twin : Cut (Carried setting) (place .pre) (place .post) m (ledger .items)
+      twin = mate (Carried setting) m (w .items) (ledger .items) place (sim .items)
 
       from : ℕ
       from = twin .one .item .from
@@ -85,7 +81,7 @@ module _ {L : Limits} {P : ℕ} (setting : Setting L P) (w : Board) (s : Standin
       record {
         accepted = s .accepted;
         close = λ a b h k. omega (arith, within-one (s .played .reached) a b h k, sim .counts a, sim .counts b);
-        underWay = λ m k. let r = split m (w .items) k in near m (r .0) (r .1 .0) (r .1 .1);
+        underWay = near;
         takeEarly =
             λ a b m byte x e.
             take-early setting w (s .played) (s .accepted) (s .fine) (arrives w a b m e) byte x;
@@ -99,7 +95,8 @@ module _ {L : Limits} {P : ℕ} (setting : Setting L P) (w : Board) (s : Standin
 module _ (L : Limits) (one-node : 1 ≤ L .nodes) (w : Board) (i : Alone L one-node w) where
   none-oldest : {A : Type 0} (a b : ℕ) (m : Item) → oldest a b (w .items) ≡ some m → A
   none-oldest a b m e =
-      let z : none ≡ some m = ap (oldest a b) (sym (i .items)) ∙ e in let y : _≡_ {A = ℕ} 0 1 = cc in absurd (omega arith)
+      let z : none ≡ some m = ap (oldest a b) (sym (i .items)) ∙ e in
+      let y : _≡_ {A = ℕ} 0 1 = cc in absurd (omega arith)
 
   none-in : {A : Type 0} (m : Item) (l : List Item) → l ≡ [] → List·Memᴰ m l → A
   none-in m l e (List·Memᴰ·head {x = x} {xs = xs} k) = let y : _≡_ {A = ℕ} 0 1 = cc in absurd (omega arith)

@@ -31,7 +31,7 @@ use Rattle.cycle.proofs.Reached.{no-board-sticks}
 use Rattle.cycle.proofs.Events.{stateOf}
 use Rattle.runs.proofs.Setting.{Setting, tree}
 use Rattle.node.proofs.Ways.{NoneDue, call-sends, call-looks}
-use Rattle.runs.proofs.Pairs.{Pair, pair-all}
+use Rattle.runs.proofs.Pairs.{pair-all, placed, mate}
 use Rattle.runs.proofs.Sim.{Carried, Sim}
 use Rattle.node.proofs.Valid.{step-first, step-second}
 use Rattle.runs.proofs.Caller.{mute-of}
@@ -163,14 +163,9 @@ module _ {L : Limits} {P : ℕ} (setting : Setting L P) where
     ok : (a : ℕ) → a < P → valid L (w .nodes a) ≡ true
     ok a h = s .standing .accepted a h
 
-    to-lt : (l : List Item) (ms : List Dated) → Pair (Carried setting) l ms → (m : Item) → List·Memᴰ m l → m .to < P
-    to-lt l ms h m k = at l k ms h
-      where
-        at : (l : List Item) → List·Memᴰ m l → (ms : List Dated) → Pair (Carried setting) l ms → m .to < P
-        at l (List·Memᴰ·head {x = x} {xs = xs} e) [] h = absurd h
-        at l (List·Memᴰ·head {x = x} {xs = xs} e) (t ∷ ms) h = subst (λ (y : Item). y .to < P) (sym e) (h .0 .to-lt)
-        at l (List·Memᴰ·tail {x = x} {xs = xs} k) [] h = absurd h
-        at l (List·Memᴰ·tail {x = x} {xs = xs} k) (t ∷ ms) h = at xs k ms (h .1)
+    to-lt : (m : Item) → List·Memᴰ m (w .items) → m .to < P
+    to-lt m k =
+        mate (Carried setting) m (w .items) (ledger .items) (placed m (w .items) k) (sim .items) .related .to-lt
 
     -- a node of the oldest phase
     u : ℕ
@@ -301,7 +296,7 @@ module _ {L : Limits} {P : ℕ} (setting : Setting L P) where
         go (inl r) f2 f3 = Lives.busy (r .0) (r .1 .0, from-old (r .0) (r .1 .1 .0)) (r .1 .1 .1)
         go (inr f1) (inl r) f3 =
             Lives.underWay (r .0 .to) (
-              to-lt (w .items) (ledger .items) (sim .items) (r .0) (r .1 .0),
+              to-lt (r .0) (r .1 .0),
               from-old (r .0 .to) (r .1 .1 .1),
             ) (r .0) (r .1 .0) refl (r .1 .1 .0 ∙ sym (r .1 .1 .1))
         go (inr f1) (inr f2) (inl r) =
