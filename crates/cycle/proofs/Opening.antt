@@ -42,6 +42,7 @@ module _ {P p : ℕ} (tree : Tree P p) (limit : ℕ) where
         items-ok = tt;
         below = λ i l. absurd (omega arith);
         covers = omega (arith, sum-zero 0 P);
+        covers-pairs = λ y z. omega arith;
         balance = λ q. omega (arith, sum-zero 0 P);
         pairs = λ q y z. omega arith;
         sent-shells = λ y h k l. sum-zero (tree .low k y) (tree .size k y) ∙ sym (sum-zero 0 k);

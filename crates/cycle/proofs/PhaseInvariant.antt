@@ -25,8 +25,9 @@ module _ {P p : ℕ} (tree : Tree P p) (limit : ℕ) where
     pub items-ok : All (ParcelOk tree limit b) (b .items)
     -- senders are nodes of the board
     pub below : Below P (b .senders)
-    -- what is taken or under way was sent; and where nothing is lost there is nothing else
+    -- what is taken or under way was sent, in all and of each pair; and where nothing is lost there is nothing else
     pub covers : totalTaken P (world b) + messages (b .items) ≤ length (b .senders)
+    pub covers-pairs : (y z : ℕ) → b .takenBetween y z + messages-on y z (b .items) ≤ b .sentBetween y z
     pub balance : b .lossy ≡ false → totalTaken P (world b) + messages (b .items) ≡ length (b .senders)
     pub pairs : b .lossy ≡ false → (y z : ℕ) → b .sentBetween y z ≡ b .takenBetween y z + messages-on y z (b .items)
     -- the tallies by shell are what was sent to and taken from each node of the shell
@@ -130,6 +131,7 @@ module _ {P p : ℕ} (tree : Tree P p) (limit : ℕ) where
     pub items : All (ParcelOk tree limit (changed b a v is log′ sentBetween′ takenBetween′)) is
     pub below : Below P log′
     pub covers : totalTaken P (world (changed b a v is log′ sentBetween′ takenBetween′)) + messages is ≤ length log′
+    pub covers-pairs : (y z : ℕ) → takenBetween′ y z + messages-on y z is ≤ sentBetween′ y z
     pub balance : b .lossy ≡ false
         → totalTaken P (world (changed b a v is log′ sentBetween′ takenBetween′)) + messages is ≡ length log′
     pub pairs : b .lossy ≡ false → (y z : ℕ) → sentBetween′ y z ≡ takenBetween′ y z + messages-on y z is
@@ -161,6 +163,7 @@ module _ {P p : ℕ} (tree : Tree P p) (limit : ℕ) where
         items-ok = g .items;
         below = g .below;
         covers = g .covers;
+        covers-pairs = g .covers-pairs;
         balance = g .balance;
         pairs = g .pairs;
         sent-shells =

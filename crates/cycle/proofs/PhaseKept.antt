@@ -19,7 +19,7 @@ use Rattle.cycle.proofs.Latest.{Latest, latest-keeps}
 use Rattle.cycle.proofs.AtRest.{dim-second}
 use Rattle.cycle.proofs.NodeOk.{world, confirmedIn, ContentOk, ParcelOk, NodeOk}
 use Rattle.cycle.proofs.NodeOk.{agreed-of, second-ok, frame-ok}
-use Rattle.cycle.proofs.Messages.{messages, messages-append, messages-on-append}
+use Rattle.cycle.proofs.Messages.{messages, messages-append, messages-on, messages-on-append}
 use Rattle.cycle.proofs.Messages.{messages-reports, messages-on-reports}
 use Rattle.cycle.proofs.PhaseInvariant.{reach, load-keep, node-keep}
 use Rattle.cycle.proofs.PhaseInvariant.{PhaseInvariant}
@@ -155,6 +155,14 @@ module _ {P p : ℕ} (tree : Tree P p) (limit : ℕ) where
                 (λ t x. again-load (t .from) (t .load) x) (xs ++ ys) (less tree limit b i xs ys t e .1);
             below = i .below;
             covers = omega (arith, i .covers, ap messages e, messages-append xs (t ∷ ys), messages-append xs ys);
+            covers-pairs =
+                λ y z. omega (
+                  arith,
+                  i .covers-pairs y z,
+                  ap (messages-on y z) e,
+                  messages-on-append y z xs (t ∷ ys),
+                  messages-on-append y z xs ys,
+                );
             balance = λ q. never q;
             pairs = λ q. never q;
             sent-shells = i .sent-shells;

@@ -1,16 +1,19 @@
 -- What every ledger that is reached has: a phase that somebody has left is over, phases are within one of one another,
--- and no board sticks.
+-- nobody has left the phase of a message under way, and no board sticks.
 use mathlib.Core.Path.{_≡_, refl, sym, ap, _∙_}
 use mathlib.Core.Logic.{_⊎_}
 use mathlib.Core.Bool.{Bool, true, false}
+use mathlib.Core.List.{List, _∷_, _++_}
 use Prim.Native.Nat.{ℕ, suc, _+_, _≤_, _<_}
 use native.Mathlib.Decide.{decLt}
 use native.Mathlib.Omega.{arith}
 use Rattle.cycle.proofs.Tree.{Tree}
 use Rattle.cycle.proofs.Lists.{All, all-map}
-use Rattle.cycle.proofs.OnePhase.{dimOf, Unheard, Agrees}
+use Rattle.cycle.proofs.OnePhase.{message, dimOf, Unheard, Agrees}
+use Rattle.cycle.proofs.Messages.{is-message, messages, messages-append}
 use Rattle.cycle.proofs.NoStick.{no-stick}
-use Rattle.cycle.proofs.Ledger.{ofPhase, phaseOf, Ledger, Invariant, Reached, reached-invariant, Over}
+use Rattle.cycle.proofs.Ledger.{Dated, ofPhase, phaseOf, Ledger, Invariant, Reached, reached-invariant, Over}
+use Rattle.cycle.proofs.Dating.{phase-mid}
 
 module _ {P p : ℕ} {tree : Tree P p} {limit : ℕ} {b : Ledger} (r : Reached tree limit b) where
   pub invariant : Invariant tree limit b
@@ -41,6 +44,26 @@ module _ {P p : ℕ} {tree : Tree P p} {limit : ℕ} {b : Ledger} (r : Reached t
       go : Dec (suc (b .phase c) < b .phase a) → b .phase a ≤ suc (b .phase c)
       go (no l) = omega arith
       go (yes l) = absurd (omega (arith, safe a (suc (b .phase c)) h l .reached c k))
+
+  -- while a message is under way nobody has left its phase
+  pub message-holds : (xs ys : List Dated) (m : Dated) → b .items ≡ xs ++ m ∷ ys → m .item .load ≡ message
+      → (y : ℕ) → y < P → b .phase y ≤ m .phase
+  message-holds xs ys m e l y h = go (decLt (m .phase) (b .phase y))
+    where
+      n : ℕ
+      n = m .phase
+
+      go : Dec (m .phase < b .phase y) → b .phase y ≤ m .phase
+      go (no k) = omega arith
+      go (yes k) =
+          absurd (omega (
+            arith,
+            safe y n h k .taken,
+            invariant .fit n .covers,
+            ap messages (ap (ofPhase n) e ∙ phase-mid n xs ys m refl),
+            messages-append (ofPhase n xs) (m .item ∷ ofPhase n ys),
+            ap is-message l,
+          ))
 
   -- where nobody in the oldest phase is busy, has something of it under way to it, or would send, a step agrees
   pub no-board-sticks : (u : ℕ) → u < P → b .pages (b .phase u) .lossy ≡ false

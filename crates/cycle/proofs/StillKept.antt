@@ -39,6 +39,7 @@ module _ {P p : ℕ} (tree : Tree P p) (limit : ℕ) where
         items = items-keep tree limit b b′ ev (grows tree limit b a v gr) (reach tree limit b i) is its;
         below = i .below;
         covers = omega (arith, sum-ext (world b′ .taken) (world b .taken) 0 P (λ y k l. got y), j1, i .covers);
+        covers-pairs = λ y z. omega (arith, i .covers-pairs y z, j2 y z);
         balance =
             λ ll. omega (arith, sum-ext (world b′ .taken) (world b .taken) 0 P (λ y k l. got y), j1, i .balance ll);
         pairs = λ ll y z. omega (arith, i .pairs ll y z, j2 y z);

@@ -99,6 +99,13 @@ module _ {P p : ℕ} (tree : Tree P p) (limit : ℕ) where
               length-snoc (b .senders) a,
               i .covers,
             );
+        covers-pairs =
+            λ y z. omega (
+              arith,
+              more-hit (b .sentBetween) a c y z,
+              messages-on-append y z (b .items) (posts a message (c ∷ [])),
+              i .covers-pairs y z,
+            );
         balance =
             λ ll. omega (
               arith,
@@ -212,6 +219,8 @@ module _ {P p : ℕ} (tree : Tree P p) (limit : ℕ) where
             (less tree limit b i xs ys t e .1);
         below = i .below;
         covers = omega (arith, update-sum (λ n. n .tallies takenAll) (b .nodes) c v h, one-message, i .covers);
+        covers-pairs =
+            λ y z. omega (arith, more-hit (b .takenBetween) a c y z, one-on y z, i .covers-pairs y z);
         balance =
             λ ll. omega (arith, update-sum (λ n. n .tallies takenAll) (b .nodes) c v h, one-message, i .balance ll);
         pairs = λ ll y z. omega (arith, more-hit (b .takenBetween) a c y z, one-on y z, i .pairs ll y z);

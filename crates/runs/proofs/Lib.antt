@@ -29,7 +29,10 @@ pub mod Agreeing
 pub mod Sound
 pub mod Clear
 pub mod Room
+pub mod Early
 pub mod Calm
 pub mod Lively
 -- Demand 3.
 pub mod Whole
+-- What a maker may rely on besides.
+pub mod Facts

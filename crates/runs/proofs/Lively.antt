@@ -31,7 +31,7 @@ use Rattle.cycle.proofs.Reached.{no-board-sticks}
 use Rattle.cycle.proofs.Events.{stateOf}
 use Rattle.runs.proofs.Setting.{Setting, tree}
 use Rattle.node.proofs.Ways.{NoneDue, call-sends, call-looks}
-use Rattle.runs.proofs.Pairs.{Pair, pair-all}
+use Rattle.runs.proofs.Pairs.{pair-all, placed, mate}
 use Rattle.runs.proofs.Sim.{Carried, Sim}
 use Rattle.node.proofs.Valid.{step-first, step-second}
 use Rattle.runs.proofs.Caller.{mute-of}
@@ -155,22 +155,17 @@ module _ {L : Limits} {P : ℕ} (setting : Setting L P) where
 
   module _ (w : Board) (s : Calm setting w) where
     abbrev ledger : Ledger
-    ledger = s .played .ledger
+    ledger = s .standing .played .ledger
 
-    abbrev sim : Sim setting w (s .played .ledger)
-    sim = s .played .sim
+    abbrev sim : Sim setting w (s .standing .played .ledger)
+    sim = s .standing .played .sim
 
     ok : (a : ℕ) → a < P → valid L (w .nodes a) ≡ true
-    ok a h = s .accepted a h
+    ok a h = s .standing .accepted a h
 
-    to-lt : (l : List Item) (ms : List Dated) → Pair (Carried setting) l ms → (m : Item) → List·Memᴰ m l → m .to < P
-    to-lt l ms h m k = at l k ms h
-      where
-        at : (l : List Item) → List·Memᴰ m l → (ms : List Dated) → Pair (Carried setting) l ms → m .to < P
-        at l (List·Memᴰ·head {x = x} {xs = xs} e) [] h = absurd h
-        at l (List·Memᴰ·head {x = x} {xs = xs} e) (t ∷ ms) h = subst (λ (y : Item). y .to < P) (sym e) (h .0 .to-lt)
-        at l (List·Memᴰ·tail {x = x} {xs = xs} k) [] h = absurd h
-        at l (List·Memᴰ·tail {x = x} {xs = xs} k) (t ∷ ms) h = at xs k ms (h .1)
+    to-lt : (m : Item) → List·Memᴰ m (w .items) → m .to < P
+    to-lt m k =
+        mate (Carried setting) m (w .items) (ledger .items) (placed m (w .items) k) (sim .items) .related .to-lt
 
     -- a node of the oldest phase
     u : ℕ
@@ -207,7 +202,7 @@ module _ {L : Limits} {P : ℕ} (setting : Setting L P) where
         → (a : ℕ) × ((a < P) × ((w .count a ≡ w .count u)
         × (agrees L (w .nodes a) (w .nodes a .pass) (w .nodes a .dim) ≡ true)))
     stuck f1 f2 f3 =
-        let r = no-board-sticks (s .played .reached) u hu
+        let r = no-board-sticks (s .standing .played .reached) u hu
         (s .calm (ledger .phase u))
         (λ y h. omega (arith, old y h, sim .counts u, sim .counts y)) rest under nobody in
         (r .0, (r .1 .0, (back (r .0) (r .1 .1 .0), agrees-of (r .0) (r .1 .0) (r .1 .1 .0) (r .1 .1 .1))))
@@ -227,7 +222,7 @@ module _ {L : Limits} {P : ℕ} (setting : Setting L P) where
         nobody a h e =
             subst (λ n. (ledger .pages n .nodes a .flag ≡ false) ⊎ Unheard (tree setting) a
             (ledger .pages n .nodes a .step)) e
-            (mute-of (s .played) a h (mute-now f3 a h (back a e)))
+            (mute-of (s .standing .played) a h (mute-now f3 a h (back a e)))
 
         under : All (λ t. (t .to < P) × (ledger .phase u < ledger .phase (t .to)))
             (ofPhase (ledger .phase u) (ledger .items))
@@ -266,7 +261,7 @@ module _ {L : Limits} {P : ℕ} (setting : Setting L P) where
                 let at-is : stateOf ledger a .step ≡ w .nodes a .dim = sym (sim .node a h .like .step)
                 ∙ step-first p (w .nodes a .pass) (w .nodes a .dim) q in
                 subst (λ x. agrees L (w .nodes a) x (w .nodes a .dim) ≡ true) (sym q)
-                (agrees-first setting ledger (s .played .reached) a (w .count a) h (w .nodes a)
+                (agrees-first setting ledger (s .standing .played .reached) a (w .count a) h (w .nodes a)
                 (sim .node a h) (w .nodes a .dim) (sim .node a h .low)
                 (subst (λ t. Agrees p (fieldLimit L) (stateOf ledger a) t
                 (tree setting .awaited (dimOf p t) a)) at-is g))
@@ -274,7 +269,7 @@ module _ {L : Limits} {P : ℕ} (setting : Setting L P) where
                 let at-is : stateOf ledger a .step ≡ p + w .nodes a .dim = sym (sim .node a h .like .step)
                 ∙ step-second p (w .nodes a .pass) (w .nodes a .dim) q in
                 subst (λ x. agrees L (w .nodes a) x (w .nodes a .dim) ≡ true) (sym q)
-                (agrees-second setting ledger (s .played .reached) a (w .count a) h (w .nodes a)
+                (agrees-second setting ledger (s .standing .played .reached) a (w .count a) h (w .nodes a)
                 (sim .node a h) (w .nodes a .dim) (sim .node a h .low)
                 (subst (λ t. Agrees p (fieldLimit L) (stateOf ledger a) t
                 (tree setting .awaited (dimOf p t) a)) at-is g))
@@ -301,7 +296,7 @@ module _ {L : Limits} {P : ℕ} (setting : Setting L P) where
         go (inl r) f2 f3 = Lives.busy (r .0) (r .1 .0, from-old (r .0) (r .1 .1 .0)) (r .1 .1 .1)
         go (inr f1) (inl r) f3 =
             Lives.underWay (r .0 .to) (
-              to-lt (w .items) (ledger .items) (sim .items) (r .0) (r .1 .0),
+              to-lt (r .0) (r .1 .0),
               from-old (r .0 .to) (r .1 .1 .1),
             ) (r .0) (r .1 .0) refl (r .1 .1 .0 ∙ sym (r .1 .1 .1))
         go (inr f1) (inr f2) (inl r) =

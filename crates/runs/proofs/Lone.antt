@@ -29,7 +29,7 @@ module _ (L : Limits) (one-node : 1 ≤ L .nodes) where
   abbrev pub only : ℕ → Bool → Node
   only ph b = withBusy (freshIn 1 0 ph) b
 
-  only-valid : (ph : ℕ) (b : Bool) → valid L (only ph b) ≡ true
+  pub only-valid : (ph : ℕ) (b : Bool) → valid L (only ph b) ≡ true
   unfolding valid boardOk positionOk talliesOk totalOk firstOk secondOk passedOk busyOk own ownIssued agrees awaited
       place placeIn runOf runBelow dimension smallestFrom
   only-valid ph true =

@@ -2,7 +2,7 @@
 use mathlib.Core.Path.{_≡_, refl, sym, ap, _∙_, subst}
 use mathlib.Core.Bool.{Bool, true, false}
 use mathlib.Core.Option.{some}
-use mathlib.Core.List.{List, [], _∷_, _++_}
+use mathlib.Core.List.{List, [], _∷_, _++_, List·Memᴰ, List·Memᴰ·head, List·Memᴰ·tail}
 use Prim.Native.Nat.{ℕ, zero, suc}
 use native.Mathlib.Omega.{arith}
 use lib.Dec.{eqb}
@@ -11,6 +11,17 @@ use Rattle.base.specs.Choice.{choose}
 use Rattle.base.proofs.Laws.{clash, both-true, both-make}
 use Rattle.runs.specs.Board.{Item, onLink, oldest, without, lessOne}
 use Rattle.cycle.proofs.Lists.{All}
+
+-- where a value of a list stands
+pub record Placed {A : Type 0} (x : A) (l : List A) : Type 0 where
+  pub pre : List A
+  pub post : List A
+  pub whole : l ≡ pre ++ x ∷ post
+
+pub placed : {A : Type 0} (x : A) (l : List A) → List·Memᴰ x l → Placed x l
+placed x l (List·Memᴰ·head {x = y} {xs = ys} e) = record { pre = []; post = ys; whole = ap (λ z. z ∷ ys) (sym e) }
+placed x l (List·Memᴰ·tail {x = y} {xs = ys} k) =
+    let r = placed x ys k in record { pre = y ∷ r .pre; post = r .post; whole = ap (λ l. y ∷ l) (r .whole) }
 
 module _ {A B : Type 0} (R : A → B → Type 0) where
   abbrev pub Pair : List A → List B → Type 0
@@ -50,6 +61,9 @@ module _ {A B : Type 0} (R : A → B → Type 0) where
         before = (h .0, r .before);
         after = r .after;
       }
+
+  pub mate : (x : A) (l : List A) (ms : List B) (at : Placed x l) → Pair l ms → Cut (at .pre) (at .post) x ms
+  mate x l ms at h = cut (at .pre) (at .post) x ms (subst (λ l. Pair l ms) (at .whole) h)
 
   pub pair-all : (F : A → Type 0) (G : B → Type 0) → ((x : A) (y : B) → R x y → F x → G y) → (xs : List A) (ys : List B)
       → Pair xs ys → All F xs → All G ys

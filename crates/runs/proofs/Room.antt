@@ -1,7 +1,6 @@
--- A node with a message of its phase under way to it may take one more: refusal 6 is not given where nothing is lost.
+-- A node with a message of its phase under way to it may take one more: refusal 6 is not given.
 use mathlib.Core.Path.{_≡_, refl, sym, ap, subst}
 use mathlib.Core.Logic.{_≢_}
-use mathlib.Core.Bool.{false}
 use mathlib.Core.List.{List, [], _∷_, _++_}
 use Prim.Native.Nat.{ℕ, zero, suc, _+_, _-_, _*_, _≤_, _<_, zero-le}
 use native.Mathlib.Omega.{arith}
@@ -45,10 +44,10 @@ sum-but-one f S n a c h la lc ne z l = go n refl
         rw x (omega (arith, s, b, y))
 
 pub taken-room : {P p : ℕ} (tree : Tree P p) (limit S : ℕ) (b : PhaseBoard) → PhaseInvariant tree limit b
-    → b .lossy ≡ false → ((y : ℕ) → y < P → b .nodes y .tallies sentAll ≤ S)
+    → ((y : ℕ) → y < P → b .nodes y .tallies sentAll ≤ S)
     → (a c : ℕ) → a < P → c < P → a ≢ c → (xs ys : List Parcel)
     → b .items ≡ xs ++ record { from = a; to = c; load = message } ∷ ys → b .nodes c .tallies takenAll < (P - 1) * S
-taken-room {P} {p} tree limit S b f wh cap′ a c ha hc ne xs ys e =
+taken-room {P} {p} tree limit S b f cap′ a c ha hc ne xs ys e =
     let t : sum (λ y. b .takenBetween y c) 0 P ≡ sum (λ j. b .nodes c .tallies (takenFrom j)) 0 p =
     subst (λ l. sum (λ y. b .takenBetween y c) l P ≡ sum (λ j. b .nodes c .tallies (takenFrom j)) 0 p)
     (tree .low-top c hc) (subst (λ s. sum (λ y. b .takenBetween y c) (tree .low p c) s ≡ sum
@@ -58,8 +57,8 @@ taken-room {P} {p} tree limit S b f wh cap′ a c ha hc ne xs ys e =
       t,
       f .nodes-ok c hc .taken-total,
       sum-but-one (λ y. b .takenBetween y c) S P a c
-          (λ y h. omega (arith, below y h, f .pairs wh y c)) ha hc ne (omega (arith, own0, f .pairs wh c c))
-          (omega (arith, below a ha, f .pairs wh a c, message-on)),
+          (λ y h. omega (arith, below y h, f .covers-pairs y c)) ha hc ne (omega (arith, own0, f .covers-pairs c c))
+          (omega (arith, below a ha, f .covers-pairs a c, message-on)),
     )
   where
     below : (y : ℕ) → y < P → b .sentBetween y c ≤ S

@@ -3,9 +3,8 @@ use mathlib.Core.Path.{_≡_, refl, sym, ap, _∙_, subst}
 use mathlib.Core.Logic.{_≢_, inl}
 use mathlib.Core.Bool.{true}
 use mathlib.Core.Option.{none}
-use mathlib.Core.List.{List, _∷_, _++_}
+use mathlib.Core.List.{List, _++_}
 use Prim.Native.Nat.{ℕ, _+_, _-_, _%_, _≤_, _<_}
-use native.Mathlib.Decide.{decLt}
 use native.Mathlib.Omega.{arith}
 use lib.ListN.{length-set}
 use Rattle.base.specs.Limits.{Limits, fieldLimit}
@@ -19,10 +18,8 @@ use Rattle.runs.specs.Board.{put, work, Item, Board, delivers, gave, aft
 use Rattle.cycle.proofs.Sums.{count}
 use Rattle.cycle.proofs.OnePhase.{message, report, State, atStep, withTallies, bumpTaken, Content}
 use Rattle.cycle.proofs.OnePhase.{Shell}
-use Rattle.cycle.proofs.Messages.{messages, messages-append}
-use Rattle.cycle.proofs.Ledger.{Dated, Page, Ledger, ofPhase, Reached}
-use Rattle.cycle.proofs.Reached.{invariant, safe}
-use Rattle.cycle.proofs.Dating.{phase-mid}
+use Rattle.cycle.proofs.Ledger.{Dated, Page, Ledger, Reached}
+use Rattle.cycle.proofs.Reached.{message-holds}
 use Rattle.cycle.proofs.Events.{stateOf, ledgerWith, pageTaken}
 use Rattle.cycle.proofs.Events.{act-take}
 use Rattle.runs.proofs.Tools.{put-same, put-other}
@@ -76,25 +73,10 @@ module _ {L : Limits} {P : ℕ} {setting : Setting L P} {w : Board} (play : Play
         (by : byte ≡ m .phase % 256) where
       -- while it is under way nobody has left its phase
       pub not-behind : (y : ℕ) → y < P → ledger .phase y ≤ m .phase
-      not-behind y hy = go (decLt (m .phase) (ledger .phase y))
-        where
-          go : Dec (m .phase < ledger .phase y) → ledger .phase y ≤ m .phase
-          go (no l) = omega arith
-          go (yes l) =
-              let o = safe reached y (m .phase) hy l in
-              let q = invariant reached .fit (m .phase) .covers in
-              let z : messages (ofPhase (m .phase) (ledger .items)) ≡ messages
-              (ofPhase (m .phase) (twin .pre) ++ record { from = a; to = b; load = message } ∷ ofPhase (m .phase)
-              (twin .post)) = ap messages (ap (ofPhase (m .phase)) (whole play arrival message lj)
-              ∙ phase-mid (m .phase) (twin .pre) (twin .post) _ refl) in
-              absurd (omega (
-                arith,
-                o .taken,
-                q,
-                z,
-                messages-append (ofPhase (m .phase) (twin .pre))
-                    (record { from = a; to = b; load = message } ∷ ofPhase (m .phase) (twin .post)),
-              ))
+      not-behind =
+          message-holds reached (twin .pre) (twin .post)
+          (record { phase = m .phase; item = record { from = a; to = b; load = message } })
+          (whole play arrival message lj) refl
 
       pub same-phase : difference byte (w .nodes b .phase) ≡ 0 → m .phase ≡ ledger .phase b
       same-phase q =
