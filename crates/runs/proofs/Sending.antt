@@ -98,7 +98,8 @@ module _ {L : Limits} {P : ℕ} {setting : Setting L P} {w : Board} (play : Play
               ok′ (omega (arith, less))
               (w .items ++ (item ∷ [])) ms
               (pair-append (Carried setting) (w .items) (item ∷ []) (ledger .items)
-              (record { phase = ledger .phase a; item = record { from = a; to = b; load = message } } ∷ []) (sim .items) (
+              (record { phase = ledger .phase a; item = record { from = a; to = b; load = message } } ∷ [])
+              (sim .items) (
                 record {
                   from = refl;
                   to = refl;

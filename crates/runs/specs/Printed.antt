@@ -1,5 +1,5 @@
--- What a rehearsal prints for an event: "acting node (receiver for d), answer, then its phase, pass, dimension, flag, 1 if
--- busy."
+-- What a rehearsal prints for an event: "acting node (receiver for d), answer, then its phase, pass, dimension, flag,
+-- 1 if busy."
 use mathlib.Core.Bool.{Bool}
 use mathlib.Core.Option.{Option, none, some}
 use mathlib.Core.List.{List, [], _∷_}
