@@ -5,7 +5,6 @@ use mathlib.Core.Option.{some}
 use mathlib.Core.List.{_∷_, _++_}
 use Prim.Native.Nat.{ℕ, suc, _≤_, _<_}
 use native.Mathlib.Omega.{arith}
-use lib.Dec.{eqb}
 use borrow.Author.Tests.{eqb-false}
 use Rattle.base.specs.Limits.{Limits, fieldLimit}
 use Rattle.base.proofs.Laws.{cases}
@@ -146,7 +145,7 @@ module _ {L : Limits} {P : ℕ} {setting : Setting L P} {w : Board} (play : Play
     pub refused-next : (x : ℕ) → (x ≢ 7 → Mishap setting w (delivers a b))
         → Next setting w play (delivers a b) (offUnlessEarly (gave w b (w .nodes b)) a b x)
     refused-next x bad =
-        cases (Next setting w play (delivers a b)) (eqb x 7) (gave w b (w .nodes b))
+        cases (Next setting w play (delivers a b)) _ (gave w b (w .nodes b))
         (carries (gave w b (w .nodes b)) (without a b (w .items))) (λ q. held play (delivers a b) b)
         (λ q. subst (λ l. Next setting w play (delivers a b) (carries (gave w b (w .nodes b)) l)) (sym (place .rest))
         (off-next (pageLost (ledger .pages (m .phase)))

@@ -95,8 +95,7 @@ module _ {L : Limits} {P : ℕ} {setting : Setting L P} {w : Board} (play : Play
         (at (w .nodes a) (w .nodes a .pass) (w .nodes a .dim) false (w .nodes a .agreed)) ms refl
         (act-put reached a (receiversDue (w .nodes a)) h (rest-of play a h b)
         (λ c hc k. heard-by play a h c hc k))
-        (hold-still play a h) (w .items ++ posted a (frameBytes (dims (w .nodes a)) (frameDue (w .nodes a)))
-        (w .count a) (receiversDue (w .nodes a)))
+        (hold-still play a h) _
         (pair-append (Carried setting) (w .items)
         (posted a (frameBytes (dims (w .nodes a)) (frameDue (w .nodes a))) (w .count a) (receiversDue (w .nodes a)))
         (ledger .items) (dated (ledger .phase a)

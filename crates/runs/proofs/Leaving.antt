@@ -10,8 +10,9 @@ use Rattle.base.specs.Limits.{Limits, fieldLimit}
 use Rattle.tree.specs.Tree.{dimension}
 use Rattle.node.specs.Agree.{agrees}
 use Rattle.node.specs.Change.{freshIn}
+use Rattle.node.specs.Answers.{left}
 use Rattle.node.specs.declared.Node.{Node}
-use Rattle.runs.specs.Board.{put, Board, calls, after}
+use Rattle.runs.specs.Board.{put, Board, calls, gave, afterCall}
 use Rattle.cycle.proofs.Sums.{update, update-all, update-same, update-other, count}
 use Rattle.cycle.proofs.Exact.{sentAll}
 use Rattle.cycle.proofs.OnePhase.{State, dimOf, Agrees, atStep}
@@ -59,15 +60,8 @@ module _ {L : Limits} {P : ℕ} {setting : Setting L P} {w : Board} (play : Play
     pub leave-next : (len : ℕ) → w .nodes a .busy ≡ false → NoneDue L (w .nodes a)
         → agrees L (w .nodes a) (w .nodes a .pass) (w .nodes a .dim) ≡ true → suc (w .nodes a .dim) ≡ p
         → w .nodes a .pass ≡ 2 → Next setting w play (calls a len)
-        (record {
-          nodes = put (w .nodes) a
-              (freshIn (w .nodes a .nodes) (w .nodes a .number) ((w .nodes a .phase + 1) % 256));
-          items = w .items;
-          count = put (w .count) a (suc (w .count a));
-          busy = put (w .busy) a true;
-          untaken = w .untaken;
-          sends = w .sends;
-        })
+        (afterCall (gave w a (freshIn (w .nodes a .nodes) (w .nodes a .number) ((w .nodes a .phase + 1) % 256))) a
+        (w .nodes a) left)
     leave-next len b m g d pa =
         record {
           played = record {

@@ -95,8 +95,7 @@ module _ {L : Limits} {P : ℕ} {setting : Setting L P} {w : Board} (play : Play
               (log-room a h less));
           sim =
               acted setting sim a h u v refl n′
-              ok′ (omega (arith, less))
-              (w .items ++ (item ∷ [])) ms
+              ok′ (omega (arith, less)) _ ms
               (pair-append (Carried setting) (w .items) (item ∷ []) (ledger .items)
               (record { phase = ledger .phase a; item = record { from = a; to = b; load = message } } ∷ [])
               (sim .items) (

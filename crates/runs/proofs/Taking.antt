@@ -2,7 +2,6 @@
 use mathlib.Core.Path.{_≡_, refl, sym, ap, _∙_, subst}
 use mathlib.Core.Logic.{_≢_, inl}
 use mathlib.Core.Bool.{true}
-use mathlib.Core.Option.{none}
 use mathlib.Core.List.{List, _++_}
 use Prim.Native.Nat.{ℕ, _+_, _-_, _%_, _≤_, _<_}
 use native.Mathlib.Omega.{arith}
@@ -14,7 +13,7 @@ use Rattle.node.specs.Change.{withBusy, at}
 use Rattle.node.specs.Answers.{Given, Outcome, done, refused}
 use Rattle.node.specs.Calls.{oneTaken, take}
 use Rattle.node.specs.declared.Node.{Node}
-use Rattle.runs.specs.Board.{put, work, Item, Board, delivers, gave, afterTake}
+use Rattle.runs.specs.Board.{put, work, Item, Board, delivers, gave, carries, afterTake}
 use Rattle.cycle.proofs.Sums.{count}
 use Rattle.cycle.proofs.OnePhase.{message, report, State, atStep, withTallies, bumpTaken, Content}
 use Rattle.cycle.proofs.OnePhase.{Shell}
@@ -93,15 +92,8 @@ module _ {L : Limits} {P : ℕ} {setting : Setting L P} {w : Board} (play : Play
           refused-next play arrival x (λ z. Mishap.badTake a b m byte x (arrival .first) lw
           (ap (λ (q : Given Outcome). q .answer) eq) z)
       take-next q eq (TakeWay.done va a1 a2 df cap) =
-          subst (λ l. Next setting w play (delivers a b)
-          (record {
-            nodes = put (w .nodes) b n′;
-            items = l;
-            count = w .count;
-            busy = put (w .busy) b true;
-            untaken = put (w .untaken) (m .name) none;
-            sends = w .sends;
-          })) (sym (place .rest))
+          subst (λ l. Next setting w play (delivers a b) (carries (afterTake (gave w b n′) a b m done) l))
+          (sym (place .rest))
           (record {
             played = record {
               ledger = ledgerWith ledger (ledger .phase b) u ms;
@@ -116,7 +108,7 @@ module _ {L : Limits} {P : ℕ} {setting : Setting L P} {w : Board} (play : Play
                   (sim .capped (ledger .phase b) b (receiver-lt play arrival)) ms
                   (λ s. refl)) (off-win play arrival))
                   (put (w .busy) b true) (sym (put-same (w .busy) b true))
-                  (λ y z. put-other (w .busy) b true y z) (put (w .untaken) (m .name) none) (w .sends);
+                  (λ y z. put-other (w .busy) b true y z) _ (w .sends);
               marks =
                   marks-take P (w .untaken) (w .sends) (place .pre) (place .post) m ledger
                   (subst (λ l. Marks P (w .untaken) (w .sends) l ledger) (place .whole) marks)
