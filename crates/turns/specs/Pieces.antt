@@ -8,11 +8,11 @@ use Rattle.frame.specs.Frame.{frameLength, frameBytes}
 use Rattle.node.specs.Sums.{dims}
 use Rattle.node.specs.Barrier.{frameDue}
 use Rattle.node.specs.Answers.{Barrier, sent, waits, moved, left, barred, also}
+use Rattle.node.specs.declared.Node.{Node}
 use Rattle.node.specs.declared.Receivers.{Receivers}
 use Rattle.items.specs.Places.{noItem}
 use Rattle.items.specs.declared.Item.{Item}
 use Rattle.turns.specs.Frames.{placeSize}
-use Rattle.turns.specs.Events.{nodeAt}
 use Rattle.turns.specs.declared.Stage.{Stage}
 use Rattle.turns.specs.declared.Acted.{Acted}
 
@@ -42,9 +42,9 @@ isSent (barred x) = false
 abbrev pub frameHeader : ℕ → ℕ → ℕ → Item
 frameHeader a b phase = record { from = a; to = b; kind = 1; phase = phase }
 
--- the frame that is due at a node
-abbrev pub frameFrom : Stage → ℕ → List ℕ
-frameFrom st a = frameBytes (dims (nodeAt st a)) (frameDue (nodeAt st a))
+-- the bytes of the frame that is due
+abbrev pub due : Node → List ℕ
+due n = frameBytes (dims n) (frameDue n)
 
 abbrev pub toList : Receivers → List ℕ
 toList to = to .first ∷ also (to .extra)

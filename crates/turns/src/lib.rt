@@ -10,6 +10,7 @@ ghost use Rattle.tree.specs.Tree.{dimension};
 ghost use Rattle.tree.specs.Lookups.{badBoard};
 ghost use Rattle.frame.specs.Frame.{frameLength, frameBytes};
 ghost use Rattle.node.specs.Sums.{dims};
+ghost use Rattle.node.specs.State.{valid};
 ghost use Rattle.node.specs.Answers.{give, sent, also, outcomeOf, outcomeNumber, replied, barrierReplied};
 ghost use Rattle.node.specs.Calls.{fresh, send, take as takeCall, idle, frameIn};
 ghost use Rattle.node.specs.Barrier.{barrier, barrierBytes, clauseFails, frameDue};
@@ -18,7 +19,7 @@ ghost use Rattle.items.specs.Places.{noItem};
 ghost use Rattle.turns.specs.Frames.{placeSize, roomFor, closed, framed};
 ghost use Rattle.turns.specs.Events.{nodeAt, changed, frameAt};
 ghost use Rattle.turns.specs.Acts.{isThere, itemCall, frameActed, frameActedBytes, acted, actedBytes};
-ghost use Rattle.turns.specs.Pieces.{still, isSent, frameHeader, frameFrom, toList, frameHeld};
+ghost use Rattle.turns.specs.Pieces.{still, isSent, frameHeader, due, toList, frameHeld};
 use frame::Sent;
 use frame::Taken;
 use items::Item;
@@ -166,7 +167,7 @@ fn number_of(answer: Answer) -> u32
 
 // The state of a node; no node where the board has none.
 fn node_at(st: Stage, a: u32) -> Node
-    ensures { λ r. ⌜ r ≡ nodeAt st a ⌝ }
+    ensures { λ r. ⌜ (r ≡ nodeAt st a) × (valid base r ≡ true → a < 16) ⌝ }
 {
     if a < 16 {
         let i = a as usize;
@@ -291,7 +292,7 @@ fn tried(n: Node) -> BarrierReply
 // Writes the frame that is due at a place: the 76 bytes there are lent on.
 fn write_at(n: Node, place: usize, bytes: &mut [u8])
     requires { ⌜ (isSent (barrier base n placeSize .answer) ≡ true) × (placeSize * place + placeSize ≤ length (now bytes)) ⌝ }
-    ensures { λ r. ⌜ now (bytes .exit) ≡ framed (now (bytes .entry)) place (frameBytes (dims n) (frameDue n)) ⌝ }
+    ensures { λ r. ⌜ now (bytes .exit) ≡ framed (now (bytes .entry)) place (due n) ⌝ }
 {
     let a = 76 * place;
     let e = a + 76;
@@ -315,7 +316,7 @@ fn frame_item(a: u32, b: u8, phase: u8) -> Item
 fn one_frame(st: Stage, a: u32, b: u8, after: Node, headers: usize, bytes: &mut [u8]) -> Acted
     requires { ⌜ isSent (barrier base (nodeAt st a) placeSize .answer) ≡ true ⌝ }
     ensures answer { λ r. ⌜ r ≡ frameActed st headers (now (bytes .entry)) a after (b ∷ []) ⌝ }
-    ensures memory { λ r. ⌜ now (bytes .exit) ≡ frameActedBytes st headers (now (bytes .entry)) (frameFrom st a) (b ∷ []) ⌝ }
+    ensures memory { λ r. ⌜ now (bytes .exit) ≡ frameActedBytes st headers (now (bytes .entry)) (due (nodeAt st a)) (b ∷ []) ⌝ }
 {
     let under = st.under;
     if room_for(headers, bytes.len()) <= under {
@@ -350,7 +351,7 @@ fn two_frames(
 ) -> Acted
     requires { ⌜ isSent (barrier base (nodeAt st a) placeSize .answer) ≡ true ⌝ }
     ensures answer { λ r. ⌜ r ≡ frameActed st headers (now (bytes .entry)) a after (b ∷ c ∷ []) ⌝ }
-    ensures memory { λ r. ⌜ now (bytes .exit) ≡ frameActedBytes st headers (now (bytes .entry)) (frameFrom st a) (b ∷ c ∷ []) ⌝ }
+    ensures memory { λ r. ⌜ now (bytes .exit) ≡ frameActedBytes st headers (now (bytes .entry)) (due (nodeAt st a)) (b ∷ c ∷ []) ⌝ }
 {
     let under = st.under;
     let room = room_for(headers, bytes.len());
@@ -388,7 +389,7 @@ fn frame_act(
 ) -> Acted
     requires { ⌜ isSent (barrier base (nodeAt st a) placeSize .answer) ≡ true ⌝ }
     ensures answer { λ r. ⌜ r ≡ frameActed st headers (now (bytes .entry)) a after (toList to) ⌝ }
-    ensures memory { λ r. ⌜ now (bytes .exit) ≡ frameActedBytes st headers (now (bytes .entry)) (frameFrom st a) (toList to) ⌝ }
+    ensures memory { λ r. ⌜ now (bytes .exit) ≡ frameActedBytes st headers (now (bytes .entry)) (due (nodeAt st a)) (toList to) ⌝ }
 {
     let first = to.first;
     let extra = to.extra;

@@ -1,126 +1,102 @@
+-- `call_act` does what a line of a barrier call does.
 use borrow.Author.Needs.{needs}
+use mathlib.Core.Path.{_≡_, sym, ap, _∙_}
+use Rattle.base.specs.Limits.{base}
+use Rattle.node.specs.Answers.{barrierOf, give}
+use Rattle.node.specs.Barrier.{barrier}
+use Rattle.node.specs.declared.BarrierAnswer.{BarrierAnswer}
+use Rattle.items.specs.Places.{noItem}
+use Rattle.turns.specs.Frames.{placeSize}
+use Rattle.turns.specs.Events.{nodeAt, changed}
+use Rattle.turns.specs.Acts.{callActed, callActedBytes, acted, actedBytes}
+use Rattle.script.specs.declared.Line.the-variants.{Calls}
+use Rattle.turns.specs.Pieces.{still, isSent}
+use Rattle.turns.proofs.Acting.{call-by}
+use Rattle.turns.proofs.Known.{called-as}
 use Rattle.turns.proofs.call_act.Statement.{statement}
 use Rattle.turns.proofs.call_act.Tie as tie
-use Rattle.turns.proofs.call_act.Reads as reads
-use Rattle.turns.proofs.call_act.Lts as lts
-use Rattle.turns.proofs.frame_act.Reads as frame-act-reads
-use Rattle.turns.proofs.node_at.Reads as node-at-reads
-use Rattle.turns.proofs.quiet.Reads as quiet-reads
-use Rattle.turns.proofs.tried.Reads as tried-reads
-use Rattle.turns.proofs.wide.Reads as wide-reads
-use Rattle.turns.proofs.with_node.Reads as with-node-reads
 
--- src/lib.rt:406:9
-node-at-requires : tie.Need-node-at-requires
-node-at-requires c κs = search needs
+module _ (c : tie.After-tried) where
+  abbrev start : tie.Start
+  start = c .before .before .before
 
--- src/lib.rt:407:9
-tried-requires : tie.Need-tried-requires
-tried-requires c κs = search needs
+  -- what the call answered
+  answered : (x : BarrierAnswer) → c .tried .result .answer ≡ x
+      → barrier base (nodeAt (start .args .st) (start .args .a)) placeSize ≡ give (c .tried .result .node) (barrierOf x)
+  answered x q =
+      ap (λ n. barrier base n placeSize) (sym (c .before .node-at .ensures .0))
+      ∙ called-as (c .tried .result) x _ (c .tried .ensures) q
 
--- src/lib.rt:411:30
-enum-known-answer : tie.Need-enum-known-answer
-enum-known-answer c = search needs
+  -- and what becomes of the line
+  becomes : (x : BarrierAnswer) → c .tried .result .answer ≡ x
+      → let y = start .args in
+      let r = give (c .tried .result .node) (barrierOf x) in
+      (acted (y .st) (y .headers) (y .bytes .now) (Calls (y .a)) 0 noItem
+      ≡ callActed (y .st) (y .headers) (y .bytes .now) (y .a) r (barrierOf x))
+      × (actedBytes (y .st) (y .headers) (y .bytes .now) (Calls (y .a)) 0 noItem
+      ≡ callActedBytes (y .st) (y .headers) (y .bytes .now) (y .a) (barrierOf x))
+  becomes x q = call-by _ _ _ _ _ _ _ (answered x q)
 
--- src/lib.rt:411:45
 frame-act-requires : tie.Need-frame-act-requires
-frame-act-requires c κs = ?
+frame-act-requires c κs =
+    let told = c .before .before in
+    ap (λ g. isSent (g .answer)) (answered (told .before .before .before) _ (told .answer .given .1))
 
--- src/lib.rt:412:30
-enum-known-answer-2 : tie.Need-enum-known-answer-2
-enum-known-answer-2 c = search needs
-
--- src/lib.rt:412:63
-with-node-requires : tie.Need-with-node-requires
-with-node-requires c κs = search needs
-
--- src/lib.rt:412:41
-quiet-requires : tie.Need-quiet-requires
-quiet-requires c κs = search needs
-
--- src/lib.rt:413:55
-enum-told : tie.Need-enum-told
-enum-told c = search needs
-
--- src/lib.rt:413:55
-with-node-requires-2 : tie.Need-with-node-requires-2
-with-node-requires-2 c κs = search needs
-
--- src/lib.rt:413:33
-quiet-requires-2 : tie.Need-quiet-requires-2
-quiet-requires-2 c κs = search needs
-
--- src/lib.rt:414:54
-enum-told-2 : tie.Need-enum-told-2
-enum-told-2 c = search needs
-
--- src/lib.rt:414:54
-with-node-requires-3 : tie.Need-with-node-requires-3
-with-node-requires-3 c κs = search needs
-
--- src/lib.rt:414:32
-quiet-requires-3 : tie.Need-quiet-requires-3
-quiet-requires-3 c κs = search needs
-
--- src/lib.rt:415:32
-enum-known-answer-3 : tie.Need-enum-known-answer-3
-enum-known-answer-3 c = search needs
-
--- src/lib.rt:415:67
-wide-requires : tie.Need-wide-requires
-wide-requires c κs = search needs
-
--- src/lib.rt:415:38
-quiet-requires-4 : tie.Need-quiet-requires-4
-quiet-requires-4 c κs = search needs
-
--- src/lib.rt:401:1
-same-length : tie.Need-same-length
-same-length c = search needs
-
--- src/lib.rt:401:1
 returns : tie.Need-returns
-returns c = ?
+returns c =
+    let done = c .before .before in
+    let told = done .before .before .before in
+    let b = becomes (told .before .before .before) _ (told .answer .given .1) in
+    (done .frame-act .ensures .0 ∙ sym (b .0), done .frame-act .ensures .1 ∙ sym (b .1))
 
--- src/lib.rt:401:1
 returns-2 : tie.Need-returns-2
-returns-2 c = ?
+returns-2 c =
+    let told = c .before .before .before in
+    let b = becomes (told .before .before .before) _ (told .answer2 .given .1) in
+    let x = start (told .before .before .before) .args in (
+      c .quiet .ensures
+          ∙ ap (λ s. still (x .st .under) (x .headers) s (x .a) 21) (c .before .with-node .ensures)
+          ∙ sym (b .0),
+      sym (b .1),
+    )
 
--- src/lib.rt:401:1
 returns-3 : tie.Need-returns-3
-returns-3 c = ?
+returns-3 c =
+    let told = c .before .before in
+    let b = becomes (told .before .before .before) _ (told .enum-told .given .1) in
+    let x = start (told .before .before .before) .args in (
+      c .quiet2 .ensures
+          ∙ ap (λ s. still (x .st .under) (x .headers) s (x .a) 22) (c .before .with-node2 .ensures)
+          ∙ sym (b .0),
+      sym (b .1),
+    )
 
--- src/lib.rt:401:1
 returns-4 : tie.Need-returns-4
-returns-4 c = ?
+returns-4 c =
+    let told = c .before .before in
+    let b = becomes (told .before .before .before) _ (told .enum-told2 .given .1) in
+    let x = start (told .before .before .before) .args in (
+      c .quiet3 .ensures
+          ∙ ap (λ s. still (x .st .under) (x .headers) s (x .a) 23) (c .before .with-node3 .ensures)
+          ∙ sym (b .0),
+      sym (b .1),
+    )
 
--- src/lib.rt:401:1
 returns-5 : tie.Need-returns-5
-returns-5 c = ?
+returns-5 c =
+    let told = c .before .before .before in
+    let b = becomes (told .before .before .before) _ (told .answer3 .given .1) in
+    let x = start (told .before .before .before) .args in (
+      c .quiet4 .ensures
+          ∙ ap (still (x .st .under) (x .headers) (x .st) (x .a)) (c .before .wide .ensures .0)
+          ∙ sym (b .0),
+      sym (b .1),
+    )
 
 pub call-act-spec : {M : Type 1} → statement M
 call-act-spec =
     tie.close
-    (tie.spec
-    node-at-requires
-    tried-requires
-    enum-known-answer
-    frame-act-requires
-    enum-known-answer-2
-    with-node-requires
-    quiet-requires
-    enum-told
-    with-node-requires-2
-    quiet-requires-2
-    enum-told-2
-    with-node-requires-3
-    quiet-requires-3
-    enum-known-answer-3
-    wide-requires
-    quiet-requires-4
-    same-length
-    returns
-    returns-2
-    returns-3
-    returns-4
-    returns-5)
+    (tie.spec (λ c κs. search needs) (λ c κs. search needs) (λ c. search needs) frame-act-requires (λ c. search needs)
+    (λ c κs. search needs) (λ c κs. search needs) (λ c. search needs) (λ c κs. search needs) (λ c κs. search needs)
+    (λ c. search needs) (λ c κs. search needs) (λ c κs. search needs) (λ c. search needs) (λ c κs. search needs)
+    (λ c κs. search needs) (λ c. search needs) returns returns-2 returns-3 returns-4 returns-5)

@@ -1,77 +1,47 @@
+-- `close_gap`: before byte i is moved, those from the gap up to it are.
+use borrow.Author.Needs.{needs}
+use native.Mathlib.Omega.{arith}
+use mathlib.Core.Path.{_≡_, ap, _∙_}
+use Prim.Native.Nat.{_-_, _+_, _*_, _≤_}
+use lib.ListN.{length, length-set}
+use Rattle.turns.specs.Frames.{placeSize}
+use Rattle.turns.proofs.Parts.{moving, none-moved, length-moving, one-moved, all-moved}
 use Rattle.turns.proofs.close_gap.Statement.{statement}
 use Rattle.turns.proofs.close_gap.Tie as tie
-use Rattle.turns.proofs.close_gap.Reads as reads
-use Rattle.turns.proofs.close_gap.Lts as lts
 
 abbrev Inv-loop : tie.InvT-loop
-Inv-loop bytes₀ n at start end i₀ bytes i = ?
+Inv-loop bytes₀ n at start end i₀ bytes i =
+    (start ≤ i) × (i ≤ end) × (length bytes ≡ length bytes₀) × (bytes ≡ moving bytes₀ start i)
 
 abbrev μ-loop : tie.MeasureT-loop
-μ-loop bytes₀ n at start end i₀ bytes i = ?
+μ-loop bytes₀ n at start end i₀ bytes i = end - i
 
--- src/lib.rt:426:17
-mul-start : tie.Need-mul-start Inv-loop μ-loop
-mul-start c = ?
-
--- src/lib.rt:427:21
-sub-end : tie.Need-sub-end Inv-loop μ-loop
-sub-end c = ?
-
--- src/lib.rt:427:15
-mul-end : tie.Need-mul-end Inv-loop μ-loop
-mul-end c = ?
-
--- src/lib.rt:428:5
 loop-holds : tie.Need-loop-holds Inv-loop μ-loop
-loop-holds c = ?
+loop-holds c = (omega arith, omega arith, search needs, none-moved _ _)
 
--- src/lib.rt:429:26
-add-bytes : tie.Need-add-bytes Inv-loop μ-loop
-add-bytes c = ?
-
--- src/lib.rt:429:20
-slice-read-bytes : tie.Need-slice-read-bytes Inv-loop μ-loop
-slice-read-bytes c = ?
-
--- src/lib.rt:429:9
-slice-write-bytes : tie.Need-slice-write-bytes Inv-loop μ-loop
-slice-write-bytes c = ?
-
--- src/lib.rt:428:9
-add-i : tie.Need-add-i Inv-loop μ-loop
-add-i c = ?
-
--- src/lib.rt:428:5
-loop-less : tie.Need-loop-less Inv-loop μ-loop
-loop-less c = ?
-
--- src/lib.rt:428:5
 loop-again : tie.Need-loop-again Inv-loop μ-loop
-loop-again c = ?
+loop-again c =
+    let b = c .before in
+    let v = b .before .loop .inv in (
+      omega arith,
+      omega arith,
+      simp length-set (v .2),
+      rw (v .3) (one-moved _ _ _ (v .0) (omega arith) (omega arith)),
+    )
 
--- src/lib.rt:422:1
 same-length : tie.Need-same-length Inv-loop μ-loop
-same-length c = ?
+same-length c = c .before .loop .inv .2
 
--- src/lib.rt:422:1
 returns : tie.Need-returns Inv-loop μ-loop
-returns c = ?
+returns c =
+    let x = c .before .before .args in
+    let v = c .before .loop .inv in
+    let e : c .before .loop .i ≡ placeSize * (x .n - 1) = omega arith in
+    v .3 ∙ ap (moving _ _) e ∙ all-moved _ _ _ (c .before .before .pre .0)
 
 pub close-gap-spec : {M : Type 1} → statement M
 close-gap-spec =
     tie.close
-    (tie.spec
-    Inv-loop
-    μ-loop
-    mul-start
-    sub-end
-    mul-end
-    loop-holds
-    add-bytes
-    slice-read-bytes
-    slice-write-bytes
-    add-i
-    loop-less
-    loop-again
-    same-length
-    returns)
+    (tie.spec Inv-loop μ-loop (λ c. search needs) (λ c. search needs) (λ c. search needs) loop-holds
+    (λ c. search needs) (λ c. search needs) (λ c. search needs) (λ c. search needs) (λ c. search needs) loop-again
+    same-length returns)

@@ -1,87 +1,80 @@
+-- `deliver_act` does what a line of a delivery does.
 use borrow.Author.Needs.{needs}
+use native.Mathlib.Omega.{arith}
+use mathlib.Core.Path.{_≡_, refl, sym, ap, _∙_}
+use Prim.Native.Nat.{_≤_, _<_, _*_}
+use mathlib.Core.Bool.{true, false}
+use lib.ListN.{length}
+use borrow.Author.Tests.{not-true, not-false}
+use Rattle.turns.specs.Acts.{isThere, itemCall}
+use Rattle.turns.specs.Frames.{placeSize}
+use Rattle.turns.proofs.Acting.{put-same, deliver-none, deliver-early, deliver-off, there-known}
+use Rattle.node.specs.Answers.{replied}
 use Rattle.turns.proofs.deliver_act.Statement.{statement}
 use Rattle.turns.proofs.deliver_act.Tie as tie
-use Rattle.turns.proofs.deliver_act.Reads as reads
-use Rattle.turns.proofs.deliver_act.Lts as lts
-use Rattle.turns.proofs.close_gap.Reads as close-gap-reads
-use Rattle.turns.proofs.is_there.Reads as is-there-reads
-use Rattle.turns.proofs.item_call.Reads as item-call-reads
-use Rattle.turns.proofs.no_item.Reads as no-item-reads
-use Rattle.turns.proofs.number_of.Reads as number-of-reads
-use Rattle.turns.proofs.quiet.Reads as quiet-reads
-use Rattle.turns.proofs.with_node.Reads as with-node-reads
 
--- src/lib.rt:508:9
-is-there-requires : tie.Need-is-there-requires
-is-there-requires c κs = search needs
-
--- src/lib.rt:509:9
-quiet-requires : tie.Need-quiet-requires
-quiet-requires c κs = search needs
-
--- src/lib.rt:509:9
 returns : tie.Need-returns
-returns c = ?
+returns c =
+    let told = c .before .before in
+    let x = told .before .before .args in
+    let e = sym (told .is-there .ensures (x .bytes .now) refl) ∙ not-true _ (c .before .if1 .taken) in
+    let d = deliver-none (x .st) (x .headers) (x .bytes .now) (x .at) (x .it) (x .a) (x .b) e in
+    (c .quiet .ensures ∙ sym (d .0), sym (d .1))
 
--- src/lib.rt:511:9
+there : (c : tie.Else1) → let x = c .before .before .before .args in isThere (x .st) (x .headers) (x .bytes .now) (x .at) ≡ true
+there c =
+    let told = c .before in
+    let x = told .before .before .args in
+    sym (told .is-there .ensures (x .bytes .now) refl) ∙ not-false _ (c .if1 .left)
+
+-- it is one of those under way, and they are lent
+inside : (c : tie.Else1)
+    → let x = c .before .before .before .args in
+    (x .at < x .st .under) × (placeSize * x .st .under ≤ length (x .bytes .now))
+inside c =
+    let x = c .before .before .before .args in
+    let k = there-known (x .st) (x .headers) (x .bytes .now) (x .at) (x .it) (there c) in
+    (k .0, omega arith)
+
 item-call-requires : tie.Need-item-call-requires
-item-call-requires c κs = ?
+item-call-requires c κs =
+    let x = c .before .before .before .before .args in
+    let k = there-known (x .st) (x .headers) (x .bytes .now) (x .at) (x .it) (there (c .before)) in
+    let i = inside (c .before) in
+    (k .2, omega arith)
 
--- src/lib.rt:514:9
-number-of-requires : tie.Need-number-of-requires
-number-of-requires c κs = search needs
-
--- src/lib.rt:516:9
-quiet-requires-2 : tie.Need-quiet-requires-2
-quiet-requires-2 c κs = search needs
-
--- src/lib.rt:516:9
-same-length : tie.Need-same-length
-same-length c = search needs
-
--- src/lib.rt:516:9
 returns-2 : tie.Need-returns-2
-returns-2 c = ?
+returns-2 c =
+    let n = c .before .before in
+    let r = n .before .before in
+    let e = r .before .before in
+    let x = e .before .before .before .args in
+    let d =
+    deliver-early (x .st) (x .headers) (x .bytes .now) (x .at) (x .it) (x .a) (x .b) (replied (r .item-call .result)) (there e) (sym (r .item-call .ensures)) (sym (n .number-of .ensures) ∙ c .before .if2 .taken) in
+    (c .quiet2 .ensures ∙ sym (d .0), sym (d .1))
 
--- src/lib.rt:518:5
 close-gap-requires : tie.Need-close-gap-requires
-close-gap-requires c κs = ?
+close-gap-requires c κs = let i = inside (c .before .before .before .before .before .before) in (i .0, i .1)
 
--- src/lib.rt:519:9
-no-item-requires : tie.Need-no-item-requires
-no-item-requires c κs = search needs
-
--- src/lib.rt:520:37
 sub-with-node : tie.Need-sub-with-node
-sub-with-node c = ?
+sub-with-node c =
+    let i = inside (c .before .before .before .before .before .before .before .before .before .before) in omega arith
 
--- src/lib.rt:520:9
-with-node-requires : tie.Need-with-node-requires
-with-node-requires c κs = search needs
-
--- src/lib.rt:495:1
-same-length-2 : tie.Need-same-length-2
-same-length-2 c = search needs
-
--- src/lib.rt:495:1
 returns-3 : tie.Need-returns-3
-returns-3 c = ?
+returns-3 c =
+    let gap = c .before .before .before .before in
+    let else = gap .before .before in
+    let n = else .before in
+    let r = n .before .before in
+    let e = r .before .before in
+    let x = e .before .before .before .args in
+    let d =
+    deliver-off (x .st) (x .headers) (x .bytes .now) (x .at) (x .it) (x .a) (x .b) (replied (r .item-call .result)) (there e) (sym (r .item-call .ensures)) (λ q. else .if2 .left (n .number-of .ensures ∙ q)) in
+    (put-same _ _ _ _ (c .with-node .ensures) (n .number-of .ensures) (c .before .no-item .ensures) (c .before .no-item .ensures) ∙ sym (d .0), gap .close-gap .ensures ∙ sym (d .1))
 
 pub deliver-act-spec : {M : Type 1} → statement M
 deliver-act-spec =
     tie.close
-    (tie.spec
-    is-there-requires
-    quiet-requires
-    returns
-    item-call-requires
-    number-of-requires
-    quiet-requires-2
-    same-length
-    returns-2
-    close-gap-requires
-    no-item-requires
-    sub-with-node
-    with-node-requires
-    same-length-2
-    returns-3)
+    (tie.spec (λ c κs. search needs) (λ c κs. search needs) returns item-call-requires (λ c κs. search needs)
+    (λ c κs. search needs) (λ c. search needs) returns-2 close-gap-requires (λ c κs. search needs) sub-with-node
+    (λ c κs. search needs) (λ c. search needs) returns-3)

@@ -1,34 +1,31 @@
+-- `dims_of` is the dimension of a board within the limits.
 use borrow.Author.Needs.{needs}
+use native.Mathlib.Omega.{arith}
+use mathlib.Core.Path.{sym, ap, _∙_}
+use Rattle.base.specs.Limits.{base}
+use Rattle.base.proofs.Laws.{clash}
+use Rattle.tree.specs.Lookups.{foundAnswer}
+use Rattle.tree.proofs.Dimension.{smallest}
+use Rattle.tree.proofs.Lookups.{board-good, dimension-refused, dimension-found}
 use Rattle.turns.proofs.dims_of.Statement.{statement}
 use Rattle.turns.proofs.dims_of.Tie as tie
-use Rattle.turns.proofs.dims_of.Reads as reads
-use Rattle.turns.proofs.dims_of.Lts as lts
-use Rattle.tree.proofs.dimension_of.Reads as dimension-of-reads
 
--- src/lib.rt:453:24
-dimension-of-requires : tie.Need-dimension-of-requires
-dimension-of-requires c κs = search needs
-
--- src/lib.rt:453:19
-enum-known-d : tie.Need-enum-known-d
-enum-known-d c = search needs
-
--- src/lib.rt:454:9
-enum-told : tie.Need-enum-told
-enum-told c = search needs
-
--- src/lib.rt:454:9
 returns : tie.Need-returns
-returns c = ?
+returns c =
+    let d = c .before .before .dimension-of in
+    clash
+    (sym (dimension-refused base _ _ (sym (d .ensures) ∙ ap foundAnswer (c .enum-told .given .1)))
+    ∙ c .before .before .before .pre)
 
--- src/lib.rt:456:5
-cast-result : tie.Need-cast-result
-cast-result c = search needs
-
--- src/lib.rt:449:1
 returns-2 : tie.Need-returns-2
-returns-2 c = ?
+returns-2 c =
+    let d = c .before .before .before .dimension-of in
+    let x = c .before .before .before .before in
+    let e = dimension-found base _ _ (sym (d .ensures) ∙ ap foundAnswer (c .before .d .given .1)) in
+    let b = board-good base (x .args .size) (x .pre) in
+    (e .1, omega (arith, e .1, smallest (x .args .size) 8 (omega arith)))
 
 pub dims-of-spec : {M : Type 1} → statement M
 dims-of-spec =
-    tie.close (tie.spec dimension-of-requires enum-known-d enum-told returns cast-result returns-2)
+    tie.close
+    (tie.spec (λ c κs. search needs) (λ c. search needs) (λ c. search needs) returns (λ c. search needs) returns-2)

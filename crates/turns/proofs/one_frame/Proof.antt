@@ -1,72 +1,56 @@
+-- `one_frame` writes the frame for one receiver, where there is a place for it.
 use borrow.Author.Needs.{needs}
+use native.Mathlib.Omega.{arith}
+use mathlib.Core.Path.{_≡_, refl, sym, ap, _∙_}
+use mathlib.Core.Bool.{true}
+use Rattle.base.specs.Limits.{base}
+use Rattle.base.proofs.Laws.{choose-yes, choose-no}
+use Rattle.node.specs.Barrier.{barrier}
+use Rattle.turns.specs.Frames.{placeSize, framed}
+use Rattle.turns.specs.Events.{frameItem}
+use Rattle.turns.specs.Pieces.{isSent, due}
+use Rattle.turns.proofs.Acting.{no-room, some-room, put-same}
+use Rattle.turns.proofs.Known.{sending-known}
 use Rattle.turns.proofs.one_frame.Statement.{statement}
 use Rattle.turns.proofs.one_frame.Tie as tie
-use Rattle.turns.proofs.one_frame.Reads as reads
-use Rattle.turns.proofs.one_frame.Lts as lts
-use Rattle.turns.proofs.frame_item.Reads as frame-item-reads
-use Rattle.turns.proofs.no_item.Reads as no-item-reads
-use Rattle.turns.proofs.node_at.Reads as node-at-reads
-use Rattle.turns.proofs.quiet.Reads as quiet-reads
-use Rattle.turns.proofs.room_for.Reads as room-for-reads
-use Rattle.turns.proofs.with_node.Reads as with-node-reads
-use Rattle.turns.proofs.write_at.Reads as write-at-reads
 
--- src/lib.rt:321:8
-room-for-requires : tie.Need-room-for-requires
-room-for-requires c κs = search needs
-
--- src/lib.rt:322:9
-quiet-requires : tie.Need-quiet-requires
-quiet-requires c κs = search needs
-
--- src/lib.rt:322:9
 returns : tie.Need-returns
-returns c = ?
+returns c =
+    let t = no-room _ _ _ (c .before .before .room-for .ensures) (c .before .if1 .taken) in
+    (c .quiet .ensures ∙ sym (choose-no _ _ t), sym (choose-no _ _ t))
 
--- src/lib.rt:324:9
-node-at-requires : tie.Need-node-at-requires
-node-at-requires c κs = search needs
+sends : (c : tie.After-node-at) → isSent (barrier base (c .node-at .result) placeSize .answer) ≡ true
+sends c =
+    ap (λ n. isSent (barrier base n placeSize .answer)) (c .node-at .ensures .0)
+    ∙ c .before .before .before .before .pre
 
--- src/lib.rt:325:5
 write-at-requires : tie.Need-write-at-requires
-write-at-requires c κs = ?
+write-at-requires c κs = (sends (c .before), omega arith)
 
--- src/lib.rt:326:9
 frame-item-requires : tie.Need-frame-item-requires
-frame-item-requires c κs = ?
+frame-item-requires c κs =
+    let n = c .before .before .before .before in
+    n .node-at .ensures .1 (sending-known _ (sends n) .ok)
 
--- src/lib.rt:327:9
-no-item-requires : tie.Need-no-item-requires
-no-item-requires c κs = search needs
-
--- src/lib.rt:328:41
-add-with-node : tie.Need-add-with-node
-add-with-node c = search needs
-
--- src/lib.rt:328:9
-with-node-requires : tie.Need-with-node-requires
-with-node-requires c κs = search needs
-
--- src/lib.rt:315:1
-same-length : tie.Need-same-length
-same-length c = search needs
-
--- src/lib.rt:315:1
 returns-2 : tie.Need-returns-2
-returns-2 c = ?
+returns-2 c =
+    let item = c .before .before in
+    let put = item .before .before .before in
+    let node = put .before .before in
+    let x = node .before .before .before .before .args in
+    let e = node .node-at .ensures .0 in
+    let t = some-room _ _ _ (node .before .before .room-for .ensures) (node .before .if1 .left) in (
+      put-same _ _ _ _ (c .with-node .ensures) refl (item .frame-item .ensures ∙ ap (frameItem (x .a) (x .b)) e)
+          (c .before .no-item .ensures)
+          ∙ sym (choose-yes _ _ t),
+      put .write-at .ensures
+          ∙ ap (λ n. framed (x .bytes .now) (x .st .under) (due n)) e
+          ∙ sym (choose-yes _ _ t),
+    )
 
 pub one-frame-spec : {M : Type 1} → statement M
 one-frame-spec =
     tie.close
-    (tie.spec
-    room-for-requires
-    quiet-requires
-    returns
-    node-at-requires
-    write-at-requires
-    frame-item-requires
-    no-item-requires
-    add-with-node
-    with-node-requires
-    same-length
+    (tie.spec (λ c κs. search needs) (λ c κs. search needs) returns (λ c κs. search needs) write-at-requires
+    frame-item-requires (λ c κs. search needs) (λ c. search needs) (λ c κs. search needs) (λ c. search needs)
     returns-2)

@@ -1,37 +1,28 @@
+-- `stated` is the length of a frame.
 use borrow.Author.Needs.{needs}
+use native.Mathlib.Omega.{arith}
+use mathlib.Core.Path.{_≡_, sym, _∙_}
+use Rattle.frame.proofs.Writing.{first-length, second-length}
 use Rattle.turns.proofs.stated.Statement.{statement}
 use Rattle.turns.proofs.stated.Tie as tie
-use Rattle.turns.proofs.stated.Reads as reads
-use Rattle.turns.proofs.stated.Lts as lts
 
--- src/lib.rt:440:9
 returns : tie.Need-returns
-returns c = ?
+returns c =
+    let x = c .before .args in
+    (sym (second-length (x .p) (x .pass) (x .k) (c .if1 .taken)), omega arith)
 
--- src/lib.rt:443:9
 returns-2 : tie.Need-returns-2
-returns-2 c = ?
+returns-2 c =
+    let x = c .before .before .args in
+    (omega (arith, first-length (x .p) (x .pass) (x .k) (c .before .if1 .left)), omega arith)
 
--- src/lib.rt:445:14
-sub-result : tie.Need-sub-result
-sub-result c = search needs
-
--- src/lib.rt:445:9
-mul-result : tie.Need-mul-result
-mul-result c = search needs
-
--- src/lib.rt:445:5
-add-result : tie.Need-add-result
-add-result c = search needs
-
--- src/lib.rt:445:5
-add-result-2 : tie.Need-add-result-2
-add-result-2 c = search needs
-
--- src/lib.rt:434:1
 returns-3 : tie.Need-returns-3
-returns-3 c = ?
+returns-3 c =
+    let x = c .before .before .args in
+    (omega (arith, first-length (x .p) (x .pass) (x .k) (c .before .if1 .left)), omega arith)
 
 pub stated-spec : {M : Type 1} → statement M
 stated-spec =
-    tie.close (tie.spec returns returns-2 sub-result mul-result add-result add-result-2 returns-3)
+    tie.close
+    (tie.spec returns returns-2 (λ c. search needs) (λ c. search needs) (λ c. search needs) (λ c. search needs)
+    returns-3)

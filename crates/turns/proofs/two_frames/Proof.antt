@@ -1,101 +1,73 @@
+-- `two_frames` writes the frame for two receivers, where there are places for both.
 use borrow.Author.Needs.{needs}
+use native.Mathlib.Omega.{arith}
+use mathlib.Core.Path.{_≡_, refl, sym, ap, _∙_}
+use mathlib.Core.Bool.{true}
+use Rattle.base.specs.Limits.{base}
+use Rattle.base.proofs.Laws.{choose-yes, choose-no}
+use Rattle.node.specs.Barrier.{barrier}
+use Rattle.turns.specs.Frames.{placeSize, framed}
+use Rattle.turns.specs.Events.{frameItem}
+use Rattle.turns.specs.Pieces.{isSent, due}
+use Rattle.turns.proofs.Acting.{no-room, no-two, some-room, put-same}
+use Rattle.turns.proofs.Known.{sending-known}
+use Prim.Native.Nat.{_+_}
 use Rattle.turns.proofs.two_frames.Statement.{statement}
 use Rattle.turns.proofs.two_frames.Tie as tie
-use Rattle.turns.proofs.two_frames.Reads as reads
-use Rattle.turns.proofs.two_frames.Lts as lts
-use Rattle.turns.proofs.frame_item.Reads as frame-item-reads
-use Rattle.turns.proofs.node_at.Reads as node-at-reads
-use Rattle.turns.proofs.quiet.Reads as quiet-reads
-use Rattle.turns.proofs.room_for.Reads as room-for-reads
-use Rattle.turns.proofs.with_node.Reads as with-node-reads
-use Rattle.turns.proofs.write_at.Reads as write-at-reads
 
--- src/lib.rt:356:9
-room-for-requires : tie.Need-room-for-requires
-room-for-requires c κs = search needs
-
--- src/lib.rt:358:9
-quiet-requires : tie.Need-quiet-requires
-quiet-requires c κs = search needs
-
--- src/lib.rt:358:9
 returns : tie.Need-returns
-returns c = ?
+returns c =
+    let t = no-two _ _ _ (c .before .before .room-for .ensures) (c .before .if1 .taken) in
+    (c .quiet .ensures ∙ sym (choose-no _ _ t), sym (choose-no _ _ t))
 
--- src/lib.rt:360:16
-add-if2 : tie.Need-add-if2
-add-if2 c = search needs
-
--- src/lib.rt:361:9
-quiet-requires-2 : tie.Need-quiet-requires-2
-quiet-requires-2 c κs = search needs
-
--- src/lib.rt:361:9
 returns-2 : tie.Need-returns-2
-returns-2 c = ?
+returns-2 c =
+    let t = no-room _ _ _ (c .before .before .before .room-for .ensures) (c .before .if2 .taken) in
+    (c .quiet2 .ensures ∙ sym (choose-no _ _ t), sym (choose-no _ _ t))
 
--- src/lib.rt:363:9
-node-at-requires : tie.Need-node-at-requires
-node-at-requires c κs = search needs
+sends : (c : tie.After-node-at) → isSent (barrier base (c .node-at .result) placeSize .answer) ≡ true
+sends c =
+    ap (λ n. isSent (barrier base n placeSize .answer)) (c .node-at .ensures .0)
+    ∙ c .before .before .before .before .before .pre
 
--- src/lib.rt:364:5
 write-at-requires : tie.Need-write-at-requires
-write-at-requires c κs = ?
+write-at-requires c κs = (sends (c .before), omega arith)
 
--- src/lib.rt:365:17
-add-write-at : tie.Need-add-write-at
-add-write-at c = search needs
-
--- src/lib.rt:365:5
 write-at-requires-2 : tie.Need-write-at-requires-2
-write-at-requires-2 c κs = ?
+write-at-requires-2 c κs = (sends (c .before .before .before .before .before), omega arith)
 
--- src/lib.rt:366:9
 frame-item-requires : tie.Need-frame-item-requires
-frame-item-requires c κs = ?
+frame-item-requires c κs =
+    let n = c .before .before .before .before .before .before .before .before in
+    n .node-at .ensures .1 (sending-known _ (sends n) .ok)
 
--- src/lib.rt:367:9
 frame-item-requires-2 : tie.Need-frame-item-requires-2
-frame-item-requires-2 c κs = ?
+frame-item-requires-2 c κs =
+    let n = c .before .before .before .before .before .before .before .before .before in
+    n .node-at .ensures .1 (sending-known _ (sends n) .ok)
 
--- src/lib.rt:368:41
-add-with-node : tie.Need-add-with-node
-add-with-node c = search needs
-
--- src/lib.rt:368:9
-with-node-requires : tie.Need-with-node-requires
-with-node-requires c κs = search needs
-
--- src/lib.rt:376:15
-add-t14 : tie.Need-add-t14
-add-t14 c = search needs
-
--- src/lib.rt:342:1
-same-length : tie.Need-same-length
-same-length c = search needs
-
--- src/lib.rt:342:1
 returns-3 : tie.Need-returns-3
-returns-3 c = ?
+returns-3 c =
+    let second = c .before in
+    let first = second .before in
+    let other = first .before .before .before in
+    let put = other .before .before .before .before in
+    let node = put .before .before in
+    let x = node .before .before .before .before .before .args in
+    let e = node .node-at .ensures .0 in
+    let t = some-room _ _ _ (node .before .before .before .room-for .ensures) (node .before .if2 .left) in (
+      put-same _ _ _ _ (c .with-node .ensures) refl (first .frame-item .ensures ∙ ap (frameItem (x .a) (x .b)) e)
+          (second .frame-item2 .ensures ∙ ap (frameItem (x .a) (x .c)) e)
+          ∙ sym (choose-yes _ _ t),
+      other .write-at2 .ensures
+          ∙ ap (λ s. framed s (x .st .under + 1) (due (node .node-at .result))) (put .write-at .ensures)
+          ∙ ap (λ n. framed (framed (x .bytes .now) (x .st .under) (due n)) (x .st .under + 1) (due n)) e
+          ∙ sym (choose-yes _ _ t),
+    )
 
 pub two-frames-spec : {M : Type 1} → statement M
 two-frames-spec =
     tie.close
-    (tie.spec
-    room-for-requires
-    quiet-requires
-    returns
-    add-if2
-    quiet-requires-2
-    returns-2
-    node-at-requires
-    write-at-requires
-    add-write-at
-    write-at-requires-2
-    frame-item-requires
-    frame-item-requires-2
-    add-with-node
-    with-node-requires
-    add-t14
-    same-length
-    returns-3)
+    (tie.spec (λ c κs. search needs) (λ c κs. search needs) returns (λ c. search needs) (λ c κs. search needs)
+    returns-2 (λ c κs. search needs) write-at-requires (λ c. search needs) write-at-requires-2 frame-item-requires
+    frame-item-requires-2 (λ c. search needs) (λ c κs. search needs) (λ c. search needs) (λ c. search needs) returns-3)

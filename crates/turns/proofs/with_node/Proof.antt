@@ -1,24 +1,20 @@
+-- `with_node` sets a node of the array, or none.
 use borrow.Author.Needs.{needs}
+use native.Mathlib.Omega.{arith}
+use mathlib.Core.Path.{_≡_, sym, ap, _∙_}
+use lib.ListN.{length, length-map}
+use lib.Seq.{set-out}
+use Rattle.turns.specs.declared.Stage.{Stage}
 use Rattle.turns.proofs.with_node.Statement.{statement}
 use Rattle.turns.proofs.with_node.Tie as tie
-use Rattle.turns.proofs.with_node.Reads as reads
-use Rattle.turns.proofs.with_node.Lts as lts
 
--- src/lib.rt:155:9
 returns : tie.Need-returns
-returns c = ?
-
--- src/lib.rt:158:5
-mul-n : tie.Need-mul-n
-mul-n c = search needs
-
--- src/lib.rt:158:5
-element-set-from-n : tie.Need-element-set-from-n
-element-set-from-n c = search needs
-
--- src/lib.rt:149:1
-returns-2 : tie.Need-returns-2
-returns-2 c = search needs
+returns c =
+    let s = c .before in
+    let x = s .args in
+    let l : length (x .st .nodes) ≡ 16 = sym (length-map (x .st .nodes) _) ∙ s .good .0 .1 .1 .0 .1 .0 .1 in
+    let e = sym (set-out (x .st .nodes) (x .a) (x .n) (omega arith)) in
+    λ i. record { nodes = e i; size = x .st .size; under = x .under }
 
 pub with-node-spec : {M : Type 1} → statement M
-with-node-spec = tie.close (tie.spec returns mul-n element-set-from-n returns-2)
+with-node-spec = tie.close (tie.spec returns (λ c. search needs) (λ c. search needs) (λ c. search needs))

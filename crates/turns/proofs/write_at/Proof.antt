@@ -1,51 +1,29 @@
+-- `write_at` writes the frame that is due at the start of the part that is lent on.
 use borrow.Author.Needs.{needs}
+use native.Mathlib.Omega.{arith}
+use mathlib.Core.Path.{_≡_, sym, ap, _∙_}
+use Prim.Native.Nat.{_+_, _-_, _*_}
+use lib.ListN.{length, length-take}
+use Rattle.turns.specs.Frames.{placeSize}
+use borrow.Rule.Slice.PartMut.{mid-len, midOf}
+use Rattle.turns.proofs.Parts.{frame-part}
+use Rattle.turns.proofs.Known.{sending-known, sent-bytes}
 use Rattle.turns.proofs.write_at.Statement.{statement}
 use Rattle.turns.proofs.write_at.Tie as tie
-use Rattle.turns.proofs.write_at.Reads as reads
-use Rattle.turns.proofs.write_at.Lts as lts
-use Rattle.turns.proofs.barrier_call.Reads as barrier-call-reads
 
--- src/lib.rt:296:13
-mul-a : tie.Need-mul-a
-mul-a c = search needs
-
--- src/lib.rt:297:13
-add-e : tie.Need-add-e
-add-e c = search needs
-
--- src/lib.rt:298:21
-sub-barrier-call : tie.Need-sub-barrier-call
-sub-barrier-call c = search needs
-
--- src/lib.rt:298:21
-part-barrier-call-start : tie.Need-part-barrier-call-start
-part-barrier-call-start c = search needs
-
--- src/lib.rt:298:21
-part-barrier-call-end : tie.Need-part-barrier-call-end
-part-barrier-call-end c = search needs
-
--- src/lib.rt:298:5
-barrier-call-requires : tie.Need-barrier-call-requires
-barrier-call-requires c κs = search needs
-
--- src/lib.rt:292:1
-same-length : tie.Need-same-length
-same-length c = search needs
-
--- src/lib.rt:292:1
 returns : tie.Need-returns
-returns c = ?
+returns c =
+    let b = c .before .before in
+    let s = b .before .before .before in
+    let x = s .args in
+    let k = sending-known (x .n) (s .pre .0) in
+    let a = placeSize * x .place in
+    let z : a + placeSize - a ≡ placeSize = omega arith in
+    rw (b .barrier-call .ensures .1 .1, sent-bytes (x .n) _ k (mid-len a (a + placeSize) _ (s .pre .1) ∙ z))
+    (frame-part _ (x .place) _ _ _ z (k .count) (omega (arith, k .fits)) (omega arith))
 
 pub write-at-spec : {M : Type 1} → statement M
 write-at-spec =
     tie.close
-    (tie.spec
-    mul-a
-    add-e
-    sub-barrier-call
-    part-barrier-call-start
-    part-barrier-call-end
-    barrier-call-requires
-    same-length
-    returns)
+    (tie.spec (λ c. search needs) (λ c. search needs) (λ c. search needs) (λ c. search needs) (λ c. search needs)
+    (λ c κs. search needs) (λ c. search needs) returns)
