@@ -128,7 +128,7 @@ module _ (st : Stage) (headers : ℕ) (bytes : List ℕ) (at : ℕ) (it : Item) 
   deliver-none a b e = (choose-no _ _ e, choose-no _ _ e)
 
   module _ (a b : ℕ) (r : Given Outcome) (there : isThere st headers bytes at ≡ true)
-    (e : itemCall st headers bytes a b at it ≡ r) where
+      (e : itemCall st headers bytes a b at it ≡ r) where
     -- an early item stays
     pub deliver-early : outcomeNumber (r .answer) ≡ 7
         → (acted st headers bytes (Delivers a b) at it ≡ quiet st headers bytes st b 7)
@@ -178,7 +178,7 @@ module _ (st : Stage) (headers : ℕ) (bytes : List ℕ) (at : ℕ) where
   there-not h = rw (le-ltb at (st .under) h)
 
   module _ (len room : ℕ) (e : len ≡ length bytes) (r : room ≡ min 512 (min headers (len / placeSize)))
-    (h : at < st .under) where
+      (h : at < st .under) where
     same-room : room ≡ roomFor headers bytes
     same-room = r ∙ ap (λ n. min 512 (min headers (n / placeSize))) e
 

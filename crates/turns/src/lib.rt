@@ -20,18 +20,14 @@ ghost use Rattle.turns.specs.Frames.{placeSize, roomFor, closed, framed}
 ghost use Rattle.turns.specs.Events.{nodeAt, changed, frameAt};
 ghost use Rattle.turns.specs.Acts.{isThere, itemCall, frameActed, frameActedBytes, acted, actedBytes};
 ghost use Rattle.turns.specs.Pieces.{still, isSent, frameHeader, due, toList, frameHeld};
-use frame::Sent;
-use frame::Taken;
 use items::Item;
 use node::Answer;
 use node::BarrierAnswer;
 use node::BarrierReply;
-use node::Confirm;
 use node::Extra;
 use node::Node;
 use node::Receivers;
 use node::Reply;
-use node::Stored;
 use script::Line;
 use tree::Found;
 
@@ -54,88 +50,6 @@ pub struct Acted {
     pub first: Item,
     pub next: usize,
     pub second: Item,
-}
-
-// ---- stand-ins
-
-fn fresh_node(nodes: u32, number: u32) -> Reply
-    ensures { λ r. ⌜ replied r ≡ fresh base nodes number ⌝ }
-{
-    let m = Node {
-        nodes: 0,
-        number: 0,
-        phase: 0,
-        busy: false,
-        sent: [Sent(0); 8],
-        taken: [Taken(0); 8],
-        pass: 0,
-        dim: 0,
-        flag: false,
-        first: [Stored {
-            present: false,
-            sent: [Sent(0); 8],
-            taken: [Taken(0); 8],
-            issued: Sent(0),
-            received: Taken(0),
-        }; 8],
-        second: [Confirm {
-            present: false,
-            agreed: 0,
-            issued: Sent(0),
-        }; 8],
-        agreed: 0,
-    };
-    Reply {
-        node: m,
-        answer: Answer::Refused(1),
-    }
-}
-
-fn send_to(n: Node, to: u32) -> Reply
-    ensures { λ r. ⌜ replied r ≡ send base n to ⌝ }
-{
-    Reply {
-        node: n,
-        answer: Answer::Done,
-    }
-}
-
-fn take_from(n: Node, from: u32, phase: u8) -> Reply
-    ensures { λ r. ⌜ replied r ≡ takeCall base n from phase ⌝ }
-{
-    Reply {
-        node: n,
-        answer: Answer::Done,
-    }
-}
-
-fn go_idle(n: Node) -> Reply
-    ensures { λ r. ⌜ replied r ≡ idle base n ⌝ }
-{
-    Reply {
-        node: n,
-        answer: Answer::Done,
-    }
-}
-
-fn frame_in(n: Node, bytes: &[u8]) -> Reply
-    ensures { λ r. ⌜ replied r ≡ frameIn base n (now (bytes .entry)) ⌝ }
-{
-    Reply {
-        node: n,
-        answer: Answer::Done,
-    }
-}
-
-fn barrier_call(n: Node, buf: &mut [u8]) -> BarrierReply
-    ensures answer { λ r. ⌜ barrierReplied r ≡ barrier base n (length (now (buf .entry))) ⌝ }
-    ensures clause { λ r. ⌜ clauseFails base n (r .answer) ≡ true ⌝ }
-    ensures memory { λ r. ⌜ now (buf .exit) ≡ barrierBytes base n (now (buf .entry)) ⌝ }
-{
-    BarrierReply {
-        node: n,
-        answer: BarrierAnswer::Moved,
-    }
 }
 
 // ---- Numbers
@@ -173,7 +87,7 @@ fn node_at(st: Stage, a: u32) -> Node
         let i = a as usize;
         return st.nodes[i];
     }
-    let none = fresh_node(0, 0);
+    let none = calls::fresh_node(0, 0);
     none.node
 }
 
@@ -235,7 +149,7 @@ fn send_act(st: Stage, a: u32, b: u32, headers: usize, room: usize) -> Acted
 {
     let under = st.under;
     let n = node_at(st, a);
-    let r = send_to(n, b);
+    let r = calls::send_to(n, b);
     let answer = r.answer;
     match answer {
         Answer::Done => {
@@ -272,7 +186,7 @@ fn idle_act(st: Stage, a: u32, headers: usize) -> Acted
 {
     let under = st.under;
     let n = node_at(st, a);
-    let r = go_idle(n);
+    let r = calls::go_idle(n);
     let m = r.node;
     let answer = r.answer;
     let after = with_node(st, a, m, under);
@@ -286,7 +200,7 @@ fn tried(n: Node) -> BarrierReply
     ensures { λ r. ⌜ barrierReplied r ≡ barrier base n placeSize ⌝ }
 {
     let mut scratch = [0u8; 76];
-    barrier_call(n, &mut scratch)
+    barrier::barrier_call(n, &mut scratch)
 }
 
 // Writes the frame that is due at a place: the 76 bytes there are lent on.
@@ -296,7 +210,7 @@ fn write_at(n: Node, place: usize, bytes: &mut [u8])
 {
     let a = 76 * place;
     let e = a + 76;
-    barrier_call(n, &mut bytes[a..e]);
+    barrier::barrier_call(n, &mut bytes[a..e]);
 }
 
 // The header of a frame.
@@ -465,7 +379,7 @@ fn frame_call(n: Node, size: u32, at: usize, bytes: &[u8]) -> Reply
     let p = dims_of(size);
     let a = 76 * at;
     let e = a + stated(p, bytes[a], bytes[a + 2]);
-    frame_in(n, &bytes[a..e])
+    calls::frame_in(n, &bytes[a..e])
 }
 
 // The call at b for an item at a place.
@@ -475,7 +389,7 @@ fn item_call(st: Stage, a: u32, b: u32, at: usize, it: Item, bytes: &[u8]) -> Re
 {
     let n = node_at(st, b);
     if it.kind == 0 {
-        return take_from(n, a, it.phase);
+        return calls::take_from(n, a, it.phase);
     }
     frame_call(n, st.size, at, bytes)
 }
