@@ -33,7 +33,8 @@ both-true false t e = clash (sym e)
 pub both-make : {s t : Bool} → s ≡ true → t ≡ true → both s t ≡ true
 both-make a b = rw (a, b)
 
-pub every-at : (start count : ℕ) (f : ℕ → Bool) → every start count f ≡ true → (i : ℕ) → start ≤ i → i < start + count → f i ≡ true
+pub every-at : (start count : ℕ) (f : ℕ → Bool) → every start count f ≡ true → (i : ℕ) → start ≤ i → i < start + count
+    → f i ≡ true
 every-at start zero f e i a b = absurd (omega arith)
 every-at start (suc count) f e i a b =
     let q = both-true (f start) (every (suc start) count f) e in
@@ -43,10 +44,12 @@ every-at start (suc count) f e i a b =
     go h r (yes z) = ap f z ∙ h
     go h r (no z) = r (omega arith)
 
-pub every-make : (start count : ℕ) (f : ℕ → Bool) → ((i : ℕ) → start ≤ i → i < start + count → f i ≡ true) → every start count f ≡ true
+pub every-make : (start count : ℕ) (f : ℕ → Bool) → ((i : ℕ) → start ≤ i → i < start + count → f i ≡ true)
+    → every start count f ≡ true
 every-make start zero f h = refl
 every-make start (suc count) f h =
-    both-make (h start (omega arith) (omega arith)) (every-make (suc start) count f (λ i a b. h i (omega arith) (omega arith)))
+    both-make (h start (omega arith) (omega arith))
+    (every-make (suc start) count f (λ i a b. h i (omega arith) (omega arith)))
 
 -- the first of the tests that are left, and the rest
 pub every-here : (i n : ℕ) (f : ℕ → Bool) → i < n → every i (n - i) f ≡ both (f i) (every (i + 1) (n - (i + 1)) f)
@@ -77,7 +80,8 @@ module _ {A : Type 0} (refuse : ℕ → A) where
   order-stops a (later {c = c} e s) = choose-no (refuse (number (c .word))) _ e ∙ order-stops a s
 
   -- a fact by the check that is met, or by none being met
-  pub order-cases : (F : A → Type 0) (cs : List Check) (a : A) → ((x : ℕ) → Stops cs x → F (refuse x)) → (Passes cs → F a)
+  pub order-cases : (F : A → Type 0) (cs : List Check) (a : A) → ((x : ℕ) → Stops cs x → F (refuse x))
+      → (Passes cs → F a)
       → F (inOrder refuse cs a)
   order-cases F [] a f g = g tt
   order-cases F (c ∷ cs) a f g =
@@ -99,6 +103,12 @@ getD-list start (suc count) f (suc i) d h =
 
 pub list-at : {A : Type 0} (count : ℕ) (f : ℕ → A) (i : ℕ) (d : A) → i < count → getD (list 0 count f) i d ≡ f i
 list-at count f i d h = getD-list 0 count f i d h ∙ ap f (zero-add i)
+
+-- a list of one value has it everywhere
+pub list-one : {A : Type 0} (start count : ℕ) (x : A) (i : ℕ) → getD (list start count (λ m. x)) i x ≡ x
+list-one start zero x i = refl
+list-one start (suc count) x zero = refl
+list-one start (suc count) x (suc i) = list-one (suc start) count x i
 
 -- one value more at the end
 pub list-more : {A : Type 0} (start count : ℕ) (f : ℕ → A)

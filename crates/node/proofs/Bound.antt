@@ -36,7 +36,7 @@ use Rattle.node.specs.Barrier.{firstFrame, secondFrame, frameDue, length
 use Rattle.node.specs.declared.Node.{Node}
 use Rattle.node.proofs.Totals.{total-at}
 use Rattle.node.proofs.Clauses.{Has, has-lower, first-agrees, second-agrees}
-use Rattle.node.proofs.Valid.{Valid, valid-width, stepOf, step-first, step-second, first-awaited, second-awaited}
+use Rattle.node.proofs.Valid.{Valid, valid-width, stepOf, step-first, step-second, first-fits, second-fits}
 
 -- ---- the own sums are within the field limit
 
@@ -80,7 +80,7 @@ module _ (L : Limits) (room : L .nodes ≤ 2 ^ width) (n : Node) (v : Valid L n)
       let rest = own-low k (omega arith) (λ j m. a j (omega arith)) f less in
       added-low (own n k f) (number (firstAt n k) f) (fieldLimit L) (firstAt n k .present) rest
       (λ p.
-      let met = first-awaited L n k (v .first k (omega (arith, wide))) p .1 in
+      let met = first-fits L n k (v .first k (omega (arith, wide))) .awaits p .1 in
       first-agrees L n k (a k (omega arith)) met .within f h)
 
   pub issued-low : (k : ℕ) → k ≤ dims n → ((j : ℕ) → j < k → agrees L n 2 j ≡ true) → ownIssued n k ≤ fieldLimit L
@@ -90,7 +90,7 @@ module _ (L : Limits) (room : L .nodes ≤ 2 ^ width) (n : Node) (v : Valid L n)
       let rest = issued-low k (omega arith) (λ j m. a j (omega arith)) in
       added-low (ownIssued n k) (secondAt n k .issued .0) (fieldLimit L) (secondAt n k .present) rest
       (λ p.
-      let met = second-awaited L n k (v .second k (omega (arith, wide))) p .1 in
+      let met = second-fits L n k (v .second k (omega (arith, wide))) .awaits p .1 in
       second-agrees L n k (a k (omega arith)) met .within)
 
   -- for steps up to the position

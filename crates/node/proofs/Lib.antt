@@ -3,3 +3,9 @@ pub mod Valid
 pub mod Ways
 pub mod Totals
 pub mod Bound
+pub mod Depends
+pub mod Moving
+pub mod Storing
+pub mod ValidOut
+pub mod Passes
+pub mod Sizes

@@ -19,10 +19,6 @@ pub total-same : (f g : ℕ → ℕ) (n : ℕ) → ((m : ℕ) → m < n → f m 
 total-same f g zero h = refl
 total-same f g (suc n) h = omega (arith, total-same f g n (λ m l. h m (omega arith)), h n (omega arith))
 
-pub total-grows : (f g : ℕ → ℕ) (n : ℕ) → ((m : ℕ) → m < n → f m ≤ g m) → total f n ≤ total g n
-total-grows f g zero h = omega arith
-total-grows f g (suc n) h = omega (arith, total-grows f g n (λ m l. h m (omega arith)), h n (omega arith))
-
 pub total-zero : (f : ℕ → ℕ) (n : ℕ) → ((m : ℕ) → m < n → f m ≡ 0) → total f n ≡ 0
 total-zero f zero h = refl
 total-zero f (suc n) h = omega (arith, total-zero f n (λ m l. h m (omega arith)), h n (omega arith))

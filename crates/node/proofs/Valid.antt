@@ -11,6 +11,7 @@ use borrow.Author.Tests.{le-leb, lt-ltb, eq-eqb, ne-eqb}
 use Rattle.base.specs.Choice.{choose, both, either, every}
 use Rattle.base.specs.Limits.{Limits, fieldLimit, takenLimit, width}
 use Rattle.base.proofs.Laws.{clash, choose-yes, choose-no, cases, both-true, both-make, every-at, every-make}
+use Rattle.tree.specs.Tree.{dimension, awaited}
 use Rattle.tree.specs.Lookups.{badBoard}
 use Rattle.tree.proofs.Dimension.{smallest}
 use Rattle.tree.proofs.Lookups.{board-good}
@@ -18,11 +19,12 @@ use Rattle.frame.specs.Frame.{hasShell, numberOk}
 use Rattle.frame.proofs.RoundTripChecks.{number-low, number-absent}
 use Rattle.node.specs.Sums.{dims, firstAt, secondAt, Field, sentIn, takenIn, allSent, allTaken}
 use Rattle.node.specs.Sums.{tally, number, own}
-use Rattle.node.specs.Agree.{isAlone, agrees}
+use Rattle.node.specs.Agree.{isNone, isAlone, agrees}
 use Rattle.node.specs.State.{boardOk, positionOk, talliesOk, totalOk, awaitsFrame, firstOk, secondOk}
 use Rattle.node.specs.State.{passedOk, busyOk, valid}
 use Rattle.node.specs.Calls.{stepNumber}
 use Rattle.node.specs.declared.Stored.{Stored}
+use Rattle.node.specs.declared.Confirm.{Confirm}
 use Rattle.node.specs.declared.Node.{Node}
 use Rattle.node.proofs.Clauses.{Has}
 
@@ -298,33 +300,56 @@ holds p k x (takenIn m) = both (x .present) (hasShell p k m)
 holds p k x allSent = x .present
 holds p k x allTaken = x .present
 
+-- node a of a board of P awaits a frame in dimension k
+abbrev pub Awaits : ℕ → ℕ → ℕ → Type 0
+Awaits P a k = (k < dimension P) × (isNone (awaited P k a) ≡ false)
+
+-- what may be held for dimension k of pass 1, and of pass 2, by node a of a board of P
+pub record FirstFits (L : Limits) (P a k : ℕ) (x : Stored) : Type 0 where
+  -- a frame is stored only where one is awaited
+  pub awaits : x .present ≡ true → Awaits P a k
+  -- a number that the place has is within the limit, and any other is 0
+  pub numbers : (f : Field) → Room f → numberOk L (holds (dimension P) k x f) (number x f) ≡ true
+
+pub record SecondFits (L : Limits) (P a k : ℕ) (x : Confirm) : Type 0 where
+  pub awaits : x .present ≡ true → Awaits P a k
+  pub agreed : numberOk L (x .present) (x .agreed) ≡ true
+  pub issued : numberOk L (x .present) (x .issued .0) ≡ true
+
 module _ (L : Limits) (n : Node) (k : ℕ) where
-  pub record FirstFits : Type 0 where
-    -- a frame is stored only where one is awaited
-    pub awaits : firstAt n k .present ≡ true → awaitsFrame n k ≡ true
-    -- a number that the place has is within the limit, and any other is 0
-    pub numbers : (f : Field) → Room f → numberOk L (holds (dims n) k (firstAt n k) f) (number (firstAt n k) f) ≡ true
+  abbrev pub FirstHeld : Type 0
+  FirstHeld = FirstFits L (n .nodes) (n .number) k (firstAt n k)
 
-  pub record SecondFits : Type 0 where
-    pub awaits : secondAt n k .present ≡ true → awaitsFrame n k ≡ true
-    pub agreed : numberOk L (secondAt n k .present) (secondAt n k .agreed) ≡ true
-    pub issued : numberOk L (secondAt n k .present) (secondAt n k .issued .0) ≡ true
+  abbrev pub SecondHeld : Type 0
+  SecondHeld = SecondFits L (n .nodes) (n .number) k (secondAt n k)
 
-  only-awaited : (t u : Bool) → either t (not u) ≡ true → u ≡ true → t ≡ true
-  only-awaited true u e q = refl
-  only-awaited false true e q = e
-  only-awaited false false e q = q
+  -- a frame is there only where one is awaited
+  only-awaited : (u : Bool) → either (awaitsFrame n k) (not u) ≡ true → u ≡ true → Awaits (n .nodes) (n .number) k
+  only-awaited true e q =
+      let a = both-true (ltb k (dims n)) (not (isAlone n k)) (go (awaitsFrame n k) e) in
+      (ltb-true k (dims n) (a .0), not-true _ (a .1))
+    where
+      go : (t : Bool) → either t false ≡ true → t ≡ true
+      go true e = refl
+      go false e = e
+  only-awaited false e q = clash (sym q)
 
-  if-awaited : (t u : Bool) → (u ≡ true → t ≡ true) → either t (not u) ≡ true
-  if-awaited true u h = refl
-  if-awaited false true h = h refl
-  if-awaited false false h = refl
+  if-awaited : (u : Bool) → (u ≡ true → Awaits (n .nodes) (n .number) k) → either (awaitsFrame n k) (not u) ≡ true
+  if-awaited true h =
+      let a = h refl in
+      let here : awaitsFrame n k ≡ true = both-make (lt-ltb k (dims n) (a .0)) (ap not (a .1)) in
+      rw here
+  if-awaited false h = go (awaitsFrame n k)
+    where
+      go : (t : Bool) → either t true ≡ true
+      go true = refl
+      go false = refl
 
   -- the number of a field is as it may be
   fieldOk : Field → Bool
   fieldOk f = numberOk L (holds (dims n) k (firstAt n k) f) (number (firstAt n k) f)
 
-  pub first-fits : firstOk L n k ≡ true → FirstFits
+  pub first-fits : firstOk L n k ≡ true → FirstHeld
   unfolding firstOk fieldOk
   first-fits e =
       let here = either (awaitsFrame n k) (not (firstAt n k .present)) in
@@ -332,7 +357,7 @@ module _ (L : Limits) (n : Node) (k : ℕ) where
       let shells = every 0 width (λ m. both (fieldOk (sentIn m)) (fieldOk (takenIn m))) in
       let b = both-true shells _ (a .1) in
       let c = both-true (fieldOk allSent) (fieldOk allTaken) (b .1) in
-      record { awaits = only-awaited (awaitsFrame n k) _ (a .0); numbers = numbers (b .0) (c .0) (c .1) }
+      record { awaits = only-awaited (firstAt n k .present) (a .0); numbers = numbers (b .0) (c .0) (c .1) }
     where
       shell : every 0 width (λ m. both (fieldOk (sentIn m)) (fieldOk (takenIn m))) ≡ true → (m : ℕ) → m < width
           → (fieldOk (sentIn m) ≡ true) × (fieldOk (takenIn m) ≡ true)
@@ -347,53 +372,39 @@ module _ (L : Limits) (n : Node) (k : ℕ) where
       numbers e s t allSent h = s
       numbers e s t allTaken h = t
 
-  pub first-ok : FirstFits → firstOk L n k ≡ true
+  pub first-ok : FirstHeld → firstOk L n k ≡ true
   unfolding firstOk
   first-ok a =
-      both-make (if-awaited (awaitsFrame n k) _ (a .awaits))
+      both-make (if-awaited (firstAt n k .present) (a .awaits))
       (both-make
       (every-make 0 width _
       (λ m l h. both-make (a .numbers (sentIn m) (omega arith)) (a .numbers (takenIn m) (omega arith))))
       (both-make (a .numbers allSent tt) (a .numbers allTaken tt)))
 
-  pub second-fits : secondOk L n k ≡ true → SecondFits
+  pub second-fits : secondOk L n k ≡ true → SecondHeld
   unfolding secondOk
   second-fits e =
       let x = secondAt n k in
       let a = both-true (either (awaitsFrame n k) (not (x .present))) _ e in
       let b = both-true (numberOk L (x .present) (x .agreed)) (numberOk L (x .present) (x .issued .0)) (a .1) in
-      record { awaits = only-awaited (awaitsFrame n k) _ (a .0); agreed = b .0; issued = b .1 }
+      record { awaits = only-awaited (x .present) (a .0); agreed = b .0; issued = b .1 }
 
-  pub second-ok : SecondFits → secondOk L n k ≡ true
+  pub second-ok : SecondHeld → secondOk L n k ≡ true
   unfolding secondOk
-  second-ok a = both-make (if-awaited (awaitsFrame n k) _ (a .awaits)) (both-make (a .agreed) (a .issued))
+  second-ok a = both-make (if-awaited (secondAt n k .present) (a .awaits)) (both-make (a .agreed) (a .issued))
 
   -- ---- what the places say
 
-  awaits-known : awaitsFrame n k ≡ true → (k < dims n) × (isAlone n k ≡ false)
-  awaits-known e =
-      let a = both-true (ltb k (dims n)) (not (isAlone n k)) e in (ltb-true k (dims n) (a .0), not-true _ (a .1))
-
-  pub awaits-good : k < dims n → isAlone n k ≡ false → awaitsFrame n k ≡ true
-  awaits-good l a = both-make (lt-ltb k (dims n) l) (ap not a)
-
-  -- a stored frame is of a dimension of the node, and awaited there
-  pub first-awaited : firstOk L n k ≡ true → firstAt n k .present ≡ true → (k < dims n) × (isAlone n k ≡ false)
-  first-awaited e p = awaits-known (first-fits e .awaits p)
-
-  pub second-awaited : secondOk L n k ≡ true → secondAt n k .present ≡ true → (k < dims n) × (isAlone n k ≡ false)
-  second-awaited e p = awaits-known (second-fits e .awaits p)
-
-  unless-awaited : (t : Bool) → isAlone n k ≡ true → (t ≡ true → (k < dims n) × (isAlone n k ≡ false)) → t ≡ false
-  unless-awaited true a h = clash (sym a ∙ h refl .1)
-  unless-awaited false a h = refl
+  alone-empty : (t : Bool) → isAlone n k ≡ true → (t ≡ true → Awaits (n .nodes) (n .number) k) → t ≡ false
+  alone-empty true a h = clash (sym a ∙ h refl .1)
+  alone-empty false a h = refl
 
   -- an alone step has no frame stored
   pub first-alone : firstOk L n k ≡ true → isAlone n k ≡ true → firstAt n k .present ≡ false
-  first-alone e a = unless-awaited (firstAt n k .present) a (first-awaited e)
+  first-alone e a = alone-empty (firstAt n k .present) a (first-fits e .awaits)
 
   pub second-alone : secondOk L n k ≡ true → isAlone n k ≡ true → secondAt n k .present ≡ false
-  second-alone e a = unless-awaited (secondAt n k .present) a (second-awaited e)
+  second-alone e a = alone-empty (secondAt n k .present) a (second-fits e .awaits)
 
   -- every number of a place is within the field limit
   pub first-low : firstOk L n k ≡ true → (f : Field) → Room f → number (firstAt n k) f ≤ fieldLimit L

@@ -1,0 +1,4 @@
+pub mod Values
+pub mod Lists
+pub mod Tests
+pub mod Does
