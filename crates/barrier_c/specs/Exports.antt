@@ -11,7 +11,7 @@ use Rattle.node.specs.Agree.{clauses, mayName}
 use Rattle.node.specs.Answers.{Given, Outcome, outcomeNumber, Barrier, sent, waits, moved, left, barred, barrierNumber}
 use Rattle.node.specs.Barrier.{barrier, barrierBytes}
 use Rattle.node.specs.declared.Node.{Node}
-use Rattle.barrier_c.specs.Words.{packed, unpacked, isPacked}
+use Rattle.words.specs.Words.{packed, unpacked, isPacked}
 
 -- words that are no state give 13
 abbrev pub noState : ℕ
@@ -40,7 +40,8 @@ abbrev pub numberWords : Answered ℕ → List ℕ → List ℕ
 numberWords (refused x) ws = ws
 numberWords (found x) ws = x ∷ []
 
--- the kind of a place (0 alone, 1 hermit, 2 neighbour, 3 messenger), the awaited node, and the hermit; 0 where there is none
+-- the kind of a place (0 alone, 1 hermit, 2 neighbour, 3 messenger), the awaited node, and the hermit; 0 where there is
+-- none
 abbrev pub placeWords : Answered Place → List ℕ → List ℕ
 placeWords (refused x) ws = ws
 placeWords (found alone) ws = 0 ∷ 0 ∷ 0 ∷ []
