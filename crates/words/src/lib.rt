@@ -1,4 +1,4 @@
-// A node's state as 200 words that a C caller lends, and back.
+// What a C caller lends as words: a node's state as 200, a frame's fields as 23.
 ghost use mathlib.Core.Path.{_≡_};
 ghost use mathlib.Core.Bool.{true};
 ghost use mathlib.Core.List.{[], _∷_};
@@ -6,14 +6,16 @@ ghost use Prim.Native.Nat.{_+_, _≤_};
 ghost use lib.ListN.{length, getD};
 ghost use Rattle.base.specs.Choice.{every, list};
 ghost use Rattle.base.specs.Limits.{width};
-ghost use Rattle.frame.specs.Frame.{sentAt, takenAt};
+ghost use Rattle.frame.specs.Frame.{sentAt, takenAt, noFrame};
 ghost use Rattle.frame.specs.Parts.{pasted};
 ghost use Rattle.node.specs.Change.{noNode};
 ghost use Rattle.words.specs.Words.{bit, firstWords, secondWords, packed};
 ghost use Rattle.words.specs.Words.{firstFrom, secondFrom, unpacked, isPacked};
 ghost use Rattle.words.specs.Held.{held};
+ghost use Rattle.words.specs.Fields.{scalarWords, fieldWords, frameFrom, isFields, heldFrame};
 ghost use Rattle.words.specs.Parts.{sentFrom, takenFrom, firstsFrom, secondsFrom, firstsWords, secondsWords};
 ghost use Rattle.words.specs.Parts.{isMarked};
+use frame::Frame;
 use frame::Sent;
 use frame::Taken;
 use node::Confirm;
@@ -24,6 +26,12 @@ use node::Stored;
 pub struct Held {
     pub ok: bool,
     pub node: Node,
+}
+
+// What words hold: a frame, or none and a frame of zeros.
+pub struct HeldFrame {
+    pub ok: bool,
+    pub frame: Frame,
 }
 
 // ---- A state as words
@@ -314,6 +322,79 @@ fn no_node() -> Node
     }
 }
 
+// ---- A frame's fields
+
+// Puts all fields but the tallies.
+fn put_scalars(s: &mut [u32], f: Frame)
+    requires { ⌜ 7 ≤ length (now s) ⌝ }
+    ensures { λ r. ⌜ now (s .exit) ≡ pasted (now (s .entry)) 0 (scalarWords f) ⌝ }
+{
+    s[0] = f.pass as u32;
+    s[1] = f.phase as u32;
+    s[2] = f.dim as u32;
+    s[3] = f.sender as u32;
+    s[4] = f.issued.0;
+    s[5] = f.received.0;
+    s[6] = f.agreed;
+}
+
+// Puts all fields.
+fn put_fields(s: &mut [u32], f: Frame)
+    requires { ⌜ length (now s) ≡ 23 ⌝ }
+    ensures { λ r. ⌜ now (s .exit) ≡ fieldWords f ⌝ }
+{
+    let sent = f.sent;
+    let taken = f.taken;
+    put_scalars(&mut *s, f);
+    put_sent(&mut *s, 7, sent);
+    put_taken(&mut *s, 15, taken);
+}
+
+// The words of a frame's head are bytes.
+fn head_in_range(s: &[u32]) -> bool
+    requires { ⌜ length (now s) ≡ 23 ⌝ }
+    ensures { λ r. ⌜ r ≡ isFields (now (s .entry)) ⌝ }
+{
+    (s[0] < 256) & (s[1] < 256) & (s[2] < 256) & (s[3] < 256)
+}
+
+// The frame that words in range hold.
+fn frame_from(s: &[u32]) -> Frame
+    requires { ⌜ (length (now s) ≡ 23) × (isFields (now s) ≡ true) ⌝ }
+    ensures { λ r. ⌜ r ≡ frameFrom (now (s .entry)) ⌝ }
+{
+    let sent = sent_from(s, 7);
+    let taken = taken_from(s, 15);
+    Frame {
+        pass: s[0] as u8,
+        phase: s[1] as u8,
+        dim: s[2] as u8,
+        sender: s[3] as u8,
+        sent: sent,
+        taken: taken,
+        issued: Sent(s[4]),
+        received: Taken(s[5]),
+        agreed: s[6],
+    }
+}
+
+// What is given where words hold no frame.
+fn no_frame() -> Frame
+    ensures { λ r. ⌜ r ≡ noFrame ⌝ }
+{
+    Frame {
+        pass: 0,
+        phase: 0,
+        dim: 0,
+        sender: 0,
+        sent: [Sent(0); 8],
+        taken: [Taken(0); 8],
+        issued: Sent(0),
+        received: Taken(0),
+        agreed: 0,
+    }
+}
+
 // ---- What the C library calls
 
 // The state that words hold, if each word is in the range of its place.
@@ -336,4 +417,26 @@ pub fn pack(state: &mut [u32; 200], n: Node)
     ensures { λ r. ⌜ now (state .exit) ≡ packed n ⌝ }
 {
     put_state(state, n);
+}
+
+// The frame that words hold, if those of its head are bytes.
+pub fn unpack_frame(fields: &[u32; 23]) -> HeldFrame
+    ensures { λ r. ⌜ r ≡ heldFrame (now (fields .entry)) ⌝ }
+{
+    if !head_in_range(fields) {
+        let none = no_frame();
+        return HeldFrame {
+            ok: false,
+            frame: none,
+        };
+    }
+    let f = frame_from(fields);
+    HeldFrame { ok: true, frame: f }
+}
+
+// Puts a frame's fields.
+pub fn pack_frame(fields: &mut [u32; 23], f: Frame)
+    ensures { λ r. ⌜ now (fields .exit) ≡ fieldWords f ⌝ }
+{
+    put_fields(fields, f);
 }

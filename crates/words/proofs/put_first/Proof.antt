@@ -13,8 +13,8 @@ returns c =
     let present = sent .before .before .before .before in
     let bit = present .before in
     let start = bit .before .before .before .before .before in
-    first-put _ _ _ _ _ _ _ _ _ (start .pre) (bit .bit-of .ensures) (present .put-word .ensures) (sent .put-sent .ensures)
-    (taken .put-taken .ensures) (issued .put-word2 .ensures) (received .put-word3 .ensures)
+    first-put _ _ _ _ _ _ _ _ _ (start .pre) (bit .bit-of .ensures) (present .put-word .ensures)
+    (sent .put-sent .ensures) (taken .put-taken .ensures) (issued .put-word2 .ensures) (received .put-word3 .ensures)
 
 pub put-first-spec : {M : Type 1} → statement M
 put-first-spec =
