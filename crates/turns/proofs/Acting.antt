@@ -1,5 +1,5 @@
 -- What becomes of a line, by what its call answered.
-use mathlib.Core.Path.{_≡_, refl, sym, ap, _∙_}
+use mathlib.Core.Path.{_≡_, refl, ap, _∙_}
 use mathlib.Core.Bool.{true, false, not}
 use mathlib.Core.List.{List, []}
 use Prim.Native.Nat.{ℕ, _+_, _-_, _/_, min, _≤_, _<_}
@@ -7,13 +7,10 @@ use lib.ListN.{length}
 use native.Mathlib.Decide.{decLt}
 use native.Mathlib.Omega.{arith}
 use lib.Dec.{ltb, leb, eqb}
-use borrow.Author.Tests.{lt-ltb, le-ltb, le-leb, lt-leb, ltb-true, leb-true, eq-eqb, ne-eqb, not-true, not-false}
-use Rattle.base.specs.Choice.{choose, both}
+use borrow.Author.Tests.{lt-ltb, le-ltb, le-leb, lt-leb, ltb-true, leb-true, eq-eqb, ne-eqb, not-true}
 use Rattle.base.specs.Limits.{base}
 use Rattle.base.proofs.Laws.{choose-yes, choose-no, both-true}
 use Rattle.tree.specs.Lookups.{badBoard}
-use Rattle.frame.specs.Frame.{frameBytes}
-use Rattle.node.specs.Sums.{dims}
 use Rattle.node.specs.Answers.{Given, Outcome, outcomeNumber, Barrier}
 use Rattle.node.specs.Calls.{send, idle}
 use Rattle.node.specs.Barrier.{barrier}
@@ -22,7 +19,7 @@ use Rattle.items.specs.Places.{noItem}
 use Rattle.items.specs.declared.Item.{Item}
 use Rattle.turns.specs.Frames.{placeSize, roomFor, closed}
 use Rattle.turns.specs.Events.{nodeAt, changed}
-use Rattle.turns.specs.Acts.{quiet, takeOff, sendActed, callActed, callActedBytes, itemCall, deliverActed}
+use Rattle.turns.specs.Acts.{quiet, takeOff, sendActed, callActed, callActedBytes, itemCall}
 use Rattle.turns.specs.Acts.{isThere, acted, actedBytes}
 use Rattle.turns.specs.declared.Stage.{Stage}
 use Rattle.turns.specs.declared.Acted.{Acted}
@@ -117,8 +114,10 @@ module _ (st : Stage) (headers : ℕ) (bytes : List ℕ) (at : ℕ) (it : Item) 
       → (acted st headers bytes (Calls a) at it ≡ callActed st headers bytes a r (r .answer))
       × (actedBytes st headers bytes (Calls a) at it ≡ callActedBytes st headers bytes a (r .answer))
   unfolding acted actedBytes
-  call-by a r e =
-      (ap (λ g. callActed st headers bytes a g (g .answer)) e, ap (λ g. callActedBytes st headers bytes a (g .answer)) e)
+  call-by a r e = (
+    ap (λ g. callActed st headers bytes a g (g .answer)) e,
+    ap (λ g. callActedBytes st headers bytes a (g .answer)) e,
+  )
 
   -- no item stands there
   pub deliver-none : (a b : ℕ) → isThere st headers bytes at ≡ false

@@ -1,6 +1,6 @@
 -- What an answer of a call says of the state and the numbers handed.
 use mathlib.Core.Path.{_≡_, refl, sym, ap, _∙_}
-use mathlib.Core.Bool.{true, false}
+use mathlib.Core.Bool.{true}
 use mathlib.Core.List.{List, _++_}
 use Prim.Native.Nat.{ℕ, _≤_, _<_}
 use native.Mathlib.Omega.{arith}
@@ -23,7 +23,7 @@ use Rattle.node.proofs.Valid.{valid-known}
 use Rattle.node.proofs.Bound.{due-length}
 use Rattle.node.proofs.Ways.{SendWay, send-way, CallWay, call-way}
 use Rattle.turns.specs.Frames.{placeSize}
-use Rattle.turns.specs.Pieces.{isSent}
+use Rattle.turns.specs.Pieces.{isSent, callSends}
 
 -- a reply whose answer is known
 pub given-as : (r : Reply) (x : Answer) (g : Given Outcome) → replied r ≡ g → r .answer ≡ x
@@ -49,7 +49,7 @@ pub record Sending (n : Node) : Type 0 where
   pub count : length (frameBytes (dims n) (frameDue n)) ≡ lengthDue n
   pub fits : lengthDue n ≤ placeSize
 
-pub sending-known : (n : Node) → isSent (barrier base n placeSize .answer) ≡ true → Sending n
+pub sending-known : (n : Node) → callSends n ≡ true → Sending n
 sending-known n e = go (call-way base n placeSize) refl e
   where
     go : {g : Given Barrier} → CallWay base n placeSize g → barrier base n placeSize ≡ g → isSent (g .answer) ≡ true

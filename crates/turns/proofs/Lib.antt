@@ -2,3 +2,5 @@ pub mod Board
 pub mod Parts
 pub mod Known
 pub mod Acting
+pub mod Turning
+pub mod Keeping

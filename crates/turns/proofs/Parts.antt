@@ -1,10 +1,10 @@
 -- The bytes of the places: a frame written at one, a frame held at one, and the gap closed byte after byte.
-use mathlib.Core.Path.{_≡_, refl, sym, ap, _∙_}
-use mathlib.Core.List.{List, [], _∷_, _++_, append-assoc, append-nil}
+use mathlib.Core.Path.{_≡_, sym, ap, _∙_}
+use mathlib.Core.List.{List, [], _∷_, _++_, append-assoc}
 use Prim.Native.Nat.{ℕ, suc, _+_, _-_, _*_, _≤_, _<_}
 use native.Mathlib.Numerals.{add-one}
 use native.Mathlib.Omega.{arith}
-use lib.ListN.{length, getD, set, take, drop, length-append, length-drop, length-set, take-append-drop}
+use lib.ListN.{length, getD, set, take, drop, length-append, length-drop, take-append-drop}
 use lib.Seq.{drop-drop, drop-append-le, drop-cons, take-suc, append-snoc, length-take-le, getD-append-add, getD-drop}
 use lib.Seq.{set-at}
 use borrow.Rule.Slice.PartMut.{putMid, midOf}

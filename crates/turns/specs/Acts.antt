@@ -1,5 +1,5 @@
--- What the function for a line answers: the headers are not handed to it, only how many are lent, and for a delivery the place
--- of the oldest item of the link and that item.
+-- What the function for a line answers: the headers are not handed to it, only how many are lent, and for a delivery
+-- the place of the oldest item of the link and that item.
 use mathlib.Core.Bool.{Bool, not}
 use mathlib.Core.List.{List, [], _∷_}
 use Prim.Native.Nat.{ℕ, _+_, _-_}

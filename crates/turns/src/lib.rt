@@ -3,23 +3,22 @@
 ghost use mathlib.Core.Path.{_≡_};
 ghost use mathlib.Core.Bool.{true, false};
 ghost use mathlib.Core.List.{List, [], _∷_};
-ghost use Prim.Native.Nat.{ℕ, _+_, _-_, _*_, _/_, min, _≤_, _<_};
+ghost use Prim.Native.Nat.{ℕ, _+_, _*_, _/_, min, _≤_, _<_};
 ghost use lib.ListN.{length};
 ghost use Rattle.base.specs.Limits.{base};
 ghost use Rattle.tree.specs.Tree.{dimension};
 ghost use Rattle.tree.specs.Lookups.{badBoard};
-ghost use Rattle.frame.specs.Frame.{frameLength, frameBytes};
-ghost use Rattle.node.specs.Sums.{dims};
+ghost use Rattle.frame.specs.Frame.{frameLength};
 ghost use Rattle.node.specs.State.{valid};
-ghost use Rattle.node.specs.Answers.{give, sent, also, outcomeOf, outcomeNumber, replied, barrierReplied};
-ghost use Rattle.node.specs.Calls.{fresh, send, take as takeCall, idle, frameIn};
-ghost use Rattle.node.specs.Barrier.{barrier, barrierBytes, clauseFails, frameDue};
+ghost use Rattle.node.specs.Answers.{outcomeOf, outcomeNumber, replied, barrierReplied};
+ghost use Rattle.node.specs.Calls.{frameIn};
+ghost use Rattle.node.specs.Barrier.{barrier};
 ghost use Rattle.script.specs.declared.Line.the-variants.{Sends, Delivers, Idles, Calls};
 ghost use Rattle.items.specs.Places.{noItem};
 ghost use Rattle.turns.specs.Frames.{placeSize, roomFor, closed, framed};
-ghost use Rattle.turns.specs.Events.{nodeAt, changed, frameAt};
-ghost use Rattle.turns.specs.Acts.{isThere, itemCall, frameActed, frameActedBytes, acted, actedBytes};
-ghost use Rattle.turns.specs.Pieces.{still, isSent, frameHeader, due, toList, frameHeld};
+ghost use Rattle.turns.specs.Events.{nodeAt, changed};
+ghost use Rattle.turns.specs.Acts.{isThere, itemCall, frameActed, acted, actedBytes};
+ghost use Rattle.turns.specs.Pieces.{still, callSends, frameHeader, due, framesIn, toList, frameHeld};
 use items::Item;
 use node::Answer;
 use node::BarrierAnswer;
@@ -39,8 +38,9 @@ pub struct Stage {
     pub under: usize,
 }
 
-// What became of a line. The headers are changed as it says: the one at `gone` goes (none where that is the number of items
-// under way), then `first` is put at `at` and `second` at `next` (nowhere where that is the number of headers lent).
+// What became of a line. The headers are changed as it says: the one at `gone` goes (none where that is the number of
+// items under way), then `first` is put at `at` and `second` at `next` (nowhere where that is the number of headers
+// lent).
 pub struct Acted {
     pub stage: Stage,
     pub actor: u32,
@@ -145,7 +145,7 @@ fn room_for(headers: usize, len: usize) -> usize
 // ---- s and i
 
 fn send_act(st: Stage, a: u32, b: u32, headers: usize, room: usize) -> Acted
-    ensures { λ r. ⌜ ((bytes : List ℕ) → room ≡ roomFor headers bytes → r ≡ acted st headers bytes (Sends a b) 0 noItem) ⌝ }
+    ensures { λ r. ⌜ ((bs : List ℕ) → room ≡ roomFor headers bs → r ≡ acted st headers bs (Sends a b) 0 noItem) ⌝ }
 {
     let under = st.under;
     let n = node_at(st, a);
@@ -205,7 +205,7 @@ fn tried(n: Node) -> BarrierReply
 
 // Writes the frame that is due at a place: the 76 bytes there are lent on.
 fn write_at(n: Node, place: usize, bytes: &mut [u8])
-    requires { ⌜ (isSent (barrier base n placeSize .answer) ≡ true) × (placeSize * place + placeSize ≤ length (now bytes)) ⌝ }
+    requires { ⌜ (callSends n ≡ true) × (placeSize * place + placeSize ≤ length (now bytes)) ⌝ }
     ensures { λ r. ⌜ now (bytes .exit) ≡ framed (now (bytes .entry)) place (due n) ⌝ }
 {
     let a = 76 * place;
@@ -228,9 +228,9 @@ fn frame_item(a: u32, b: u8, phase: u8) -> Item
 
 // The frame goes to one receiver.
 fn one_frame(st: Stage, a: u32, b: u8, after: Node, headers: usize, bytes: &mut [u8]) -> Acted
-    requires { ⌜ isSent (barrier base (nodeAt st a) placeSize .answer) ≡ true ⌝ }
+    requires { ⌜ callSends (nodeAt st a) ≡ true ⌝ }
     ensures answer { λ r. ⌜ r ≡ frameActed st headers (now (bytes .entry)) a after (b ∷ []) ⌝ }
-    ensures memory { λ r. ⌜ now (bytes .exit) ≡ frameActedBytes st headers (now (bytes .entry)) (due (nodeAt st a)) (b ∷ []) ⌝ }
+    ensures memory { λ r. ⌜ now (bytes .exit) ≡ framesIn st headers (now (bytes .entry)) a (b ∷ []) ⌝ }
 {
     let under = st.under;
     if room_for(headers, bytes.len()) <= under {
@@ -263,9 +263,9 @@ fn two_frames(
     headers: usize,
     bytes: &mut [u8],
 ) -> Acted
-    requires { ⌜ isSent (barrier base (nodeAt st a) placeSize .answer) ≡ true ⌝ }
+    requires { ⌜ callSends (nodeAt st a) ≡ true ⌝ }
     ensures answer { λ r. ⌜ r ≡ frameActed st headers (now (bytes .entry)) a after (b ∷ c ∷ []) ⌝ }
-    ensures memory { λ r. ⌜ now (bytes .exit) ≡ frameActedBytes st headers (now (bytes .entry)) (due (nodeAt st a)) (b ∷ c ∷ []) ⌝ }
+    ensures memory { λ r. ⌜ now (bytes .exit) ≡ framesIn st headers (now (bytes .entry)) a (b ∷ c ∷ []) ⌝ }
 {
     let under = st.under;
     let room = room_for(headers, bytes.len());
@@ -301,9 +301,9 @@ fn frame_act(
     headers: usize,
     bytes: &mut [u8],
 ) -> Acted
-    requires { ⌜ isSent (barrier base (nodeAt st a) placeSize .answer) ≡ true ⌝ }
+    requires { ⌜ callSends (nodeAt st a) ≡ true ⌝ }
     ensures answer { λ r. ⌜ r ≡ frameActed st headers (now (bytes .entry)) a after (toList to) ⌝ }
-    ensures memory { λ r. ⌜ now (bytes .exit) ≡ frameActedBytes st headers (now (bytes .entry)) (due (nodeAt st a)) (toList to) ⌝ }
+    ensures memory { λ r. ⌜ now (bytes .exit) ≡ framesIn st headers (now (bytes .entry)) a (toList to) ⌝ }
 {
     let first = to.first;
     let extra = to.extra;
@@ -396,7 +396,7 @@ fn item_call(st: Stage, a: u32, b: u32, at: usize, it: Item, bytes: &[u8]) -> Re
 
 // An item stands at a place.
 fn is_there(st: Stage, headers: usize, len: usize, at: usize) -> bool
-    ensures { λ r. ⌜ ((bytes : List ℕ) → len ≡ length bytes → r ≡ isThere st headers bytes at) ⌝ }
+    ensures { λ r. ⌜ ((bs : List ℕ) → len ≡ length bs → r ≡ isThere st headers bs at) ⌝ }
 {
     if st.under <= at {
         return false;

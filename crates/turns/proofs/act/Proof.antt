@@ -1,6 +1,6 @@
 -- `act` does what a line does, by its kind.
 use borrow.Author.Needs.{needs}
-use mathlib.Core.Path.{refl, sym, _∙_}
+use mathlib.Core.Path.{_∙_}
 use Rattle.turns.proofs.Acting.{no-event, send-any, idle-any, call-any}
 use Rattle.turns.proofs.act.Statement.{statement}
 use Rattle.turns.proofs.act.Tie as tie

@@ -7,7 +7,7 @@ use Rattle.node.specs.Barrier.{barrier}
 use Rattle.node.specs.declared.BarrierAnswer.{BarrierAnswer}
 use Rattle.items.specs.Places.{noItem}
 use Rattle.turns.specs.Frames.{placeSize}
-use Rattle.turns.specs.Events.{nodeAt, changed}
+use Rattle.turns.specs.Events.{nodeAt}
 use Rattle.turns.specs.Acts.{callActed, callActedBytes, acted, actedBytes}
 use Rattle.script.specs.declared.Line.the-variants.{Calls}
 use Rattle.turns.specs.Pieces.{still, isSent}

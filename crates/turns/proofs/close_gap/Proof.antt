@@ -2,10 +2,10 @@
 use borrow.Author.Needs.{needs}
 use native.Mathlib.Omega.{arith}
 use mathlib.Core.Path.{_≡_, ap, _∙_}
-use Prim.Native.Nat.{_-_, _+_, _*_, _≤_}
+use Prim.Native.Nat.{_-_, _*_, _≤_}
 use lib.ListN.{length, length-set}
 use Rattle.turns.specs.Frames.{placeSize}
-use Rattle.turns.proofs.Parts.{moving, none-moved, length-moving, one-moved, all-moved}
+use Rattle.turns.proofs.Parts.{moving, none-moved, one-moved, all-moved}
 use Rattle.turns.proofs.close_gap.Statement.{statement}
 use Rattle.turns.proofs.close_gap.Tie as tie
 

@@ -1,12 +1,12 @@
 -- `deliver_act` does what a line of a delivery does.
 use borrow.Author.Needs.{needs}
 use native.Mathlib.Omega.{arith}
-use mathlib.Core.Path.{_≡_, refl, sym, ap, _∙_}
+use mathlib.Core.Path.{_≡_, refl, sym, _∙_}
 use Prim.Native.Nat.{_≤_, _<_, _*_}
-use mathlib.Core.Bool.{true, false}
+use mathlib.Core.Bool.{true}
 use lib.ListN.{length}
 use borrow.Author.Tests.{not-true, not-false}
-use Rattle.turns.specs.Acts.{isThere, itemCall}
+use Rattle.turns.specs.Acts.{isThere}
 use Rattle.turns.specs.Frames.{placeSize}
 use Rattle.turns.proofs.Acting.{put-same, deliver-none, deliver-early, deliver-off, there-known}
 use Rattle.node.specs.Answers.{replied}
@@ -21,7 +21,8 @@ returns c =
     let d = deliver-none (x .st) (x .headers) (x .bytes .now) (x .at) (x .it) (x .a) (x .b) e in
     (c .quiet .ensures ∙ sym (d .0), sym (d .1))
 
-there : (c : tie.Else1) → let x = c .before .before .before .args in isThere (x .st) (x .headers) (x .bytes .now) (x .at) ≡ true
+there : (c : tie.Else1) → let x = c .before .before .before .args in
+    isThere (x .st) (x .headers) (x .bytes .now) (x .at) ≡ true
 there c =
     let told = c .before in
     let x = told .before .before .args in
@@ -50,7 +51,8 @@ returns-2 c =
     let e = r .before .before in
     let x = e .before .before .before .args in
     let d =
-    deliver-early (x .st) (x .headers) (x .bytes .now) (x .at) (x .it) (x .a) (x .b) (replied (r .item-call .result)) (there e) (sym (r .item-call .ensures)) (sym (n .number-of .ensures) ∙ c .before .if2 .taken) in
+    deliver-early (x .st) (x .headers) (x .bytes .now) (x .at) (x .it) (x .a) (x .b) (replied (r .item-call .result))
+    (there e) (sym (r .item-call .ensures)) (sym (n .number-of .ensures) ∙ c .before .if2 .taken) in
     (c .quiet2 .ensures ∙ sym (d .0), sym (d .1))
 
 close-gap-requires : tie.Need-close-gap-requires
@@ -69,8 +71,12 @@ returns-3 c =
     let e = r .before .before in
     let x = e .before .before .before .args in
     let d =
-    deliver-off (x .st) (x .headers) (x .bytes .now) (x .at) (x .it) (x .a) (x .b) (replied (r .item-call .result)) (there e) (sym (r .item-call .ensures)) (λ q. else .if2 .left (n .number-of .ensures ∙ q)) in
-    (put-same _ _ _ _ (c .with-node .ensures) (n .number-of .ensures) (c .before .no-item .ensures) (c .before .no-item .ensures) ∙ sym (d .0), gap .close-gap .ensures ∙ sym (d .1))
+    deliver-off (x .st) (x .headers) (x .bytes .now) (x .at) (x .it) (x .a) (x .b) (replied (r .item-call .result))
+    (there e) (sym (r .item-call .ensures)) (λ q. else .if2 .left (n .number-of .ensures ∙ q)) in (
+      put-same _ _ _ _ (c .with-node .ensures) (n .number-of .ensures) (c .before .no-item .ensures)
+          (c .before .no-item .ensures) ∙ sym (d .0),
+      gap .close-gap .ensures ∙ sym (d .1),
+    )
 
 pub deliver-act-spec : {M : Type 1} → statement M
 deliver-act-spec =

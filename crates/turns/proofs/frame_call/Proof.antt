@@ -1,7 +1,6 @@
 -- `frame_call` hands the frame at a place to frame in.
 use borrow.Author.Needs.{needs}
-use native.Mathlib.Omega.{arith}
-use mathlib.Core.Path.{_≡_, sym, ap, _∙_}
+use mathlib.Core.Path.{ap, _∙_}
 use Rattle.base.specs.Limits.{base}
 use Rattle.node.specs.Calls.{frameIn}
 use Rattle.turns.proofs.Parts.{held}

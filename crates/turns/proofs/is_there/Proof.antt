@@ -16,7 +16,8 @@ returns-2 c bytes e =
     let r = c .before .before in
     let x = r .before .before .before .args in
     sym
-    (there-unlent (x .st) (x .headers) bytes (x .at) _ _ e (r .room-for .ensures) (r .before .if1 .left) (c .if2 .taken))
+    (there-unlent (x .st) (x .headers) bytes (x .at) _ _ e (r .room-for .ensures) (r .before .if1 .left)
+    (c .if2 .taken))
 
 returns-3 : tie.Need-returns-3
 returns-3 c bytes e =

@@ -2,7 +2,6 @@
 use borrow.Author.Needs.{needs}
 use native.Mathlib.Omega.{arith}
 use mathlib.Core.Path.{_≡_, sym, ap, _∙_}
-use Prim.Native.Nat.{_<_}
 use lib.ListN.{length, length-map}
 use Rattle.node.specs.Change.{noNode}
 use Rattle.turns.proofs.Board.{any-default, past-all, in-array, none-given}

@@ -1,6 +1,5 @@
 -- `quiet` is `still`.
 use borrow.Author.Needs.{needs}
-use mathlib.Core.Path.{_≡_}
 use Rattle.turns.proofs.quiet.Statement.{statement}
 use Rattle.turns.proofs.quiet.Tie as tie
 

@@ -5,7 +5,7 @@ use mathlib.Core.Path.{_≡_, refl, sym, ap, _∙_}
 use Prim.Native.Nat.{_<_}
 use Rattle.base.specs.Limits.{base}
 use Rattle.base.proofs.Laws.{choose-yes, choose-no}
-use Rattle.node.specs.Answers.{Given, Outcome, outcomeOf, give, replied}
+use Rattle.node.specs.Answers.{outcomeOf, give}
 use Rattle.node.specs.Calls.{send}
 use Rattle.node.specs.declared.Answer.{Answer}
 use Rattle.turns.specs.Events.{nodeAt, workItem}
@@ -51,7 +51,8 @@ cast-t19 c = let k = known (c .before .before .before) in omega arith
 returns-2 : tie.Need-returns-2
 returns-2 c bytes e =
     let told = c .before .before .before .before in
-    put-same _ _ _ _ (c .before .with-node .ensures) refl (ap (workItem _ _) (told .before .before .before .node-at .ensures .0))
+    put-same _ _ _ _ (c .before .with-node .ensures) refl
+    (ap (workItem _ _) (told .before .before .before .node-at .ensures .0))
     (c .no-item .ensures)
     ∙ sym
     (send-by _ _ bytes _ _ _ _ _ (answered (told .before .before) _ (told .enum-told .given .1))

@@ -1,7 +1,7 @@
 -- `stated` is the length of a frame.
 use borrow.Author.Needs.{needs}
 use native.Mathlib.Omega.{arith}
-use mathlib.Core.Path.{_≡_, sym, _∙_}
+use mathlib.Core.Path.{sym}
 use Rattle.frame.proofs.Writing.{first-length, second-length}
 use Rattle.turns.proofs.stated.Statement.{statement}
 use Rattle.turns.proofs.stated.Tie as tie

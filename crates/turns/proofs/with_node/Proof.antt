@@ -1,10 +1,9 @@
 -- `with_node` sets a node of the array, or none.
 use borrow.Author.Needs.{needs}
 use native.Mathlib.Omega.{arith}
-use mathlib.Core.Path.{_≡_, sym, ap, _∙_}
+use mathlib.Core.Path.{_≡_, sym, _∙_}
 use lib.ListN.{length, length-map}
 use lib.Seq.{set-out}
-use Rattle.turns.specs.declared.Stage.{Stage}
 use Rattle.turns.proofs.with_node.Statement.{statement}
 use Rattle.turns.proofs.with_node.Tie as tie
 

@@ -1,11 +1,10 @@
 -- `write_at` writes the frame that is due at the start of the part that is lent on.
 use borrow.Author.Needs.{needs}
 use native.Mathlib.Omega.{arith}
-use mathlib.Core.Path.{_≡_, sym, ap, _∙_}
+use mathlib.Core.Path.{_≡_, _∙_}
 use Prim.Native.Nat.{_+_, _-_, _*_}
-use lib.ListN.{length, length-take}
 use Rattle.turns.specs.Frames.{placeSize}
-use borrow.Rule.Slice.PartMut.{mid-len, midOf}
+use borrow.Rule.Slice.PartMut.{mid-len}
 use Rattle.turns.proofs.Parts.{frame-part}
 use Rattle.turns.proofs.Known.{sending-known, sent-bytes}
 use Rattle.turns.proofs.write_at.Statement.{statement}
