@@ -1,4 +1,4 @@
-/* Plays document 01's worked script on two nodes through the C functions and holds each line to the document's output. */
+/* Plays document 01's worked script on two nodes through the C functions and compares with the document's output. */
 #include "ocb.h"
 
 #include <stdio.h>

@@ -1,4 +1,4 @@
--- Laws of the barrier call on words: all that it leaves in lent memory, where they hold a state and where they hold none.
+-- Laws of the barrier call on words: all that it leaves in lent memory, where they hold a state and where none.
 use mathlib.Core.Path.{_≡_, refl, sym, ap, _∙_}
 use mathlib.Core.Bool.{true, false}
 use mathlib.Core.List.{List, [], _∷_}
@@ -35,7 +35,8 @@ Crossed ws buf x state bytes details =
     ≡ true))))
 
 -- the clause that is named stands in the last word
-last-word : (a : BarrierAnswer) → let d = detailWords (clauseOf a) (barrierOf a) in d ≡ detailWords (getD d 4 0) (barrierOf a)
+last-word : (a : BarrierAnswer)
+    → let d = detailWords (clauseOf a) (barrierOf a) in d ≡ detailWords (getD d 4 0) (barrierOf a)
 last-word (Sends to length) = refl
 last-word (Waits clause) = refl
 last-word Moved = refl
@@ -54,7 +55,8 @@ module _ (ws buf : List ℕ) (h : Held) (e : h ≡ held ws) where
   pub not-crossed : h .ok ≡ false → Crossed ws buf 13 ws buf zeros
   not-crossed q =
       let n = no-state ws h e q in
-      (sym (choose-no _ _ n), (sym (choose-no _ _ n), (sym (choose-no _ _ n), (sym (choose-no _ _ n), choose-no _ _ n))))
+      let bytes : buf ≡ barrierBuffer base ws buf = sym (choose-no _ _ n) in
+      (sym (choose-no _ _ n), (sym (choose-no _ _ n), (bytes, (sym (choose-no _ _ n), choose-no _ _ n))))
 
   pub crossed : (reply : BarrierReply) (x : ℕ) (state bytes details : List ℕ) → h .ok ≡ true
       → (barrierReplied reply ≡ barrier base (h .node) (length buf))
@@ -70,18 +72,15 @@ module _ (ws buf : List ℕ) (h : Held) (e : h ≡ held ws) where
       r .0 ∙ ap (λ (m : Node). barrier base m (length buf)) n in
       let o : barrierOf (reply .answer) ≡ barrier base (unpacked ws) (length buf) .answer =
       ap (λ (z : Given Barrier). z .answer) s in
-      let w : details ≡ detailWords (getD details 4 0) (barrierOf (reply .answer)) = rw (g .1) (last-word (reply .answer)) in
-      let f : isClause base ws (getD details 4 0) (barrierOf (reply .answer)) ≡ true =
-      rw (g .1) (last-fails ws (reply .answer) (rw n at (r .1 .0))) in (
-        g .0 ∙ ap barrierNumber o ∙ sym (choose-yes _ _ y),
-        (
-          p ∙ ap (λ (z : Given Barrier). packed (z .node)) s ∙ sym (choose-yes _ _ y),
-          (
-            r .1 .1 ∙ ap (λ (m : Node). barrierBytes base m buf) n ∙ sym (choose-yes _ _ y),
-            (
-              w ∙ ap (detailWords (getD details 4 0)) o ∙ sym (choose-yes _ _ y),
-              choose-yes _ _ y ∙ ap (isClause base ws (getD details 4 0)) (sym o) ∙ f,
-            ),
-          ),
-        ),
-      )
+      let number : x ≡ barrierAnswer base ws (length buf) = g .0 ∙ ap barrierNumber o ∙ sym (choose-yes _ _ y) in
+      let after : state ≡ barrierState base ws (length buf) =
+      p ∙ ap (λ (z : Given Barrier). packed (z .node)) s ∙ sym (choose-yes _ _ y) in
+      let lent : bytes ≡ barrierBuffer base ws buf =
+      r .1 .1 ∙ ap (λ (m : Node). barrierBytes base m buf) n ∙ sym (choose-yes _ _ y) in
+      let told : details ≡ detailWords (getD details 4 0) (barrierOf (reply .answer)) =
+      rw (g .1) (last-word (reply .answer)) in
+      let fails : isClause base ws (getD details 4 0) (barrierOf (reply .answer)) ≡ true =
+      rw (g .1) (last-fails ws (reply .answer) (rw n at (r .1 .0))) in
+      let named = ap (detailWords (getD details 4 0)) o ∙ sym (choose-yes _ _ y) in
+      let clause = choose-yes _ _ y ∙ ap (isClause base ws (getD details 4 0)) (sym o) in
+      (number, (after, (lent, (told ∙ named, clause ∙ fails))))

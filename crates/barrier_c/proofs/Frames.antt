@@ -22,7 +22,8 @@ use Rattle.barrier_c.specs.Exports.{lookupNumber, numberWords, writeOn, 
 
 -- ---- The refusal where words hold no frame
 
-pub fields-refused : (L : Limits) (P p : ℕ) → dimensionLookup L P ≡ found p → _≡_ {A = ℕ} 10 (choose (badBoard L P) 1 10)
+pub fields-refused : (L : Limits) (P p : ℕ) → dimensionLookup L P ≡ found p
+    → _≡_ {A = ℕ} 10 (choose (badBoard L P) 1 10)
 fields-refused L P p e = sym (choose-no _ _ (dimension-found L P p e .0))
 
 pub board-refused : (L : Limits) (P x : ℕ) → dimensionLookup L P ≡ refused x → x ≡ choose (badBoard L P) 1 10
