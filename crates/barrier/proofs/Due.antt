@@ -9,18 +9,18 @@ use Rattle.base.specs.Choice.{choose}
 use Rattle.base.specs.Limits.{Limits, base}
 use Rattle.base.proofs.Laws.{choose-yes, cases}
 use Rattle.frame.specs.Frame.{sentNumber}
-use Rattle.node.specs.Sums.{dims, firstAt, secondAt, Field, sentIn, takenIn, allSent, allTaken, number, own, ownIssued}
+use Rattle.node.specs.Sums.{dims, firstAt, secondAt, Field, sentIn, takenIn, allSent, allTaken, own, ownIssued}
 use Rattle.node.specs.Agree.{firstClauses, secondClauses, clauses}
 use Rattle.node.specs.State.{valid}
 use Rattle.node.specs.Barrier.{frameDue}
 use Rattle.node.specs.declared.Node.{Node}
 use Rattle.node.specs.declared.Stored.{Stored}
-use Rattle.survey.specs.Survey.{sumsOf, noSurvey, surveyed}
 use Rattle.agree.specs.Verdict.{sumAt}
+use Rattle.survey.specs.Survey.{sumsOf, noSurvey, surveyed}
 use Rattle.survey.proofs.Walks.{sum-at}
 use Rattle.survey.proofs.Steps.{Below, clauses-same}
-use Rattle.barrier.specs.Pieces.{within, frameOf, clausesOf}
 use Rattle.survey.specs.declared.Survey.{Survey}
+use Rattle.barrier.specs.Pieces.{within, frameOf, clausesOf}
 
 -- ---- what the survey of a state that passes the test says
 

@@ -21,9 +21,9 @@ use Rattle.node.specs.declared.BarrierReply.{BarrierReply}
 use Rattle.node.proofs.Ways.{callChecks, NoneDue, call-refuses, call-looks}
 use Rattle.agree.specs.Verdict.{isVerdict}
 use Rattle.agree.proofs.Clauses.{named-fails}
-use Rattle.barrier.specs.Pieces.{byVerdict, onwardTurn, lookTurn, turnedBy}
 use Rattle.agree.specs.declared.Verdict.{Verdict}
 use Rattle.agree.specs.declared.Verdict.the-variants.{Agrees, Fails}
+use Rattle.barrier.specs.Pieces.{byVerdict, onwardTurn, lookTurn, turnedBy}
 use Rattle.barrier.specs.declared.Turn.{Turn}
 use Rattle.barrier.specs.declared.Turn.the-variants.{Refuses, Leaves}
 

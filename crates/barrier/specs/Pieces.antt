@@ -22,9 +22,9 @@ use Rattle.node.specs.declared.BarrierAnswer.the-variants.{Sends, Waits, Moved,
 use Rattle.node.specs.declared.BarrierReply.{BarrierReply}
 use Rattle.agree.specs.Verdict.{sumAt}
 use Rattle.agree.specs.declared.Sums.{Sums}
-use Rattle.survey.specs.declared.Survey.{Survey}
 use Rattle.agree.specs.declared.Verdict.{Verdict}
 use Rattle.agree.specs.declared.Verdict.the-variants.{Agrees, Fails}
+use Rattle.survey.specs.declared.Survey.{Survey}
 use Rattle.barrier.specs.declared.Whom.{Whom}
 use Rattle.barrier.specs.declared.Whom.the-variants.{Nobody, To}
 use Rattle.barrier.specs.declared.Turn.{Turn}

@@ -22,9 +22,9 @@ use Rattle.node.proofs.Ways.{NoneDue}
 use Rattle.node.proofs.Bound.{due-dim}
 use Rattle.node.proofs.Valid.{Valid, valid-known, valid-width}
 use Rattle.agree.specs.Verdict.{isVerdict}
-use Rattle.barrier.specs.Pieces.{toWhom, isLone, whomList, clausesOf, sendTurn, lookTurn, turnedBy}
-use Rattle.survey.specs.declared.Survey.{Survey}
 use Rattle.agree.specs.declared.Verdict.{Verdict}
+use Rattle.survey.specs.declared.Survey.{Survey}
+use Rattle.barrier.specs.Pieces.{toWhom, isLone, whomList, clausesOf, sendTurn, lookTurn, turnedBy}
 use Rattle.barrier.proofs.Turns.{answers-same, refuses-state, refuses-busy, tried, looks}
 use Rattle.barrier.proofs.Placing.{looked-whom, looked-alone, not-alone-low, dim-room}
 use Rattle.barrier.proofs.Placing.{receivers-low, some-due, none-due}
