@@ -1,13 +1,14 @@
--- A local array that is lent as a `&mut [T]` for one call, beside whatever else the callee takes. It says nothing of
--- the crate.
+-- A local array that is lent as a `&mut [T]` for one call, beside whatever else the callee takes. The laws say nothing
+-- of a
+-- crate, and assume `Given`, and that the table of calls is monotone under a frame.
 --     array-fits       the machine value of [x; n] is of the array's type
--- array-in         [x; n] in its cell, as it was written, is n elements side by side.        array-room       elements
--- side by side are room for an array
+--     array-in         [x; n] in its cell, as it was written, is n elements side by side
+--     array-room       elements side by side are room for an array
 -- ChangesWith      what a callee does with a `&mut [T]` at ys and with i: it leaves some list zs as long as ys, j, and
--- a result x with φ x zs
+-- a
+--                      result x with φ x zs
 -- calls-array      the call rule for it, of a caller that has the elements themselves: they are lent for a lifetime of
--- the call, and come back at zs
--- Assumes `Given`, and that the table of calls is monotone under a frame.
+--                      the call, and come back at zs
 use mathlib.Core.Path.{_≡_, refl, sym, ap, subst}
 use Prim.Native.Nat.{ℕ, zero, suc}
 use mathlib.Core.List.{List, [], _∷_}

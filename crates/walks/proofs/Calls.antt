@@ -1,23 +1,28 @@
--- A call that is handed a slice which the caller keeps: the laws that a walk over a `&mut [T]` cites at each call. They
--- say nothing of the crate.
+-- A call that is handed a slice which the caller keeps: the laws that a walk over a lent slice cites at each call. They
+-- say
+-- nothing of a crate, and assume `Given`, and that the table of calls is monotone under a frame, as every `Tables` is.
 --     opened, closed   a `&mut [T]` is opened, and closed at another list of the same length
--- Changes          what a callee does with a `&mut [T]` at ys, at any lifetime: it returns some x, owned as `res x w`
--- at the machine value w, and leaves some list zs as long as ys, with φ x zs
--- calls-lent       the call rule for it, of a caller that holds `&κ mut [T]` at ys beside [κ]_q: once the call has
--- returned the caller holds `&κ mut [T]` at zs, [κ]_q and `res x w`, and knows φ x zs.
--- A lifetime is made, the slice is lent again for it, the callee runs, the lifetime is ended and the slice comes back
--- Reads, calls-read     the same of a callee that takes a `&[T]`: the caller's `&mut [T]` is shared out for the call,
--- and comes back as it was
---     calls-shared     the same of a caller that has a `&[T]` itself, and passes a copy
---     Answers, calls-plain  the same of a callee that takes plain values
+--     looked, shut     a `&[T]` is looked into, and shut
+-- Changes          what a callee does with a `&mut [T]` at ys, at any lifetime: it returns some x, and leaves some list
+--                      zs as long as ys, with φ x zs
+-- calls-lent       the call rule for it, of a caller that holds the slice at ys beside its lifetime's token, and holds
+-- it
+--                      at zs after the call: a lifetime is made, the slice is lent again for it, the callee runs, the
+--                      lifetime is ended and the slice comes back
+--     Reads            what a callee does that takes a `&[T]`
+--     calls-read       of a caller that has a `&mut [T]`, which is shared out for the call and comes back as it was
+--     calls-shared     of a caller that has a `&[T]` itself, and passes a copy
+--     Answers          what a callee does that takes plain values, and calls-plain, its call rule
+--     calls-lent₂      of a callee that takes two `&mut [T]` at once (Changes₂)
+--     changes, looks-at, answers     Changes, Reads and Answers from a contract that the callee meets
 --     takes            what a function has at entry whose first parameter is its one reference
--- loc, fieldv, ptrv, lets, lands-in      a walk's commonest lines: a local's value, a field's, a slice's pointer; a
--- local that is set, or takes a result
+-- loc, fieldv, ptrv, lets, lands-in     a walk's commonest lines: a local's value, a field's, a slice's pointer; a
+-- local
+--                      that is set, or takes a result
 --     ends-local       the local whose cell is entry n is freed, whatever it holds
---     changes, looks-at, answers     the three from a contract that the callee meets
--- Operands are read with two entries in front of the rest of the context (with one, at `calls-plain`), so they stand at
--- the places where they stood before the rule.
--- Assumes `Given`, and that the table of calls is monotone under a frame, as every `Tables` is.
+-- Operands are read with two entries in front of the rest of the context (with one at calls-plain, four at
+-- calls-lent₂), so
+-- they stand at the places where they stood before the rule.
 use mathlib.Core.Path.{_≡_, refl, sym, ap, subst, _∙_}
 use Prim.Native.Nat.{ℕ, zero, _+_}
 use mathlib.Core.List.{List, [], _∷_}
