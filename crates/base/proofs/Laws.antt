@@ -1,13 +1,15 @@
--- Laws of choice, of joined tests and of values listed by a rule.
+-- Laws of choice, of joined tests, of refusals in order and of values listed by a rule.
 use mathlib.Core.Path.{_≡_, refl, sym, ap, _∙_}
 use mathlib.Core.Bool.{Bool, true, false}
-use mathlib.Core.List.{[], _∷_, _++_}
+use mathlib.Core.List.{List, [], _∷_, _++_}
 use Prim.Native.Nat.{ℕ, zero, suc, _+_, _-_, _≤_, _<_}
 use native.Mathlib.Decide.{ℕ-discrete}
+use native.Mathlib.Nat.{zero-add}
 use native.Mathlib.Numerals.{add-one}
 use native.Mathlib.Omega.{arith}
-use lib.ListN.{length, set}
+use lib.ListN.{length, getD, set}
 use Rattle.base.specs.Choice.{choose, both, every, list}
+use Rattle.base.specs.Refusal.{Check, inOrder, number}
 
 -- true is not false
 pub clash : {A : Type 0} → _≡_ {A = Bool} true false → A
@@ -31,7 +33,8 @@ both-true false t e = clash (sym e)
 pub both-make : {s t : Bool} → s ≡ true → t ≡ true → both s t ≡ true
 both-make a b = rw (a, b)
 
-pub every-at : (start count : ℕ) (f : ℕ → Bool) → every start count f ≡ true → (i : ℕ) → start ≤ i → i < start + count → f i ≡ true
+pub every-at : (start count : ℕ) (f : ℕ → Bool) → every start count f ≡ true → (i : ℕ) → start ≤ i → i < start + count
+    → f i ≡ true
 every-at start zero f e i a b = absurd (omega arith)
 every-at start (suc count) f e i a b =
     let q = both-true (f start) (every (suc start) count f) e in
@@ -41,10 +44,12 @@ every-at start (suc count) f e i a b =
     go h r (yes z) = ap f z ∙ h
     go h r (no z) = r (omega arith)
 
-pub every-make : (start count : ℕ) (f : ℕ → Bool) → ((i : ℕ) → start ≤ i → i < start + count → f i ≡ true) → every start count f ≡ true
+pub every-make : (start count : ℕ) (f : ℕ → Bool) → ((i : ℕ) → start ≤ i → i < start + count → f i ≡ true)
+    → every start count f ≡ true
 every-make start zero f h = refl
 every-make start (suc count) f h =
-    both-make (h start (omega arith) (omega arith)) (every-make (suc start) count f (λ i a b. h i (omega arith) (omega arith)))
+    both-make (h start (omega arith) (omega arith))
+    (every-make (suc start) count f (λ i a b. h i (omega arith) (omega arith)))
 
 -- the first of the tests that are left, and the rest
 pub every-here : (i n : ℕ) (f : ℕ → Bool) → i < n → every i (n - i) f ≡ both (f i) (every (i + 1) (n - (i + 1)) f)
@@ -53,9 +58,57 @@ every-here i n f h = let e : n - i ≡ suc (n - (i + 1)) = omega arith in rw (e,
 pub every-end : (i n : ℕ) (f : ℕ → Bool) → n ≤ i → every i (n - i) f ≡ true
 every-end i n f h = let e : n - i ≡ 0 = omega arith in rw e
 
+-- ---- refusals in order
+
+-- no check is met
+abbrev pub Passes : List Check → Type 0
+Passes [] = Unit {0}
+Passes (c ∷ cs) = (c .met ≡ false) × Passes cs
+
+-- a check is met and none before it, and this is the number of its word
+pub data Stops : List Check → ℕ → Type 0 where
+  here : {c : Check} {cs : List Check} → c .met ≡ true → Stops (c ∷ cs) (number (c .word))
+  later : {c : Check} {cs : List Check} {x : ℕ} → c .met ≡ false → Stops cs x → Stops (c ∷ cs) x
+
+module _ {A : Type 0} (refuse : ℕ → A) where
+  pub order-passes : (cs : List Check) (a : A) → Passes cs → inOrder refuse cs a ≡ a
+  order-passes [] a h = refl
+  order-passes (c ∷ cs) a h = choose-no (refuse (number (c .word))) _ (h .0) ∙ order-passes cs a (h .1)
+
+  pub order-stops : {cs : List Check} {x : ℕ} (a : A) → Stops cs x → inOrder refuse cs a ≡ refuse x
+  order-stops a (here e) = choose-yes _ _ e
+  order-stops a (later {c = c} e s) = choose-no (refuse (number (c .word))) _ e ∙ order-stops a s
+
+  -- a fact by the check that is met, or by none being met
+  pub order-cases : (F : A → Type 0) (cs : List Check) (a : A) → ((x : ℕ) → Stops cs x → F (refuse x))
+      → (Passes cs → F a)
+      → F (inOrder refuse cs a)
+  order-cases F [] a f g = g tt
+  order-cases F (c ∷ cs) a f g =
+      cases F (c .met) _ _ (λ e. f (number (c .word)) (here e))
+      (λ e. order-cases F cs a (λ x s. f x (later e s)) (λ h. g (e, h)))
+
+-- ---- values listed by a rule
+
 pub length-list : {A : Type 0} (start count : ℕ) (f : ℕ → A) → length (list start count f) ≡ count
 length-list start zero f = refl
 length-list start (suc count) f = ap suc (length-list (suc start) count f)
+
+pub getD-list : {A : Type 0} (start count : ℕ) (f : ℕ → A) (i : ℕ) (d : A) → i < count
+    → getD (list start count f) i d ≡ f (start + i)
+getD-list start zero f i d h = absurd (omega arith)
+getD-list start (suc count) f zero d h = let e : start ≡ start + 0 = omega arith in ap f e
+getD-list start (suc count) f (suc i) d h =
+    let e : suc start + i ≡ start + suc i = omega arith in getD-list (suc start) count f i d (omega arith) ∙ ap f e
+
+pub list-at : {A : Type 0} (count : ℕ) (f : ℕ → A) (i : ℕ) (d : A) → i < count → getD (list 0 count f) i d ≡ f i
+list-at count f i d h = getD-list 0 count f i d h ∙ ap f (zero-add i)
+
+-- a list of one value has it everywhere
+pub list-one : {A : Type 0} (start count : ℕ) (x : A) (i : ℕ) → getD (list start count (λ m. x)) i x ≡ x
+list-one start zero x i = refl
+list-one start (suc count) x zero = refl
+list-one start (suc count) x (suc i) = list-one (suc start) count x i
 
 -- one value more at the end
 pub list-more : {A : Type 0} (start count : ℕ) (f : ℕ → A)

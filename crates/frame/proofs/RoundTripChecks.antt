@@ -1,5 +1,5 @@
 -- Refusals in a stated order, and what the tests of a step and of the numbers say.
-use mathlib.Core.Path.{_≡_, refl, _∙_}
+use mathlib.Core.Path.{_≡_, refl}
 use mathlib.Core.Logic.{_⊎_, inl, inr}
 use mathlib.Core.Bool.{Bool, true, false, not}
 use mathlib.Core.List.{List, [], _∷_}
@@ -10,17 +10,13 @@ use borrow.Author.Tests.{leb-true, leb-false, ltb-true, eqb-true, le-leb, lt-leb
 use Rattle.base.specs.Choice.{choose, either, every}
 use Rattle.base.specs.Limits.{Limits, fieldLimit, width}
 use Rattle.base.specs.Refusal.{refused, found, Check, inOrder, number}
-use Rattle.base.proofs.Laws.{clash, choose-no, both-true, both-make, every-at, every-make}
+pub use Rattle.base.proofs.Laws.{Passes}
+use Rattle.base.proofs.Laws.{clash, both-true, both-make, every-at, every-make, order-passes}
 use Rattle.frame.specs.Frame.{sentAt, takenAt, hasShell, badStep, numberOk, numbersOk}
 use Rattle.frame.specs.Parts.{hasTallies, shellOk}
 use Rattle.frame.specs.declared.Frame.{Frame}
 
 -- ---- refusals in order
-
--- no check is met
-abbrev pub Passes : List Check → Type 0
-Passes [] = Unit {0}
-Passes (c ∷ cs) = (c .met ≡ false) × Passes cs
 
 -- what is found, is found because no check is met
 pub checks-known : {A : Type 0} (cs : List Check) (a b : A) → inOrder refused cs (found a) ≡ found b
@@ -35,8 +31,7 @@ checks-known (c ∷ cs) a b e = go (c .met) refl (checks-known cs a b) e
     go false m rest q = let r = rest q in ((m, r .0), r .1)
 
 pub checks-good : {A : Type 0} (cs : List Check) (a : A) → Passes cs → inOrder refused cs (found a) ≡ found a
-checks-good [] a h = refl
-checks-good (c ∷ cs) a h = choose-no (refused (number (c .word))) _ (h .0) ∙ checks-good cs a (h .1)
+checks-good cs a h = order-passes refused cs (found a) h
 
 -- ---- a step: its pass and its dimension
 

@@ -8,13 +8,13 @@ use lib.Seq.{ext-getD}
 use borrow.Author.Tests.{eq-eqb, ne-eqb}
 use Rattle.base.specs.Choice.{list}
 use Rattle.base.specs.Limits.{width}
-use Rattle.base.proofs.Laws.{choose-yes, choose-no, length-list}
+use Rattle.base.proofs.Laws.{choose-yes, choose-no, length-list, list-at}
 use Rattle.frame.specs.Frame.{sentNumber, takenNumber, sentAt, takenAt, numbersOf, numberAt, shellAt}
 use Rattle.frame.specs.declared.Sent.{Sent}
 use Rattle.frame.specs.declared.Taken.{Taken}
 use Rattle.frame.specs.declared.Frame.{Frame}
 use Rattle.frame.proofs.Shells.{shell-there}
-use Rattle.frame.proofs.RoundTripRows.{Gives, getD-list, gives-join, gives-list, gives-rest}
+use Rattle.frame.proofs.RoundTripRows.{Gives, gives-join, gives-list, gives-rest}
 
 -- ---- arrays of tallies
 
@@ -43,9 +43,7 @@ module _ {A : Type 0} (kind : Kind A) where
   array g = list 0 width (λ m. kind .tally (g m))
 
   array-at : (g : ℕ → ℕ) (m : ℕ) (d : A) → m < width → getD (array g) m d ≡ kind .tally (g m)
-  array-at g m d h =
-      let z : 0 + m ≡ m = omega arith in
-      getD-list 0 width (λ m. kind .tally (g m)) m d h ∙ ap (λ i. kind .tally (g i)) z
+  array-at g m d h = list-at width (λ m. kind .tally (g m)) m d h
 
   -- an array is the one that lists its numbers
   pub array-back : (l : List A) → length l ≡ width → (g : ℕ → ℕ) → ((m : ℕ) → m < width → g m ≡ tallyAt l m)

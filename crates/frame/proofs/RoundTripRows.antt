@@ -1,24 +1,15 @@
 -- Rows of numbers: parts of a row are read at their places, and bytes are those of the row of numbers that they give.
 use mathlib.Core.Path.{_≡_, refl, sym, ap, _∙_}
 use mathlib.Core.List.{List, [], _∷_, _++_}
-use Prim.Native.Nat.{ℕ, zero, suc, _+_, _-_, _*_, _≤_, _<_}
+use Prim.Native.Nat.{ℕ, suc, _+_, _-_, _*_, _≤_, _<_}
 use native.Mathlib.Decide.{decLt}
 use native.Mathlib.Omega.{arith}
 use lib.ListN.{length, getD, length-append, List·getD-append}
 use lib.Seq.{getD-append-add}
 use Rattle.base.specs.Choice.{list}
-use Rattle.base.proofs.Laws.{length-list}
+use Rattle.base.proofs.Laws.{length-list, getD-list}
 use Rattle.frame.specs.Numbers.{fourBytes, bytesOf, wordAt}
 use Rattle.frame.proofs.Words.{four-of-digits}
-
--- ---- listed values
-
-pub getD-list : {A : Type 0} (start count : ℕ) (f : ℕ → A) (i : ℕ) (d : A) → i < count
-    → getD (list start count f) i d ≡ f (start + i)
-getD-list start zero f i d h = absurd (omega arith)
-getD-list start (suc count) f zero d h = let e : start ≡ start + 0 = omega arith in ap f e
-getD-list start (suc count) f (suc i) d h =
-    let e : suc start + i ≡ start + suc i = omega arith in getD-list (suc start) count f i d (omega arith) ∙ ap f e
 
 -- ---- the numbers are g 0, g 1, ..
 

@@ -1,0 +1,11 @@
+pub mod Clauses
+pub mod Valid
+pub mod Ways
+pub mod Totals
+pub mod Bound
+pub mod Depends
+pub mod Moving
+pub mod Storing
+pub mod ValidOut
+pub mod Passes
+pub mod Sizes

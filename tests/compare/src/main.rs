@@ -1,0 +1,52 @@
+//! Holds the library to the plain model, through the C functions: `compare [SEED [SCALE]]`.
+//!
+//! It prints how many cases of each kind it compared and how often each answer came, and ends with a failure at the first
+//! difference, with what was done.
+
+mod calls;
+mod frames;
+mod library;
+mod report;
+mod runs;
+mod trees;
+
+use model::random::Random;
+use report::Report;
+
+/// Answers that each call must have given at least once.
+const WANTED: [(&str, &[u32]); 11] = [
+    ("dimension", &[0, 1]),
+    ("place", &[0, 1, 2, 10]),
+    ("distance", &[0, 1, 2, 3]),
+    ("frame writer", &[0, 1, 2, 10, 14]),
+    ("frame reader", &[0, 1, 2, 9, 10]),
+    ("fresh", &[0, 1, 2]),
+    ("send", &[0, 2, 3, 4, 5, 13]),
+    ("take", &[0, 2, 3, 6, 7, 8, 13]),
+    ("idle", &[0, 13]),
+    ("frame in", &[0, 2, 3, 7, 8, 9, 10, 11, 13, 24]),
+    ("barrier", &[12, 13, 14, 20, 21, 22, 23]),
+];
+
+fn main() {
+    let mut arguments = std::env::args().skip(1).map(|word| word.parse::<u64>().expect("a number"));
+    let seed = arguments.next().unwrap_or(1);
+    let scale = arguments.next().unwrap_or(1);
+    let mut random = Random::new(seed);
+    let mut report = Report::default();
+    trees::compare(&mut report);
+    frames::compare(&mut report, &mut random, 20_000 * scale);
+    calls::fresh(&mut report);
+    calls::limits(&mut report);
+    runs::compare(&mut report, &mut random, scale);
+    report.print();
+    for (call, answers) in WANTED {
+        for &answer in answers {
+            if !report.seen(call, answer) {
+                eprintln!("{call} never answered {answer}");
+                std::process::exit(1);
+            }
+        }
+    }
+    println!("seed {seed}, scale {scale}: library and model agree");
+}

@@ -1,0 +1,74 @@
+//! Every tree of 1 to 256 nodes, and lookups that are refused.
+
+use crate::library;
+use crate::report::{same, Report};
+use model::tree::{self, Place};
+
+/// The number of a lookup and what it leaves in lent words that held a pattern.
+fn expected<const N: usize>(answer: Result<[u32; N], u8>) -> (u32, [u32; N]) {
+    match answer {
+        Ok(words) => (0, words),
+        Err(number) => (u32::from(number), [0xa5a5_a5a5; N]),
+    }
+}
+
+fn place_words(place: Place) -> [u32; 3] {
+    match place {
+        Place::Alone => [0, 0, 0],
+        Place::Hermit { awaits } => [1, awaits, 0],
+        Place::Neighbour { neighbour } => [2, neighbour, 0],
+        Place::Messenger { neighbour, hermit } => [3, neighbour, hermit],
+    }
+}
+
+fn dimension(report: &mut Report, nodes: u32) {
+    let mut found = [0xa5a5_a5a5; 1];
+    let answer = library::dimension(nodes, &mut found);
+    let model = expected(tree::dimension(nodes).map(|p| [p]));
+    same("dimension", &(answer, found), &model, &nodes);
+    report.count("dimensions");
+    report.answer("dimension", answer);
+}
+
+fn place(report: &mut Report, nodes: u32, node: u32, k: u32) {
+    let mut found = [0xa5a5_a5a5; 3];
+    let answer = library::place(nodes, k, node, &mut found);
+    let model = expected(tree::place(nodes, node, k).map(place_words));
+    same("place", &(answer, found), &model, &(nodes, node, k));
+    report.count("places");
+    report.answer("place", answer);
+}
+
+fn distance(report: &mut Report, nodes: u32, a: u32, b: u32) {
+    let mut found = [0xa5a5_a5a5; 1];
+    let answer = library::distance(nodes, a, b, &mut found);
+    let model = expected(tree::distance(nodes, a, b).map(|d| [d]));
+    same("distance", &(answer, found), &model, &(nodes, a, b));
+    report.count("distances");
+    report.answer("distance", answer);
+}
+
+pub fn compare(report: &mut Report) {
+    let odd = [0, 1, 2, 7, 8, 9, 255, 256, 257, 65_535, 65_536, u32::MAX - 1, u32::MAX];
+    for nodes in (0..=300).chain(odd) {
+        dimension(report, nodes);
+        for a in odd {
+            for b in odd {
+                place(report, nodes, a, b);
+                distance(report, nodes, a, b);
+            }
+        }
+    }
+    for nodes in 1..=256 {
+        for a in 0..nodes {
+            for k in 0..9 {
+                place(report, nodes, a, k);
+            }
+            // every distance of small boards, and of large ones each node with some sixteenth of the others
+            let stride = if nodes <= 64 { 1 } else { 13 };
+            for b in (a % stride..nodes).step_by(stride as usize) {
+                distance(report, nodes, a, b);
+            }
+        }
+    }
+}
