@@ -1,13 +1,14 @@
 -- Laws of the clauses: a test that fails is a clause that may be named, and where none fails the step agrees.
-use mathlib.Core.Path.{_≡_, sym}
-use mathlib.Core.Bool.{Bool, true, false}
-use mathlib.Core.List.{List}
-use Prim.Native.Nat.{ℕ, suc, _+_, _≤_, _<_}
+use mathlib.Core.Path.{_≡_, refl, sym}
+use mathlib.Core.Bool.{Bool, true, false, not}
+use mathlib.Core.List.{List, [], _∷_}
+use Prim.Native.Nat.{ℕ, zero, suc, _+_, _≤_, _<_}
 use lib.Dec.{eqb}
 use lib.ListN.{getD}
-use borrow.Author.Tests.{le-leb, lt-leb, eq-eqb, ne-eqb}
+use borrow.Author.Tests.{le-leb, lt-leb, eq-eqb, ne-eqb, not-true}
 use Rattle.base.specs.Choice.{choose, both}
 use Rattle.base.specs.Limits.{base}
+use Rattle.base.proofs.Laws.{clash}
 use Rattle.node.specs.Sums.{Field, sentIn, takenIn, allSent, allTaken, number}
 use Rattle.node.specs.Agree.{isWithin, firstClauses, secondClauses, allHold, mayName}
 use Rattle.node.specs.declared.Confirm.{Confirm}
@@ -21,6 +22,24 @@ none-stored cs e = rw e
 failing : (cs : List Bool) (c : ℕ) → getD cs 0 true ≡ true → getD cs c true ≡ false → mayName cs c ≡ true
 unfolding mayName
 failing cs c e f = rw (e, f)
+
+-- a clause that may be named fails
+pub named-fails : (cs : List Bool) (c : ℕ) → mayName cs c ≡ true → allHold cs ≡ false
+unfolding mayName
+named-fails cs c e = go (getD cs 0 true) refl e
+  where
+    one : (cs : List Bool) (c : ℕ) → getD cs c true ≡ false → allHold cs ≡ false
+    one [] c f = clash f
+    one (t ∷ cs) zero f = rw f
+    one (t ∷ cs) (suc c) f = go t (one cs c f)
+      where
+        go : (t : Bool) → allHold cs ≡ false → both t (allHold cs) ≡ false
+        go true g = g
+        go false g = refl
+
+    go : (t : Bool) → getD cs 0 true ≡ t → choose t (not (getD cs c true)) (eqb c 0) ≡ true → allHold cs ≡ false
+    go true f g = one cs c (not-true (getD cs c true) g)
+    go false f g = one cs 0 f
 
 module _ (p k : ℕ) (own : Field → ℕ) (x : Stored) where
   abbrev first : List Bool

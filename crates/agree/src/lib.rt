@@ -113,14 +113,18 @@ pub fn first_verdict(dims: u32, k: u32, own: Sums, stored: Stored) -> Verdict
     if !present {
         return Verdict::Fails(0);
     }
-    let own_sent = own.sent;
-    let own_taken = own.taken;
-    let sent = stored.sent;
-    let taken = stored.taken;
-    if sent_at(own_sent, k).0 != taken_at(taken, k).0 {
+    let sums = own.sent;
+    let own_sent = sent_at(sums, k);
+    let sums = own.taken;
+    let own_taken = taken_at(sums, k);
+    let tallies = stored.sent;
+    let sent = sent_at(tallies, k);
+    let tallies = stored.taken;
+    let taken = taken_at(tallies, k);
+    if own_sent.0 != taken.0 {
         return Verdict::Fails(1);
     }
-    if taken_at(own_taken, k).0 != sent_at(sent, k).0 {
+    if own_taken.0 != sent.0 {
         return Verdict::Fails(2);
     }
     if !shells_within(dims, k, own, stored) {

@@ -1,1 +1,311 @@
 // What a maker links: the calls over a state that the caller lends as 200 words, answers as document 01's numbers.
+ghost use mathlib.Core.Path.{_≡_};
+ghost use mathlib.Core.Bool.{true};
+ghost use lib.ListN.{length, getD};
+ghost use Rattle.base.specs.Choice.{choose};
+ghost use Rattle.base.specs.Limits.{base};
+ghost use Rattle.tree.specs.Lookups.{dimensionLookup, placeLookup, distanceLookup, foundAnswer, placedAnswer};
+ghost use Rattle.tree.specs.Lookups.{badBoard};
+ghost use Rattle.frame.specs.Frame.{readFrame};
+ghost use Rattle.node.specs.Answers.{outcomeNumber, outcomeOf, barrierNumber, barrierOf};
+ghost use Rattle.node.specs.Barrier.{barrier};
+ghost use Rattle.node.specs.Calls.{fresh, send, take, idle, frameIn};
+ghost use Rattle.words.specs.Words.{packed, unpacked, isPacked};
+ghost use Rattle.barrier_c.specs.Exports.{answerOn, wordsOn, freshWords, lookupNumber, numberWords, placeWords};
+ghost use Rattle.barrier_c.specs.Exports.{barrierAnswer, barrierState, barrierBuffer, barrierDetails, isClause};
+ghost use Rattle.barrier_c.specs.Exports.{detailWords, writeOn, writtenOn, frameWords};
+ghost use Rattle.barrier_c.specs.Parts.{clauseOf};
+use frame::Outcome;
+use node::Answer;
+use node::BarrierAnswer;
+use node::Extra;
+use node::Reply;
+use tree::Found;
+use tree::Placed;
+
+// ---- Exported: the calls on a state
+
+// The number of an answer.
+fn number_of(answer: Answer) -> u32
+    ensures { λ r. ⌜ r ≡ outcomeNumber (outcomeOf answer) ⌝ }
+{
+    match answer {
+        Answer::Done => 0,
+        Answer::Dropped => 24,
+        Answer::Refused(no) => no as u32,
+    }
+}
+
+// Puts the state of a reply and answers its number.
+fn answer_reply(reply: Reply, state: &mut [u32; 200]) -> u32
+    ensures answer { λ r. ⌜ r ≡ outcomeNumber (outcomeOf (reply .answer)) ⌝ }
+    ensures memory { λ r. ⌜ now (state .exit) ≡ packed (reply .node) ⌝ }
+{
+    let node = reply.node;
+    let answer = reply.answer;
+    words::pack(state, node);
+    number_of(answer)
+}
+
+// A node that has just started. Refuses 1, 2.
+#[no_mangle]
+pub extern "C" fn ocb_fresh(state: &mut [u32; 200], nodes: u32, number: u32) -> u32
+    ensures answer { λ r. ⌜ r ≡ outcomeNumber (fresh base nodes number .answer) ⌝ }
+    ensures memory { λ r.
+        ⌜ now (state .exit) ≡ freshWords (fresh base nodes number) (now (state .entry)) (fresh base nodes number .answer) ⌝ }
+{
+    let reply = calls::fresh_node(nodes, number);
+    let answer = reply.answer;
+    match answer {
+        Answer::Done => answer_reply(reply, state),
+        Answer::Dropped => 24,
+        Answer::Refused(no) => no as u32,
+    }
+}
+
+// One message more is sent to a node. Refuses 13, 2, 3, 4, 5.
+#[no_mangle]
+pub extern "C" fn ocb_send(state: &mut [u32; 200], to: u32) -> u32
+    ensures answer { λ r. ⌜ r ≡ answerOn (λ n. send base n to) (now (state .entry)) ⌝ }
+    ensures memory { λ r. ⌜ now (state .exit) ≡ wordsOn (λ n. send base n to) (now (state .entry)) ⌝ }
+{
+    let held = words::unpack(&*state);
+    if !held.ok {
+        return 13;
+    }
+    let n = held.node;
+    answer_reply(calls::send_to(n, to), state)
+}
+
+// A message from a node, with its phase byte, is taken. Refuses 13, 2, 3, 7 or 8, 6.
+#[no_mangle]
+pub extern "C" fn ocb_take(state: &mut [u32; 200], from: u32, phase: u8) -> u32
+    ensures answer { λ r. ⌜ r ≡ answerOn (λ n. take base n from phase) (now (state .entry)) ⌝ }
+    ensures memory { λ r. ⌜ now (state .exit) ≡ wordsOn (λ n. take base n from phase) (now (state .entry)) ⌝ }
+{
+    let held = words::unpack(&*state);
+    if !held.ok {
+        return 13;
+    }
+    let n = held.node;
+    answer_reply(calls::take_from(n, from, phase), state)
+}
+
+// The node has run out of work. Refuses 13.
+#[no_mangle]
+pub extern "C" fn ocb_idle(state: &mut [u32; 200]) -> u32
+    ensures answer { λ r. ⌜ r ≡ answerOn (λ n. idle base n) (now (state .entry)) ⌝ }
+    ensures memory { λ r. ⌜ now (state .exit) ≡ wordsOn (λ n. idle base n) (now (state .entry)) ⌝ }
+{
+    let held = words::unpack(&*state);
+    if !held.ok {
+        return 13;
+    }
+    let n = held.node;
+    answer_reply(calls::go_idle(n), state)
+}
+
+// A frame has come. Refuses 13, 9, 10, 2, 3, 11, 7, 8.
+#[no_mangle]
+pub extern "C" fn ocb_frame_in(state: &mut [u32; 200], bytes: &[u8]) -> u32
+    ensures answer { λ r. ⌜ r ≡ answerOn (λ n. frameIn base n (now (bytes .entry))) (now (state .entry)) ⌝ }
+    ensures memory { λ r. ⌜ now (state .exit) ≡ wordsOn (λ n. frameIn base n (now (bytes .entry))) (now (state .entry)) ⌝ }
+{
+    let held = words::unpack(&*state);
+    if !held.ok {
+        return 13;
+    }
+    let n = held.node;
+    answer_reply(calls::frame_in(n, bytes), state)
+}
+
+// ---- Exported: the barrier call
+
+// Puts what an answer says beside its number, and answers the number.
+fn answer_barrier(answer: BarrierAnswer, details: &mut [u32; 5]) -> u32
+    ensures answer { λ r. ⌜ r ≡ barrierNumber (barrierOf answer) ⌝ }
+    ensures memory { λ r. ⌜ now (details .exit) ≡ detailWords (clauseOf answer) (barrierOf answer) ⌝ }
+{
+    match answer {
+        BarrierAnswer::Sends(to, length) => {
+            let first = to.first as u32;
+            let extra = to.extra;
+            match extra {
+                Extra::Nobody => {
+                    *details = [1, first, 0, length, 0];
+                }
+                Extra::Also(b) => {
+                    *details = [2, first, b as u32, length, 0];
+                }
+            }
+            20
+        }
+        BarrierAnswer::Waits(clause) => {
+            *details = [0, 0, 0, 0, clause as u32];
+            21
+        }
+        BarrierAnswer::Moved => {
+            *details = [0; 5];
+            22
+        }
+        BarrierAnswer::Left => {
+            *details = [0; 5];
+            23
+        }
+        BarrierAnswer::Refused(no) => {
+            *details = [0; 5];
+            no as u32
+        }
+    }
+}
+
+// One step of an idle node: sends its frame, moves on, leaves or waits. Refuses 13, 12, 14.
+#[no_mangle]
+pub extern "C" fn ocb_barrier(state: &mut [u32; 200], buf: &mut [u8], details: &mut [u32; 5]) -> u32
+    ensures answer { λ r. ⌜ r ≡ barrierAnswer base (now (state .entry)) (length (now (buf .entry))) ⌝ }
+    ensures state { λ r. ⌜ now (state .exit) ≡ barrierState base (now (state .entry)) (length (now (buf .entry))) ⌝ }
+    ensures buffer { λ r. ⌜ now (buf .exit) ≡ barrierBuffer base (now (state .entry)) (now (buf .entry)) ⌝ }
+    ensures details { λ r.
+        ⌜ now (details .exit)
+        ≡ barrierDetails base (now (state .entry)) (length (now (buf .entry))) (getD (now (details .exit)) 4 0) ⌝ }
+    ensures clause { λ r.
+        ⌜ choose (isPacked (now (state .entry)))
+        (isClause base (now (state .entry)) (getD (now (details .exit)) 4 0)
+        (barrier base (unpacked (now (state .entry))) (length (now (buf .entry))) .answer))
+        true
+        ≡ true ⌝ }
+{
+    let held = words::unpack(&*state);
+    if !held.ok {
+        *details = [0; 5];
+        return 13;
+    }
+    let n = held.node;
+    let reply = barrier::barrier_call(n, buf);
+    let after = reply.node;
+    let answer = reply.answer;
+    words::pack(state, after);
+    answer_barrier(answer, details)
+}
+
+// ---- Exported: the lookups
+
+// Answers a number that was looked up, and leaves it in lent memory.
+fn answer_found(answer: Found, found: &mut [u32; 1]) -> u32
+    ensures answer { λ r. ⌜ r ≡ lookupNumber (foundAnswer answer) ⌝ }
+    ensures memory { λ r. ⌜ now (found .exit) ≡ numberWords (foundAnswer answer) (now (found .entry)) ⌝ }
+{
+    match answer {
+        Found::Is(x) => {
+            *found = [x];
+            0
+        }
+        Found::Refused(no) => no as u32,
+    }
+}
+
+// Answers the place of a node, and leaves it in lent memory.
+fn answer_placed(answer: Placed, found: &mut [u32; 3]) -> u32
+    ensures answer { λ r. ⌜ r ≡ lookupNumber (placedAnswer answer) ⌝ }
+    ensures memory { λ r. ⌜ now (found .exit) ≡ placeWords (placedAnswer answer) (now (found .entry)) ⌝ }
+{
+    match answer {
+        Placed::Alone => {
+            *found = [0, 0, 0];
+            0
+        }
+        Placed::Hermit(next) => {
+            *found = [1, next, 0];
+            0
+        }
+        Placed::Neighbour(b) => {
+            *found = [2, b, 0];
+            0
+        }
+        Placed::Messenger(b, h) => {
+            *found = [3, b, h];
+            0
+        }
+        Placed::Refused(no) => no as u32,
+    }
+}
+
+// The dimension of a board. Refuses 1.
+#[no_mangle]
+pub extern "C" fn ocb_dimension(nodes: u32, found: &mut [u32; 1]) -> u32
+    ensures answer { λ r. ⌜ r ≡ lookupNumber (dimensionLookup base nodes) ⌝ }
+    ensures memory { λ r. ⌜ now (found .exit) ≡ numberWords (dimensionLookup base nodes) (now (found .entry)) ⌝ }
+{
+    answer_found(tree::dimension_of(nodes), found)
+}
+
+// The place of a node in a dimension. Refuses 1, 2, 10.
+#[no_mangle]
+pub extern "C" fn ocb_place(nodes: u32, dimension: u32, node: u32, found: &mut [u32; 3]) -> u32
+    ensures answer { λ r. ⌜ r ≡ lookupNumber (placeLookup base nodes dimension node) ⌝ }
+    ensures memory { λ r. ⌜ now (found .exit) ≡ placeWords (placeLookup base nodes dimension node) (now (found .entry)) ⌝ }
+{
+    answer_placed(tree::place_of(nodes, dimension, node), found)
+}
+
+// The distance of two nodes. Refuses 1, 2, 3.
+#[no_mangle]
+pub extern "C" fn ocb_distance(nodes: u32, a: u32, b: u32, found: &mut [u32; 1]) -> u32
+    ensures answer { λ r. ⌜ r ≡ lookupNumber (distanceLookup base nodes a b) ⌝ }
+    ensures memory { λ r. ⌜ now (found .exit) ≡ numberWords (distanceLookup base nodes a b) (now (found .entry)) ⌝ }
+{
+    answer_found(tree::distance_of(nodes, a, b), found)
+}
+
+// ---- Exported: frames, for tools and tests
+
+// The refusal where words hold no frame.
+fn no_fields(nodes: u32) -> u32
+    ensures { λ r. ⌜ r ≡ choose (badBoard base nodes) 1 10 ⌝ }
+{
+    match tree::dimension_of(nodes) {
+        Found::Is(_) => 10,
+        Found::Refused(no) => no as u32,
+    }
+}
+
+// Writes a frame. Refuses 1, 10, 2, 14.
+#[no_mangle]
+pub extern "C" fn ocb_frame_write(
+    nodes: u32,
+    fields: &[u32; 23],
+    buf: &mut [u8],
+    size: &mut [u32; 1],
+) -> u32
+    ensures answer { λ r. ⌜ r ≡ lookupNumber (writeOn base nodes (now (fields .entry)) (length (now (buf .entry)))) ⌝ }
+    ensures buffer { λ r. ⌜ now (buf .exit) ≡ writtenOn base nodes (now (fields .entry)) (now (buf .entry)) ⌝ }
+    ensures size { λ r.
+        ⌜ now (size .exit)
+        ≡ numberWords (writeOn base nodes (now (fields .entry)) (length (now (buf .entry)))) (now (size .entry)) ⌝ }
+{
+    let held = words::unpack_frame(fields);
+    if !held.ok {
+        return no_fields(nodes);
+    }
+    let f = held.frame;
+    let answer = frame::write(nodes, f, buf);
+    answer_found(answer, size)
+}
+
+// Reads a frame. Refuses 1, 9, 10, 2.
+#[no_mangle]
+pub extern "C" fn ocb_frame_read(nodes: u32, bytes: &[u8], fields: &mut [u32; 23]) -> u32
+    ensures answer { λ r. ⌜ r ≡ lookupNumber (readFrame base nodes (now (bytes .entry))) ⌝ }
+    ensures memory { λ r. ⌜ now (fields .exit) ≡ frameWords (readFrame base nodes (now (bytes .entry))) (now (fields .entry)) ⌝ }
+{
+    let reading = frame::read(nodes, bytes);
+    let answer = reading.answer;
+    let f = reading.frame;
+    match answer {
+        Outcome::Done => {
+            words::pack_frame(fields, f);
+            0
+        }
+        Outcome::Refused(no) => no as u32,
+    }
+}

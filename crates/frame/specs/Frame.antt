@@ -113,7 +113,8 @@ numbersOk L p f =
     (both (numberOk L true (f .issued .0))
     (both (numberOk L (eqb (f .pass) 1) (f .received .0)) (numberOk L (eqb (f .pass) 2) (f .agreed))))
 
--- "Frame reader, given P: 1, then as Frame from 9 (under 4) to 2." Frame: "9 (under 4), 10 (pass, k), 9, 10 (numbers), 2"
+-- "Frame reader, given P: 1, then as Frame from 9 (under 4) to 2." Frame: "9 (under 4), 10 (pass, k), 9, 10
+-- (numbers), 2"
 abbrev pub readChecks : Limits → ℕ → List ℕ → List Check
 readChecks L P bs =
     let p = dimension P in

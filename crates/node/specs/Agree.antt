@@ -26,8 +26,8 @@ isAlone n k = isNone (awaited (n .nodes) k (n .number))
 abbrev pub isWithin : Limits → ℕ → Bool
 isWithin L x = leb x (fieldLimit L)
 
--- For each clause from 0 to 6, whether it holds in dimension k of pass 1, by the own sums and the stored frame; 5 and 6 are
--- of pass 2.
+-- For each clause from 0 to 6, whether it holds in dimension k of pass 1, by the own sums and the stored frame; 5 and
+-- 6 are of pass 2.
 unfoldable pub firstClauses : Limits → ℕ → ℕ → (Field → ℕ) → Stored → List Bool
 firstClauses L p k own x =
     -- "0. no frame is stored"

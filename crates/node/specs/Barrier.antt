@@ -77,8 +77,8 @@ sending n = give (at n (n .pass) (n .dim) false (n .agreed)) (sent (receiversDue
 abbrev pub leaving : Node → Given Barrier
 leaving n = give (freshIn (n .nodes) (n .number) ((n .phase + 1) % 256)) left
 
--- "it moves to the next dimension with flag 1; after the last dimension of pass 1 to (2, 0, 1) with T set; after the last of
--- pass 2 it leaves"
+-- "it moves to the next dimension with flag 1; after the last dimension of pass 1 to (2, 0, 1) with T set; after the
+-- last of pass 2 it leaves"
 abbrev pub moving : Node → Given Barrier
 moving n =
     choose (ltb (suc (n .dim)) (dims n)) (give (at n (n .pass) (suc (n .dim)) true (n .agreed)) moved)

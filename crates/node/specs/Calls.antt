@@ -57,7 +57,8 @@ send L n b =
 
 -- ---- "Take: 13, 2, 3, 7 or 8, 6."
 
--- "Take from a node adds 1 to the taken tally of its shell, makes the node busy and sets position (1, 0, 1) and T to 0."
+-- "Take from a node adds 1 to the taken tally of its shell, makes the node busy and sets position (1, 0, 1) and T to
+-- 0."
 abbrev pub oneTaken : Node → ℕ → Node
 oneTaken n m = withTaken n (set (n .taken) m (takenNumber (tally n (takenIn m) + 1)))
 
@@ -113,8 +114,8 @@ stored n f =
     choose (eqb (f .pass) 1) (withFirst n (set (n .first) (f .dim) (firstOf f)))
     (withSecond n (set (n .second) (f .dim) (secondOf f)))
 
--- "If that step is earlier than the node's position (pass first, then dimension), the position becomes that step with flag
--- 0, and T becomes 0 if the pass is 1."
+-- "If that step is earlier than the node's position (pass first, then dimension), the position becomes that step with
+-- flag 0, and T becomes 0 if the pass is 1."
 unfoldable pub gotten : Node → Frame → Node
 gotten n f =
     choose (ltb (stepNumber (dims n) (f .pass) (f .dim)) (stepNumber (dims n) (n .pass) (n .dim)))

@@ -28,8 +28,8 @@ talliesOk L n =
     both (both (leb (tally n allSent) (L .sends)) (leb (tally n allTaken) (takenLimit L)))
     (every (dims n) (width - dims n) (λ m. both (eqb (tally n (sentIn m)) 0) (eqb (tally n (takenIn m)) 0)))
 
--- "T .. is outside the bounds above .. or T is not what its pass gives": 0 in pass 1, and in pass 2 the total of all nodes,
--- sent and taken being the same by clause 4
+-- "T .. is outside the bounds above .. or T is not what its pass gives": 0 in pass 1, and in pass 2 the total of all
+-- nodes, sent and taken being the same by clause 4
 unfoldable pub totalOk : Limits → Node → Bool
 totalOk L n =
     both (leb (n .agreed) (fieldLimit L)) (eqb (n .agreed) (choose (eqb (n .pass) 1) 0 (own n (dims n) allTaken)))

@@ -3,7 +3,8 @@ use mathlib.Core.Path.{_≡_, refl}
 use mathlib.Core.Bool.{true}
 use mathlib.Core.List.{List, [], _∷_}
 use Rattle.base.specs.Limits.{base}
-use Rattle.tree.specs.Tree.{smallestFrom, dimension, part, runBelow, runOf, placeIn, place, awaited, receivers, distanceBelow, distance}
+use Rattle.tree.specs.Tree.{smallestFrom, dimension, part, runBelow, runOf, placeIn, place, awaited, receivers}
+use Rattle.tree.specs.Tree.{distanceBelow, distance}
 use Rattle.frame.specs.Numbers.{fourBytes, bytesOf, wordAt}
 use Rattle.frame.specs.Frame.{frameLength, numbersOf, frameBytes, shellAt, fieldsOf, numbersOk}
 use Rattle.frame.specs.Timing.{timing}
@@ -16,7 +17,8 @@ use Rattle.node.specs.Barrier.{frameDue, barrier}
 use Rattle.runs.specs.Board.{Board, Event, sends, idles, calls, delivers, start, step, run}
 use Rattle.runs.specs.Printed.{line, lines}
 
--- "Script, its lines parted here by commas: nodes 2, i 0, b 0, i 1, d 0 1, b 1, b 1, b 1, d 1 0, b 0, b 0, d 1 0, b 0, d 0 1, b 1."
+-- "Script, its lines parted here by commas: nodes 2, i 0, b 0, i 1, d 0 1, b 1, b 1, b 1, d 1 0, b 0, b 0, d 1 0, b 0,
+-- d 0 1, b 1."
 abbrev script : List Event
 script =
     idles 0
@@ -54,12 +56,15 @@ pub worked : lines 2 (start 2) script ≡
     ∷ []
 unfolding smallestFrom dimension part runBelow runOf placeIn place awaited receivers distanceBelow distance fourBytes
     bytesOf wordAt frameLength numbersOf frameBytes shellAt fieldsOf numbersOk timing own ownIssued firstClauses
-    secondClauses agrees boardOk positionOk talliesOk totalOk firstOk secondOk passedOk busyOk valid send take idle gotten
+    secondClauses agrees boardOk positionOk talliesOk totalOk firstOk secondOk passedOk busyOk valid send take idle
+    gotten
     frameIn frameDue barrier step
 worked = refl
 
--- "P 4: 2 signs in with zeros; 1 sends to 2 (slow), signs in to 0; 3 sends to 1; 1 wakes, sends to 3; 3 takes it, goes idle
--- and signs in to 2; 2 passes dimension 0 and sends to 0; then the slow message reaches 2, which sends work to 0. Node 0
+-- "P 4: 2 signs in with zeros; 1 sends to 2 (slow), signs in to 0; 3 sends to 1; 1 wakes, sends to 3; 3 takes it, goes
+-- idle
+-- and signs in to 2; 2 passes dimension 0 and sends to 0; then the slow message reaches 2, which sends work to 0. Node
+-- 0
 -- takes it, goes idle, passes dimension 0 and now sees 1 against 1 both ways while 1 is busy."
 abbrev trap : List Event
 trap =
@@ -101,6 +106,7 @@ pub in-the-trap :
     × (trapped .nodes 1 .busy ≡ true)
 unfolding smallestFrom dimension part runBelow runOf placeIn place awaited receivers distanceBelow distance fourBytes
     bytesOf wordAt frameLength numbersOf frameBytes shellAt fieldsOf numbersOk timing own ownIssued firstClauses
-    secondClauses agrees boardOk positionOk talliesOk totalOk firstOk secondOk passedOk busyOk valid send take idle gotten
+    secondClauses agrees boardOk positionOk talliesOk totalOk firstOk secondOk passedOk busyOk valid send take idle
+    gotten
     frameIn frameDue barrier step
 in-the-trap = (refl, refl, refl)

@@ -23,8 +23,8 @@ pub data Load : Type 0 where
   work : ℕ → Load
   frame : List ℕ → Load
 
--- An item under way. History: "An item belongs to the phase its sender was in", counted without end; and which of all sends
--- done it is, counted from 0.
+-- An item under way. History: "An item belongs to the phase its sender was in", counted without end; and which of all
+-- sends done it is, counted from 0.
 pub record Item : Type 0 where
   pub from : ℕ
   pub to : ℕ
@@ -32,8 +32,9 @@ pub record Item : Type 0 where
   pub phase : ℕ
   pub name : ℕ
 
--- The nodes, and the items of all links, oldest first. History: "A node's phase counts its barrier calls so far that left,
--- without end"; whether it is busy; for each send done, the phase of its message while that is untaken; the sends done.
+-- The nodes, and the items of all links, oldest first. History: "A node's phase counts its barrier calls so far that
+-- left, without end"; whether it is busy; for each send done, the phase of its message while that is untaken; the
+-- sends done.
 pub record Board : Type 0 where
   pub nodes : ℕ → Node
   pub items : List Item
@@ -42,8 +43,8 @@ pub record Board : Type 0 where
   pub untaken : ℕ → Option ℕ
   pub sends : ℕ
 
--- "A send, idle or barrier call at a node, with any arguments and buffer", here the buffer's length; "A delivery from a to
--- b"; "A loss: any item is off its link, without a call"
+-- "A send, idle or barrier call at a node, with any arguments and buffer", here the buffer's length; "A delivery from
+-- a to b"; "A loss: any item is off its link, without a call"
 pub data Event : Type 0 where
   sends : ℕ → ℕ → Event
   idles : ℕ → Event

@@ -57,8 +57,8 @@ module _ (L : Limits) (P : ℕ) where
   abbrev pub Oldest : Board → ℕ → Type 0
   Oldest w a = (a < P) × ((b : ℕ) → b < P → w .count a ≤ w .count b)
 
-  -- "some node in the oldest phase is busy, has something of that phase under way to it, or would send, move or leave on a
-  -- barrier call with a long enough buffer"
+  -- "some node in the oldest phase is busy, has something of that phase under way to it, or would send, move or leave
+  -- on a barrier call with a long enough buffer"
   pub data Lives (w : Board) : Type 0 where
     busy : (a : ℕ) → Oldest w a → w .busy a ≡ true → Lives w
     underWay : (a : ℕ) → Oldest w a → (m : Item) → List·Memᴰ m (w .items) → m .to ≡ a → m .phase ≡ w .count a → Lives w

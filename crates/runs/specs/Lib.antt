@@ -1,3 +1,4 @@
 pub mod Board
 pub mod Claim
+pub mod Facts
 pub mod Printed

@@ -1,5 +1,5 @@
--- What a rehearsal prints for an event: "acting node (receiver for d), answer, then its phase, pass, dimension, flag, 1 if
--- busy."
+-- What a rehearsal prints for an event: "acting node (receiver for d), answer, then its phase, pass, dimension, flag,
+-- 1 if busy."
 use mathlib.Core.Bool.{Bool}
 use mathlib.Core.Option.{Option, none, some}
 use mathlib.Core.List.{List, [], _∷_}
@@ -10,7 +10,8 @@ use Rattle.node.specs.Answers.{outcomeNumber, barrierNumber}
 use Rattle.node.specs.Calls.{send, take, idle, frameIn}
 use Rattle.node.specs.Barrier.{barrier}
 use Rattle.node.specs.declared.Node.{Node}
-use Rattle.runs.specs.Board.{Load, work, frame, Item, Board, Event, sends, idles, calls, delivers, loses, oldest, step}
+use Rattle.runs.specs.Board.{Load, work, frame, Item, Board, Event, sends, idles, calls, delivers, loses}
+use Rattle.runs.specs.Board.{oldest, step}
 
 abbrev pub bit : Bool → ℕ
 bit b = choose b 1 0

@@ -1,11 +1,13 @@
--- What the function for a line answers: the headers are not handed to it, only how many are lent, and for a delivery the place
--- of the oldest item of the link and that item.
+-- What the function for a line answers: the headers are not handed to it, only how many are lent, and for a delivery
+-- the place of the oldest item of the link and that item.
+use mathlib.Core.Bool.{Bool, not}
 use mathlib.Core.List.{List, [], _∷_}
 use Prim.Native.Nat.{ℕ, _+_, _-_}
-use lib.Dec.{ltb, eqb}
+use lib.Dec.{ltb, leb, eqb}
 use lib.ListN.{set}
-use Rattle.base.specs.Choice.{choose}
+use Rattle.base.specs.Choice.{choose, both}
 use Rattle.base.specs.Limits.{base}
+use Rattle.tree.specs.Lookups.{badBoard}
 use Rattle.frame.specs.Frame.{frameBytes}
 use Rattle.node.specs.Sums.{dims}
 use Rattle.node.specs.Answers.{Given, Outcome, done, dropped, refused, outcomeNumber}
@@ -112,12 +114,17 @@ module _ (st : Stage) (headers : ℕ) (bytes : List ℕ) where
   deliverActed b at r answer =
       choose (eqb answer 7) (quiet st b 7) (takeOff (changed st b (r .node) (st .under - 1)) b answer at)
 
+  -- an item stands at a place: one of those under way, all of them lent, on a board of the stated size
+  abbrev pub isThere : ℕ → Bool
+  isThere at =
+      both (ltb at (st .under)) (both (leb (st .under) (roomFor headers bytes)) (not (badBoard base (st .size))))
+
   unfoldable pub acted : Line → ℕ → Item → Acted
   acted (Nodes P) at it = quiet st 0 17
   acted (Sends a b) at it = let r = send base (nodeAt st a) b in sendActed a b r (r .answer)
   acted (Delivers a b) at it =
       let r = itemCall a b at it in
-      choose (eqb at (st .under)) (quiet st b 16) (deliverActed b at r (outcomeNumber (r .answer)))
+      choose (isThere at) (deliverActed b at r (outcomeNumber (r .answer))) (quiet st b 16)
   acted (Idles a) at it =
       let r = idle base (nodeAt st a) in quiet (changed st a (r .node) (st .under)) a (outcomeNumber (r .answer))
   acted (Calls a) at it = let r = barrier base (nodeAt st a) placeSize in callActed a r (r .answer)
@@ -146,8 +153,7 @@ module _ (st : Stage) (headers : ℕ) (bytes : List ℕ) where
   actedBytes (Sends a b) at it = bytes
   actedBytes (Delivers a b) at it =
       let r = itemCall a b at it in
-      choose (eqb at (st .under)) bytes
-      (choose (eqb (outcomeNumber (r .answer)) 7) bytes (closed bytes (st .under) at))
+      choose (isThere at) (choose (eqb (outcomeNumber (r .answer)) 7) bytes (closed bytes (st .under) at)) bytes
   actedBytes (Idles a) at it = bytes
   actedBytes (Calls a) at it = let r = barrier base (nodeAt st a) placeSize in callActedBytes a (r .answer)
   actedBytes Bad at it = bytes

@@ -10,7 +10,8 @@ placeSize = 76
 abbrev pub roomFor : ℕ → List ℕ → ℕ
 roomFor headers bytes = min 512 (min headers (length bytes / placeSize))
 
--- "Removal closes the gap": of n places the one at `at` goes, those after it move down whole, and the last keeps what it had
+-- "Removal closes the gap": of n places the one at `at` goes, those after it move down whole, and the last keeps what
+-- it had
 unfoldable pub closed : List ℕ → ℕ → ℕ → List ℕ
 closed bytes n at =
     take (placeSize * at) bytes

@@ -1,3 +1,4 @@
 pub mod Frames
 pub mod Events
 pub mod Acts
+pub mod Pieces

@@ -133,6 +133,24 @@ pub fn changed(random: &mut Random, words: &Words) -> Words {
     words
 }
 
+/// Words at random: any at all, or each in the range of its place, with small numbers more often than not.
+pub fn noise(random: &mut Random) -> Words {
+    let any = random.below(4) == 0;
+    std::array::from_fn(|at| {
+        let small = random.below(4);
+        match at {
+            _ if any => random.draw() as u32,
+            0 => 1 + random.below(6),
+            1 | 5 => random.below(3),
+            3 | 6 => random.below(2),
+            4 => 1 + random.below(2),
+            24.. if at < 176 && (at - 24) % 19 == 0 => random.below(2),
+            176.. if (at - 176) % 3 == 0 => random.below(2),
+            _ => small / 3,
+        }
+    })
+}
+
 /// The three limits, each with its neighbours, on the calls that they bound.
 pub fn limits(report: &mut Report) {
     for board in [2, 3, 6, 256] {

@@ -38,6 +38,10 @@ fn main() {
     frames::compare(&mut report, &mut random, 20_000 * scale);
     calls::fresh(&mut report);
     calls::limits(&mut report);
+    for _ in 0..20_000 * scale {
+        let words = calls::noise(&mut random);
+        calls::every(&mut report, &mut random, &words, &[]);
+    }
     runs::compare(&mut report, &mut random, scale);
     report.print();
     for (call, answers) in WANTED {

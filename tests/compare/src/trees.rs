@@ -64,9 +64,7 @@ pub fn compare(report: &mut Report) {
             for k in 0..9 {
                 place(report, nodes, a, k);
             }
-            // every distance of small boards, and of large ones each node with some sixteenth of the others
-            let stride = if nodes <= 64 { 1 } else { 13 };
-            for b in (a % stride..nodes).step_by(stride as usize) {
+            for b in 0..nodes {
                 distance(report, nodes, a, b);
             }
         }

@@ -1,5 +1,5 @@
 -- A node's state as 200 words that a C caller lends, and back.
-use mathlib.Core.Bool.{Bool, true}
+use mathlib.Core.Bool.{Bool}
 use mathlib.Core.List.{List, [], _∷_, _++_}
 use Prim.Native.Nat.{ℕ, zero, suc, _+_, _*_}
 use lib.Dec.{ltb, eqb}
@@ -44,9 +44,9 @@ firstWords x =
 unfoldable pub secondWords : Confirm → List ℕ
 secondWords x = bit (x .present) ∷ x .agreed ∷ x .issued .0 ∷ []
 
--- words 0 to 7: P, number, phase, busy, pass, dimension, flag, T; 8 to 15 the sent tallies and 16 to 23 the taken tallies by
--- shell; from 24 the stored pass 1 frames, 19 words each: present, sent and taken by shell, total sent, total taken; from 176
--- the stored pass 2 frames, 3 words each: present, T, total sent
+-- words 0 to 7: P, number, phase, busy, pass, dimension, flag, T; 8 to 15 the sent tallies and 16 to 23 the taken
+-- tallies by shell; from 24 the stored pass 1 frames, 19 words each: present, sent and taken by shell, total sent,
+-- total taken; from 176 the stored pass 2 frames, 3 words each: present, T, total sent
 unfoldable pub packed : Node → List ℕ
 packed n =
     headWords n

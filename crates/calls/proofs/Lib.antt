@@ -1,0 +1,4 @@
+pub mod Known
+pub mod Lookups
+pub mod Storing
+pub mod Intake

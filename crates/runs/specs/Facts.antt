@@ -1,0 +1,33 @@
+-- What a maker may rely on in every run, with losses or without, besides demand 3.
+use mathlib.Core.Path.{_≡_}
+use mathlib.Core.Bool.{true}
+use mathlib.Core.Option.{some}
+use mathlib.Core.List.{List, List·Memᴰ}
+use Prim.Native.Nat.{ℕ, suc, _≤_, _<_}
+use Rattle.base.specs.Limits.{Limits}
+use Rattle.node.specs.State.{valid}
+use Rattle.node.specs.Answers.{refused}
+use Rattle.node.specs.Calls.{take, frameIn}
+use Rattle.runs.specs.Board.{work, frame, Item, Board, Event, oldest, run}
+use Rattle.runs.specs.Claim.{Fit}
+
+module _ (L : Limits) (P : ℕ) where
+  pub record Facts (w : Board) : Type 0 where
+    -- every node's state passes the test, so no call on it is refused with 13
+    pub accepted : (a : ℕ) → a < P → valid L (w .nodes a) ≡ true
+    -- the phases of two nodes differ by at most one
+    pub close : (a b : ℕ) → a < P → b < P → w .count a ≤ suc (w .count b)
+    -- an item under way goes to a node of the board, and is at most one phase away from it
+    pub underWay : (m : Item) → List·Memᴰ m (w .items)
+        → (m .to < P) × ((m .phase ≤ suc (w .count (m .to))) × (w .count (m .to) ≤ suc (m .phase)))
+    -- a delivered work message is refused for being early (7) or not at all: never with 2, 3, 6, 8 or 13
+    pub takeEarly : (a b : ℕ) (m : Item) (byte x : ℕ) → oldest a b (w .items) ≡ some m → m .load ≡ work byte
+        → take L (w .nodes b) a byte .answer ≡ refused x → x ≡ 7
+    -- so is a delivered frame: never with 2, 3, 8, 9, 10, 11 or 13
+    pub frameEarly : (a b : ℕ) (m : Item) (bytes : List ℕ) (x : ℕ) → oldest a b (w .items) ≡ some m
+        → m .load ≡ frame bytes → frameIn L (w .nodes b) bytes .answer ≡ refused x → x ≡ 7
+
+-- FOR EVERY RUN of a board of 1 to N nodes
+abbrev pub EveryRun : Type 0
+EveryRun =
+    (L : Limits) → Fit L → (P : ℕ) → 1 ≤ P → P ≤ L .nodes → (es : List Event) → Facts L P (run L P es)

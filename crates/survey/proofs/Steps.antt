@@ -1,0 +1,176 @@
+-- Laws of the test of a step: it is the state test's, dimension by dimension.
+use mathlib.Core.Path.{_≡_, refl, sym, ap, _∙_}
+use mathlib.Core.Bool.{Bool, true, false, not}
+use mathlib.Core.Logic.{_⊎_, inl, inr, ⊎-elim}
+use mathlib.Core.Option.{Option, none, some}
+use Prim.Native.Nat.{ℕ, suc, _-_, _≤_, _<_}
+use native.Mathlib.Decide.{decLe, ℕ-discrete}
+use native.Mathlib.Omega.{arith}
+use lib.Dec.{ltb, eqb}
+use borrow.Author.Tests.{lt-ltb, le-ltb, lt-leb, eq-eqb, ne-eqb, ltb-true, eqb-true, not-true}
+use Rattle.base.specs.Choice.{choose, both, either, every}
+use Rattle.base.specs.Limits.{base}
+use Rattle.base.proofs.Laws.{clash, both-true, both-make, every-at, every-make}
+use Rattle.tree.specs.Tree.{dimension, Place, alone, hermit, neighbour, messenger, awaits, place, awaited}
+use Rattle.tree.specs.Lookups.{badBoard, placeLookup}
+use Rattle.tree.proofs.Dimension.{smallest}
+use Rattle.tree.proofs.Lookups.{board-good}
+use Rattle.tree.proofs.Halves.{alone-lowest}
+use Rattle.node.specs.Sums.{dims, Field, sentIn, takenIn, allSent, allTaken, number}
+use Rattle.node.specs.declared.Stored.{Stored}
+use Rattle.node.specs.Agree.{isNone, isAlone, firstClauses, agrees}
+use Rattle.node.specs.State.{boardOk, positionOk, passedOk, awaitsFrame}
+use Rattle.node.specs.declared.Node.{Node}
+use Rattle.agree.specs.Parts.{shellWithin, shellsWithin}
+use Rattle.steps.specs.Step.{awaitsAt, firstPast, secondPast}
+use Rattle.steps.specs.declared.Spot.{Spot}
+use Rattle.survey.specs.Walk.{loneAnswer, lone, spotAt}
+use Rattle.survey.proofs.Lists.{every-same}
+
+abbrev pub spotOf : Node → Spot
+spotOf n = spotAt (dims n) (n .nodes) (n .number) (n .pass) (n .dim) (n .agreed)
+
+-- the fields of a board of so many dimensions
+abbrev pub Below : ℕ → Field → Type 0
+Below p (sentIn m) = m < p
+Below p (takenIn m) = m < p
+Below p allSent = Unit
+Below p allTaken = Unit
+
+-- ---- whom a node awaits
+
+lone-place : (x : Place) → loneAnswer (Rattle.base.specs.Refusal.found x) ≡ isNone (awaits x)
+lone-place alone = refl
+lone-place (hermit next) = refl
+lone-place (neighbour b) = refl
+lone-place (messenger b h) = refl
+
+module _ (P a : ℕ) (good : badBoard base P ≡ false) (on : a < P) where
+  some-dimension : 0 < dimension P → 2 ≤ P
+  some-dimension h = go (decLe P 1)
+    where
+      go : Dec (P ≤ 1) → 2 ≤ P
+      go (yes l) = absurd (omega (arith, smallest P 0 l))
+      go (no l) = omega arith
+
+  lone-first : 0 < dimension P → lone P a ≡ isNone (awaited P 0 a)
+  unfolding lone placeLookup awaited
+  lone-first h = rw (good, lt-leb P a on, lt-leb (dimension P) 0 h) (lone-place (place P 0 a))
+
+  alone-by : (k : ℕ) → k < dimension P → both (eqb k 0) (lone P a) ≡ isNone (awaited P k a)
+  alone-by k l = go (ℕ-discrete k 0)
+    where
+      some-one : (w : Option ℕ) → awaited P k a ≡ w → (k ≡ 0 → ⊥) → false ≡ isNone w
+      some-one none e n = absurd (n (alone-lowest P k a l on (some-dimension (omega arith)) e))
+      some-one (some w) e n = refl
+
+      go : Dec (k ≡ 0) → both (eqb k 0) (lone P a) ≡ isNone (awaited P k a)
+      go (yes e) = rw (eq-eqb k 0 e) (lone-first (omega arith) ∙ ap (λ j. isNone (awaited P j a)) (sym e))
+      go (no e) = rw (ne-eqb k 0 e) (some-one (awaited P k a) refl e)
+
+pub awaits-same : (n : Node) (k : ℕ) → boardOk base n ≡ true → awaitsAt (spotOf n) k ≡ awaitsFrame n k
+unfolding awaitsAt boardOk
+awaits-same n k ok = go (decLe (dims n) k)
+  where
+    go : Dec (dims n ≤ k)
+        → both (ltb k (dims n)) (not (both (eqb k 0) (lone (n .nodes) (n .number))))
+        ≡ both (ltb k (dims n)) (not (isAlone n k))
+    go (yes l) = rw (le-ltb k (dims n) l)
+    go (no l) =
+        let q = both-true (not (badBoard base (n .nodes))) (ltb (n .number) (n .nodes)) ok in
+        rw (lt-ltb k (dims n) (omega arith))
+        (ap not
+        (alone-by (n .nodes) (n .number) (not-true _ (q .0)) (ltb-true _ _ (q .1)) k (omega arith)))
+
+-- ---- the clauses read the sums of shells that there are
+
+module _ (p k : ℕ) (f g : Field → ℕ) (x : Stored) (l : k < p) (same : (h : Field) → Below p h → f h ≡ g h) where
+  shells-same : shellsWithin base p k f x ≡ shellsWithin base p k g x
+  unfolding shellWithin
+  shells-same =
+      every-same (suc k) (p - suc k) (shellWithin base f x) (shellWithin base g x)
+      (λ m a b. rw (same (sentIn m) (omega arith), same (takenIn m) (omega arith)))
+
+  pub clauses-same : firstClauses base p k f x ≡ firstClauses base p k g x
+  unfolding firstClauses shellWithin
+  clauses-same =
+      rw (same (sentIn k) l, same (takenIn k) l, same allSent tt, same allTaken tt, shells-same)
+
+-- ---- what the state test says of a step, and what the steps say of it
+
+module _ (n : Node) (board : boardOk base n ≡ true) (position : positionOk n ≡ true) where
+  pub few : dims n ≤ 8
+  unfolding boardOk
+  few =
+      let q = both-true (not (badBoard base (n .nodes))) (ltb (n .number) (n .nodes)) board in
+      smallest (n .nodes) 8 (board-good base (n .nodes) (not-true _ (q .0)) .1)
+
+  -- the position is below p, or 0
+  here : (n .dim < dims n) ⊎ (n .dim ≡ 0)
+  unfolding positionOk
+  here = go (eqb (dims n) 0) position
+    where
+      go : (t : Bool)
+          → choose t (both (eqb (n .pass) 1) (eqb (n .dim) 0))
+          (both (either (eqb (n .pass) 1) (eqb (n .pass) 2)) (ltb (n .dim) (dims n)))
+          ≡ true
+          → (n .dim < dims n) ⊎ (n .dim ≡ 0)
+      go true e = inr (eqb-true _ _ (both-true (eqb (n .pass) 1) (eqb (n .dim) 0) e .1))
+      go false e =
+          inl (ltb-true _ _ (both-true (either (eqb (n .pass) 1) (eqb (n .pass) 2)) (ltb (n .dim) (dims n)) e .1))
+
+  pub low : n .dim < 8
+  low = ⊎-elim (λ l. omega (arith, few)) (λ e. omega arith) here
+
+  before : (k : ℕ) → k < n .dim → k < dims n
+  before k h = ⊎-elim (λ l. omega arith) (λ e. absurd (omega arith)) here
+
+  -- a step before the position, in either pass
+  pub passed-first : (k : ℕ) → k < dims n → passedOk base n ≡ true → firstPast (spotOf n) k ≡ true
+      → agrees base n 1 k ≡ true
+  unfolding passedOk
+  passed-first k l ok = go (eqb (n .pass) 1) ok
+    where
+      go : (t : Bool)
+          → choose t (every 0 (n .dim) (agrees base n 1))
+          (both (every 0 (dims n) (agrees base n 1)) (every 0 (n .dim) (agrees base n 2)))
+          ≡ true
+          → either (not t) (ltb k (n .dim)) ≡ true → agrees base n 1 k ≡ true
+      go true e h = every-at 0 (n .dim) (agrees base n 1) e k (omega arith) (omega (arith, ltb-true k (n .dim) h))
+      go false e h =
+          every-at 0 (dims n) (agrees base n 1)
+          (both-true (every 0 (dims n) (agrees base n 1)) (every 0 (n .dim) (agrees base n 2)) e .0) k (omega arith)
+          (omega arith)
+
+  pub passed-second : (k : ℕ) → passedOk base n ≡ true → secondPast (spotOf n) k ≡ true → agrees base n 2 k ≡ true
+  unfolding passedOk
+  passed-second k ok = go (eqb (n .pass) 1) ok
+    where
+      go : (t : Bool)
+          → choose t (every 0 (n .dim) (agrees base n 1))
+          (both (every 0 (dims n) (agrees base n 1)) (every 0 (n .dim) (agrees base n 2)))
+          ≡ true
+          → both (not t) (ltb k (n .dim)) ≡ true → agrees base n 2 k ≡ true
+      go true e h = clash (sym h)
+      go false e h =
+          every-at 0 (n .dim) (agrees base n 2)
+          (both-true (every 0 (dims n) (agrees base n 1)) (every 0 (n .dim) (agrees base n 2)) e .1) k (omega arith)
+          (omega (arith, ltb-true k (n .dim) h))
+
+  pub all-passed : ((k : ℕ) → k < dims n → firstPast (spotOf n) k ≡ true → agrees base n 1 k ≡ true)
+      → ((k : ℕ) → k < dims n → secondPast (spotOf n) k ≡ true → agrees base n 2 k ≡ true) → passedOk base n ≡ true
+  unfolding passedOk
+  all-passed = go (eqb (n .pass) 1)
+    where
+      go : (t : Bool) → ((k : ℕ) → k < dims n → either (not t) (ltb k (n .dim)) ≡ true → agrees base n 1 k ≡ true)
+          → ((k : ℕ) → k < dims n → both (not t) (ltb k (n .dim)) ≡ true → agrees base n 2 k ≡ true)
+          → choose t (every 0 (n .dim) (agrees base n 1))
+          (both (every 0 (dims n) (agrees base n 1)) (every 0 (n .dim) (agrees base n 2)))
+          ≡ true
+      go true a b =
+          every-make 0 (n .dim) (agrees base n 1)
+          (λ k i j. a k (before k (omega arith)) (lt-ltb k (n .dim) (omega arith)))
+      go false a b =
+          both-make (every-make 0 (dims n) (agrees base n 1) (λ k i j. a k (omega arith) refl))
+          (every-make 0 (n .dim) (agrees base n 2)
+          (λ k i j. b k (before k (omega arith)) (lt-ltb k (n .dim) (omega arith))))

@@ -1,0 +1,6 @@
+pub mod Board
+pub mod Parts
+pub mod Known
+pub mod Acting
+pub mod Turning
+pub mod Keeping

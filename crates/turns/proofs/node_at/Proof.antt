@@ -1,0 +1,32 @@
+-- `node_at` is the node at a place of the array, or none.
+use borrow.Author.Needs.{needs}
+use native.Mathlib.Omega.{arith}
+use mathlib.Core.Path.{_≡_, sym, ap, _∙_}
+use lib.ListN.{length, length-map}
+use Rattle.node.specs.Change.{noNode}
+use Rattle.turns.proofs.Board.{any-default, past-all, in-array, none-given}
+use Rattle.turns.proofs.node_at.Statement.{statement}
+use Rattle.turns.proofs.node_at.Tie as tie
+
+-- a board has 16 nodes
+sixteen : (c : tie.Start) → length (c .args .t1 .nodes) ≡ 16
+sixteen c = sym (length-map (c .args .t1 .nodes) _) ∙ c .good .0 .1 .1 .0 .1 .0 .1
+
+returns : tie.Need-returns
+returns c =
+    let x = c .before .before .args in
+    let l = sixteen (c .before .before) in
+    (any-default (x .t1 .nodes) (x .a) _ noNode (omega arith), λ v. c .before .if1 .taken)
+
+returns-2 : tie.Need-returns-2
+returns-2 c =
+    let s = c .before .before .before in
+    let l = sixteen s in
+    let e =
+    ap (λ g. g .node) (c .before .fresh-node .ensures)
+    ∙ none-given
+    ∙ past-all (s .args .t1) (s .args .a) (omega arith) in
+    (e, λ v. in-array (s .args .t1) _ l (rw (sym e) v))
+
+pub node-at-spec : {M : Type 1} → statement M
+node-at-spec = tie.close (tie.spec (λ c. search needs) (λ c. search needs) returns (λ c κs. search needs) returns-2)

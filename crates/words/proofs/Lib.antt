@@ -1,0 +1,5 @@
+pub mod Rows
+pub mod Filling
+pub mod Ranges
+pub mod RoundTrip
+pub mod Fields

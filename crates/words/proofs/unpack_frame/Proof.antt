@@ -1,0 +1,25 @@
+-- `unpack_frame` is `heldFrame`, by the test of the words.
+use borrow.Author.Needs.{needs}
+use borrow.Author.Tests.{not-true, not-false}
+use mathlib.Core.Path.{sym, _∙_}
+use Rattle.words.proofs.unpack_frame.Statement.{statement}
+use Rattle.words.proofs.unpack_frame.Tie as tie
+
+returns : tie.Need-returns
+returns c =
+    let e = sym (c .before .before .head-in-range .ensures) ∙ not-true _ (c .before .if1 .taken) in
+    rw (e, c .no-frame .ensures)
+
+frame-from-requires : tie.Need-frame-from-requires
+frame-from-requires c κs =
+    (search needs, sym (c .before .before .head-in-range .ensures) ∙ not-false _ (c .before .if1 .left))
+
+returns-2 : tie.Need-returns-2
+returns-2 c =
+    let e = sym (c .before .before .before .head-in-range .ensures) ∙ not-false _ (c .before .before .if1 .left) in
+    rw (e, c .frame-from .ensures)
+
+pub unpack-frame-spec : {M : Type 1} → statement M
+unpack-frame-spec =
+    tie.close
+    (tie.spec (λ c κs. search needs) (λ c κs. search needs) returns frame-from-requires returns-2)
