@@ -44,7 +44,7 @@ use ghost.Atoms.{Atoms, sem}
 use contract.Monad.{Fun, fact, fact-mono}
 use sound.WpLaws.{FmC, fm→monoC}
 use types.Kit.{Given, Item, ‵, raw, _⊛_, some, later, given, mean, ⋆, nth, del, put, pull, Post, Goal, prop, Soaks}
-use types.Kit.{runs, lands, frees, aim, Seq, Step, step, _$_, _∵_, !, qed, move, keep, use0, use1, use2, use3, drop}
+use types.Kit.{runs, lands, frees, Seq, Step, step, _$_, _∵_, !, qed, move, keep, use0, use1, use2, use3, drop}
 use types.Kit.{split, join, pick, learn, rewrite, fsplit, fjoin, feqI, feqL, frame, await, updating, now as at-once}
 use types.Kit.{show, check, done}
 use types.Run.{Opd, Opds, Rv, Walks, look, init, stop, hop, fld, from, load, addr, assigns, land}
@@ -230,32 +230,51 @@ module _ {M : Type 1} (𝓤 : URA M) (H : Heap 𝓤) (A : Atoms 𝓤) (run : Fun
 
 -- what holds of nothing, side by side, and beside what is to be shown
 pub both-hold : {M : Type 1} (𝓤 : URA M) {P Q : SProp 𝓤} → ent 𝓤 (emp 𝓤) P → ent 𝓤 (emp 𝓤) Q → ent 𝓤 (emp 𝓤) (sep 𝓤 P Q)
-both-hold 𝓤 {P} {Q} h k = via 𝓤 (sep 𝓤 (emp 𝓤) (emp 𝓤)) (emp∗ 𝓤 (emp 𝓤)) (via 𝓤 (sep 𝓤 P (emp 𝓤)) (monoL 𝓤 (emp 𝓤) h) (monoR 𝓤 P k))
+both-hold 𝓤 {P} {Q} h k = via 𝓤 (sep 𝓤 (emp 𝓤) (emp 𝓤)) (emp∗ 𝓤 (emp 𝓤))
+    (via 𝓤 (sep 𝓤 P (emp 𝓤)) (monoL 𝓤 (emp 𝓤) h) (monoR 𝓤 P k))
 
-pub holds : {M : Type 1} {𝓤 : URA M} {H : Heap 𝓤} {A : Atoms 𝓤} {K : Type 0} {W : Given 𝓤 H A} {Γ : List (Item 𝓤)} → K → {P Q : SProp 𝓤} → ent 𝓤 (emp 𝓤) Q → Step K W Γ (prop P) Γ (prop (sep 𝓤 P Q))
-holds {𝓤 = 𝓤} t {P} {Q} h = step (λ s. record { prf = via 𝓤 P (s .prf) (via 𝓤 (sep 𝓤 (emp 𝓤) P) (emp∗ 𝓤 P) (via 𝓤 (sep 𝓤 Q P) (monoL 𝓤 P h) (comm∗ 𝓤 Q P))) })
+pub holds : {M : Type 1} {𝓤 : URA M} {H : Heap 𝓤} {A : Atoms 𝓤} {K : Type 0} {W : Given 𝓤 H A} {Γ : List (Item 𝓤)} → K
+    → {P Q : SProp 𝓤} → ent 𝓤 (emp 𝓤) Q → Step K W Γ (prop P) Γ (prop (sep 𝓤 P Q))
+holds {𝓤 = 𝓤} t {P} {Q} h =
+    step (λ s. record {
+      prf =
+          via 𝓤 P (s .prf) (via 𝓤 (sep 𝓤 (emp 𝓤) P) (emp∗ 𝓤 P) (via 𝓤 (sep 𝓤 Q P) (monoL 𝓤 P h) (comm∗ 𝓤 Q P)));
+    })
 
 -- two facts side by side are one
 pub both-facts : {M : Type 1} (𝓤 : URA M) (a b : Type 0) → ent 𝓤 (sep 𝓤 (fact 𝓤 a) (fact 𝓤 b)) (fact 𝓤 (a × b))
 both-facts 𝓤 a b = needs 𝓤 b (fact 𝓤 a) (λ y. fact-mono 𝓤 a (a × b) (λ x. (x, y)))
 
-pub more-facts : {M : Type 1} (𝓤 : URA M) (a b : Type 0) (P : SProp 𝓤) → ent 𝓤 P (fact 𝓤 b) → ent 𝓤 (sep 𝓤 (fact 𝓤 a) P) (fact 𝓤 (a × b))
+pub more-facts : {M : Type 1} (𝓤 : URA M) (a b : Type 0) (P : SProp 𝓤) → ent 𝓤 P (fact 𝓤 b)
+    → ent 𝓤 (sep 𝓤 (fact 𝓤 a) P) (fact 𝓤 (a × b))
 more-facts 𝓤 a b P h = via 𝓤 (sep 𝓤 (fact 𝓤 a) (fact 𝓤 b)) (monoR 𝓤 (fact 𝓤 a) h) (both-facts 𝓤 a b)
 
 -- what an `ensured` says of the last list of a `&mut [T]`, which stands at some place of the last values
-pub last-at : {M : Type 1} (𝓤 : URA M) (H : Heap 𝓤) (A : Atoms 𝓤) (W : Given 𝓤 H A) (R : RattleType) (ys : List (R .Denot)) (δ : GName) (Z : Type 0) (at : Z → List (R .Denot)) (L : Z → Fml) (said : Z → SProp 𝓤) (φ : List (R .Denot) → Type 0)
+pub last-at : {M : Type 1} (𝓤 : URA M) (H : Heap 𝓤) (A : Atoms 𝓤) (W : Given 𝓤 H A) (R : RattleType)
+    (ys : List (R .Denot)) (δ : GName) (Z : Type 0) (at : Z → List (R .Denot)) (L : Z → Fml) (said : Z → SProp 𝓤)
+    (φ : List (R .Denot) → Type 0)
     → ((z : Z) → ent 𝓤 (sem 𝓤 H A (L z)) (sem 𝓤 H A (fsep (finally R δ (at z)) (feq ℕ (length (at z)) (length ys)))))
     → ((z : Z) → ent 𝓤 (said z) (fact 𝓤 (φ (at z))))
-    → ent 𝓤 (mean 𝓤 H A (some (λ (z : Z). ‵ (L z) ⊛ raw (said z)))) (mean 𝓤 H A (some (λ (zs : List (R .Denot)). ‵ (finally R δ zs) ⊛ raw (fact 𝓤 ((length zs ≡ length ys) × φ zs)))))
+    → ent 𝓤 (mean 𝓤 H A (some (λ (z : Z). ‵ (L z) ⊛ raw (said z))))
+    (mean 𝓤 H A (some (λ (zs : List (R .Denot)). ‵ (finally R δ zs) ⊛ raw
+    (fact 𝓤 ((length zs ≡ length ys) × φ zs)))))
 last-at 𝓤 H A W R ys δ Z at L said φ k told =
-    qed W (some (λ (z : Z). ‵ (L z) ⊛ raw (said z)) ∷ []) ∵ pick ! (λ z. split ! $ move ! (1 ∷ []) $ use1 W (raw (fact 𝓤 (φ (at z)))) (told z) $ heard ! (φ (at z)) (λ e.
-    use1 W (‵ (fsep (finally R δ (at z)) (feq ℕ (length (at z)) (length ys)))) (k z) $ fsplit ! $ move ! (1 ∷ []) $ feqL ! (λ l. show ! (λ (zs : List (R .Denot)). mean 𝓤 H A (‵ (finally R δ zs) ⊛ raw (fact 𝓤 ((length zs ≡ length ys) × φ zs)))) (at z) $ says ! (l, e) $ done !)))
+    qed W (some (λ (z : Z). ‵ (L z) ⊛ raw (said z)) ∷ []) ∵ pick !
+    (λ z. split ! $ move ! (1 ∷ []) $ use1 W (raw (fact 𝓤 (φ (at z)))) (told z) $ heard ! (φ (at z)) (λ e.
+    use1 W (‵ (fsep (finally R δ (at z)) (feq ℕ (length (at z)) (length ys)))) (k z) $ fsplit ! $ move ! (1 ∷ []) $
+    feqL ! (λ l. show ! (λ (zs : List (R .Denot)). mean 𝓤 H A
+    (‵ (finally R δ zs) ⊛ raw (fact 𝓤 ((length zs ≡ length ys) × φ zs)))) (at z) $ says ! (l, e) $ done !)))
 
 -- of one that is the first parameter, where the `ensures` states one fact
-pub last-is : {M : Type 1} (𝓤 : URA M) (H : Heap 𝓤) (A : Atoms 𝓤) (W : Given 𝓤 H A) (R : RattleType) (ys : List (R .Denot)) (δ : GName) (Z : Type 0) (L : List (R .Denot) × Z → Fml) (φ : List (R .Denot) → Type 0)
-    → ((z : List (R .Denot) × Z) → ent 𝓤 (sem 𝓤 H A (L z)) (sem 𝓤 H A (fsep (finally R δ (z .0)) (feq ℕ (length (z .0)) (length ys)))))
-    → ent 𝓤 (mean 𝓤 H A (some (λ (z : List (R .Denot) × Z). ‵ (L z) ⊛ raw (fact 𝓤 (φ (z .0)))))) (mean 𝓤 H A (some (λ (zs : List (R .Denot)). ‵ (finally R δ zs) ⊛ raw (fact 𝓤 ((length zs ≡ length ys) × φ zs)))))
-last-is 𝓤 H A W R ys δ Z L φ k = last-at 𝓤 H A W R ys δ (List (R .Denot) × Z) (λ z. z .0) L (λ z. fact 𝓤 (φ (z .0))) φ k (λ z. id⊢ 𝓤 _)
+pub last-is : {M : Type 1} (𝓤 : URA M) (H : Heap 𝓤) (A : Atoms 𝓤) (W : Given 𝓤 H A) (R : RattleType)
+    (ys : List (R .Denot)) (δ : GName) (Z : Type 0) (L : List (R .Denot) × Z → Fml) (φ : List (R .Denot) → Type 0)
+    → ((z : List (R .Denot) × Z)
+    → ent 𝓤 (sem 𝓤 H A (L z)) (sem 𝓤 H A (fsep (finally R δ (z .0)) (feq ℕ (length (z .0)) (length ys)))))
+    → ent 𝓤 (mean 𝓤 H A (some (λ (z : List (R .Denot) × Z). ‵ (L z) ⊛ raw (fact 𝓤 (φ (z .0))))))
+    (mean 𝓤 H A (some (λ (zs : List (R .Denot)). ‵ (finally R δ zs) ⊛ raw
+    (fact 𝓤 ((length zs ≡ length ys) × φ zs)))))
+last-is 𝓤 H A W R ys δ Z L φ k = last-at 𝓤 H A W R ys δ (List (R .Denot) × Z) (λ z. z .0) L (λ z. fact 𝓤 (φ (z .0))) φ k
+    (λ z. id⊢ 𝓤 _)
 
 -- and where no parameter has a last value
 pub said-is : {M : Type 1} (𝓤 : URA M) (H : Heap 𝓤) (A : Atoms 𝓤) (W : Given 𝓤 H A) (Z : Type 0) (more : Z → Fml)
