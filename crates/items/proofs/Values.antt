@@ -9,7 +9,7 @@ use mir.Val.{Val, WT, hasTy, vint}
 use prog.Wp.{Heap}
 use ghost.Atoms.{Atoms}
 use types.Kit.{Given}
-use denote.Laws.{Is, Copy, Tells}
+use denote.Laws.{Is}
 use denote.Struct.Laws as LL
 use Rattle.items.specs.declared.Item.{Item}
 use Rattle.items.specs.Places.{noItem}

@@ -1,23 +1,28 @@
--- A call that is handed a slice which the caller keeps: the laws that a walk over a `&mut [T]` cites at each call. They
--- say nothing of the crate.
+-- A call that is handed a slice which the caller keeps: the laws that a walk over a lent slice cites at each call. They
+-- say
+-- nothing of a crate, and assume `Given`, and that the table of calls is monotone under a frame, as every `Tables` is.
 --     opened, closed   a `&mut [T]` is opened, and closed at another list of the same length
--- Changes          what a callee does with a `&mut [T]` at ys, at any lifetime: it returns some x, owned as `res x w`
--- at the machine value w, and leaves some list zs as long as ys, with φ x zs
--- calls-lent       the call rule for it, of a caller that holds `&κ mut [T]` at ys beside [κ]_q: once the call has
--- returned the caller holds `&κ mut [T]` at zs, [κ]_q and `res x w`, and knows φ x zs.
--- A lifetime is made, the slice is lent again for it, the callee runs, the lifetime is ended and the slice comes back
--- Reads, calls-read     the same of a callee that takes a `&[T]`: the caller's `&mut [T]` is shared out for the call,
--- and comes back as it was
---     calls-shared     the same of a caller that has a `&[T]` itself, and passes a copy
---     Answers, calls-plain  the same of a callee that takes plain values
+--     looked, shut     a `&[T]` is looked into, and shut
+-- Changes          what a callee does with a `&mut [T]` at ys, at any lifetime: it returns some x, and leaves some list
+--                      zs as long as ys, with φ x zs
+-- calls-lent       the call rule for it, of a caller that holds the slice at ys beside its lifetime's token, and holds
+-- it
+--                      at zs after the call: a lifetime is made, the slice is lent again for it, the callee runs, the
+--                      lifetime is ended and the slice comes back
+--     Reads            what a callee does that takes a `&[T]`
+--     calls-read       of a caller that has a `&mut [T]`, which is shared out for the call and comes back as it was
+--     calls-shared     of a caller that has a `&[T]` itself, and passes a copy
+--     Answers          what a callee does that takes plain values, and calls-plain, its call rule
+--     calls-lent₂      of a callee that takes two `&mut [T]` at once (Changes₂)
+--     changes, looks-at, answers     Changes, Reads and Answers from a contract that the callee meets
 --     takes            what a function has at entry whose first parameter is its one reference
--- loc, fieldv, ptrv, lets, lands-in      a walk's commonest lines: a local's value, a field's, a slice's pointer; a
--- local that is set, or takes a result
+-- loc, fieldv, ptrv, lets, lands-in     a walk's commonest lines: a local's value, a field's, a slice's pointer; a
+-- local
+--                      that is set, or takes a result
 --     ends-local       the local whose cell is entry n is freed, whatever it holds
---     changes, looks-at, answers     the three from a contract that the callee meets
--- Operands are read with two entries in front of the rest of the context (with one, at `calls-plain`), so they stand at
--- the places where they stood before the rule.
--- Assumes `Given`, and that the table of calls is monotone under a frame, as every `Tables` is.
+-- Operands are read with two entries in front of the rest of the context (with one at calls-plain, four at
+-- calls-lent₂), so
+-- they stand at the places where they stood before the rule.
 use mathlib.Core.Path.{_≡_, refl, sym, ap, subst, _∙_}
 use Prim.Native.Nat.{ℕ, zero, _+_}
 use mathlib.Core.List.{List, [], _∷_}
@@ -36,10 +41,10 @@ use base.Fml.{Lft, GName, Share, Fml, ftrue, feq, fat, froom, fdies, fsep, flft,
 use base.Fml.{fshr-bor}
 use prog.Wp.{Heap, Env, Spot, spotOf, Calls, Loops}
 use ghost.Atoms.{Atoms, sem}
-use contract.Monad.{Fun, fact}
+use contract.Monad.{Fun, fact, fact-mono}
 use sound.WpLaws.{FmC, fm→monoC}
 use types.Kit.{Given, Item, ‵, raw, _⊛_, some, later, given, mean, ⋆, nth, del, put, pull, Post, Goal, prop, Soaks}
-use types.Kit.{runs, lands, frees, aim, Seq, Step, step, _$_, _∵_, !, qed, move, keep, use0, use1, use2, use3, drop}
+use types.Kit.{runs, lands, frees, Seq, Step, step, _$_, _∵_, !, qed, move, keep, use0, use1, use2, use3, drop}
 use types.Kit.{split, join, pick, learn, rewrite, fsplit, fjoin, feqI, feqL, frame, await, updating, now as at-once}
 use types.Kit.{show, check, done}
 use types.Run.{Opd, Opds, Rv, Walks, look, init, stop, hop, fld, from, load, addr, assigns, land}
@@ -58,7 +63,7 @@ use denote.Laws.{Is, Tells, Copy, shows}
 use denote.Steps.{only, nothing, heard, facts}
 use denote.Triple.Call.{calls-from}
 use denote.Triple.Statement.{Contract, Triple}
-use denote.Triple.Walked.{says}
+use denote.Triple.Walked.{says, needs}
 
 -- a reference to the elements at (b, o), under a name, at a list
 abbrev pub at-list : (R : RattleType) (b o : ℕ) → GName → List (R .Denot) → RefT (List (R .Denot))
@@ -223,7 +228,44 @@ module _ {M : Type 1} (𝓤 : URA M) (H : Heap 𝓤) (A : Atoms 𝓤) (run : Fun
     pub tells : Tells Res (Is Res) vals
     pub does : ent 𝓤 (emp 𝓤) (run vs (λ w. mean 𝓤 H A (Told φ w)))
 
--- what an `ensured` says of the last list of a `&mut [T]` that is the first parameter
+-- what holds of nothing, side by side, and beside what is to be shown
+pub both-hold : {M : Type 1} (𝓤 : URA M) {P Q : SProp 𝓤} → ent 𝓤 (emp 𝓤) P → ent 𝓤 (emp 𝓤) Q → ent 𝓤 (emp 𝓤) (sep 𝓤 P Q)
+both-hold 𝓤 {P} {Q} h k = via 𝓤 (sep 𝓤 (emp 𝓤) (emp 𝓤)) (emp∗ 𝓤 (emp 𝓤))
+    (via 𝓤 (sep 𝓤 P (emp 𝓤)) (monoL 𝓤 (emp 𝓤) h) (monoR 𝓤 P k))
+
+pub holds : {M : Type 1} {𝓤 : URA M} {H : Heap 𝓤} {A : Atoms 𝓤} {K : Type 0} {W : Given 𝓤 H A} {Γ : List (Item 𝓤)} → K
+    → {P Q : SProp 𝓤} → ent 𝓤 (emp 𝓤) Q → Step K W Γ (prop P) Γ (prop (sep 𝓤 P Q))
+holds {𝓤 = 𝓤} t {P} {Q} h =
+    step (λ s. record {
+      prf =
+          via 𝓤 P (s .prf) (via 𝓤 (sep 𝓤 (emp 𝓤) P) (emp∗ 𝓤 P) (via 𝓤 (sep 𝓤 Q P) (monoL 𝓤 P h) (comm∗ 𝓤 Q P)));
+    })
+
+-- two facts side by side are one
+pub both-facts : {M : Type 1} (𝓤 : URA M) (a b : Type 0) → ent 𝓤 (sep 𝓤 (fact 𝓤 a) (fact 𝓤 b)) (fact 𝓤 (a × b))
+both-facts 𝓤 a b = needs 𝓤 b (fact 𝓤 a) (λ y. fact-mono 𝓤 a (a × b) (λ x. (x, y)))
+
+pub more-facts : {M : Type 1} (𝓤 : URA M) (a b : Type 0) (P : SProp 𝓤) → ent 𝓤 P (fact 𝓤 b)
+    → ent 𝓤 (sep 𝓤 (fact 𝓤 a) P) (fact 𝓤 (a × b))
+more-facts 𝓤 a b P h = via 𝓤 (sep 𝓤 (fact 𝓤 a) (fact 𝓤 b)) (monoR 𝓤 (fact 𝓤 a) h) (both-facts 𝓤 a b)
+
+-- what an `ensured` says of the last list of a `&mut [T]`, which stands at some place of the last values
+pub last-at : {M : Type 1} (𝓤 : URA M) (H : Heap 𝓤) (A : Atoms 𝓤) (W : Given 𝓤 H A) (R : RattleType)
+    (ys : List (R .Denot)) (δ : GName) (Z : Type 0) (at : Z → List (R .Denot)) (L : Z → Fml) (said : Z → SProp 𝓤)
+    (φ : List (R .Denot) → Type 0)
+    → ((z : Z) → ent 𝓤 (sem 𝓤 H A (L z)) (sem 𝓤 H A (fsep (finally R δ (at z)) (feq ℕ (length (at z)) (length ys)))))
+    → ((z : Z) → ent 𝓤 (said z) (fact 𝓤 (φ (at z))))
+    → ent 𝓤 (mean 𝓤 H A (some (λ (z : Z). ‵ (L z) ⊛ raw (said z))))
+    (mean 𝓤 H A (some (λ (zs : List (R .Denot)). ‵ (finally R δ zs) ⊛ raw
+    (fact 𝓤 ((length zs ≡ length ys) × φ zs)))))
+last-at 𝓤 H A W R ys δ Z at L said φ k told =
+    qed W (some (λ (z : Z). ‵ (L z) ⊛ raw (said z)) ∷ []) ∵ pick !
+    (λ z. split ! $ move ! (1 ∷ []) $ use1 W (raw (fact 𝓤 (φ (at z)))) (told z) $ heard ! (φ (at z)) (λ e.
+    use1 W (‵ (fsep (finally R δ (at z)) (feq ℕ (length (at z)) (length ys)))) (k z) $ fsplit ! $ move ! (1 ∷ []) $
+    feqL ! (λ l. show ! (λ (zs : List (R .Denot)). mean 𝓤 H A
+    (‵ (finally R δ zs) ⊛ raw (fact 𝓤 ((length zs ≡ length ys) × φ zs)))) (at z) $ says ! (l, e) $ done !)))
+
+-- of one that is the first parameter, where the `ensures` states one fact
 pub last-is : {M : Type 1} (𝓤 : URA M) (H : Heap 𝓤) (A : Atoms 𝓤) (W : Given 𝓤 H A) (R : RattleType)
     (ys : List (R .Denot)) (δ : GName) (Z : Type 0) (L : List (R .Denot) × Z → Fml) (φ : List (R .Denot) → Type 0)
     → ((z : List (R .Denot) × Z)
@@ -231,12 +273,8 @@ pub last-is : {M : Type 1} (𝓤 : URA M) (H : Heap 𝓤) (A : Atoms 𝓤) (W : 
     → ent 𝓤 (mean 𝓤 H A (some (λ (z : List (R .Denot) × Z). ‵ (L z) ⊛ raw (fact 𝓤 (φ (z .0))))))
     (mean 𝓤 H A (some (λ (zs : List (R .Denot)). ‵ (finally R δ zs) ⊛ raw
     (fact 𝓤 ((length zs ≡ length ys) × φ zs)))))
-last-is 𝓤 H A W R ys δ Z L φ k =
-    qed W (some (λ (z : List (R .Denot) × Z). ‵ (L z) ⊛ raw (fact 𝓤 (φ (z .0)))) ∷ []) ∵
-    pick ! (λ z. split ! $ move ! (1 ∷ []) $ heard ! (φ (z .0)) (λ e.
-    use1 W (‵ (fsep (finally R δ (z .0)) (feq ℕ (length (z .0)) (length ys)))) (k z) $ fsplit ! $ move ! (1 ∷ []) $
-    feqL ! (λ l. show ! (λ (zs : List (R .Denot)). mean 𝓤 H A
-    (‵ (finally R δ zs) ⊛ raw (fact 𝓤 ((length zs ≡ length ys) × φ zs)))) (z .0) $ says ! (l, e) $ done !)))
+last-is 𝓤 H A W R ys δ Z L φ k = last-at 𝓤 H A W R ys δ (List (R .Denot) × Z) (λ z. z .0) L (λ z. fact 𝓤 (φ (z .0))) φ k
+    (λ z. id⊢ 𝓤 _)
 
 -- and where no parameter has a last value
 pub said-is : {M : Type 1} (𝓤 : URA M) (H : Heap 𝓤) (A : Atoms 𝓤) (W : Given 𝓤 H A) (Z : Type 0) (more : Z → Fml)
