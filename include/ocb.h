@@ -5,8 +5,8 @@
  * of work and no work is on its way; then each node leaves it. A node counts what it sends and takes, passes its counts
  * on in small frames while it has nothing to do, and comes back to work whenever work comes in.
  *
- * The functions hold no memory of their own and call nothing. The caller lends each call what it reads and writes: a
- * state of OCB_STATE_WORDS words for each node, frames as bytes, a few words for an answer. Any numbers and bytes may
+ * The functions hold no memory of their own and call memcpy alone. The caller lends each call what it reads and writes:
+ * a state of OCB_STATE_WORDS words for each node, frames as bytes, a few words for an answer. Any numbers and bytes may
  * be handed in; what is not allowed is refused with its number, and a refused call leaves the state and the buffer as
  * they were. What stays with the caller: links that keep the order of what one node sends to another; one call at a
  * time on a state; pointers that are aligned and not null, also where a count is 0, to memory that does not overlap.
@@ -29,8 +29,8 @@
  *         return answer;
  *     }
  *
- *     // The oldest item on the link from a node. An early one is of the next cycle: it stays on its link, with all that
- *     // is behind it, and is handed in again until this node has left its cycle.
+ *     // The oldest item on the link from a node. An early one is of the next cycle: it stays on its link, with all
+ *     // that is behind it, and is handed in again until this node has left its cycle.
  *     void item_in(uint32_t from)
  *     {
  *         struct item *item = link_oldest(from);
