@@ -1,0 +1,4 @@
+pub mod Links
+pub mod Memory
+pub mod Same
+pub mod Follows

@@ -79,6 +79,7 @@ module _ {L : Limits} {P : ℕ} (setting : Setting L P) (w : Board) (s : Standin
   facts : Facts L P w
   facts =
       record {
+        own = λ a h. (sim .node a h .nodes, sim .node a h .number);
         accepted = s .accepted;
         close = λ a b h k. omega (arith, within-one (s .played .reached) a b h k, sim .counts a, sim .counts b);
         underWay = near;
@@ -105,6 +106,10 @@ module _ (L : Limits) (one-node : 1 ≤ L .nodes) (w : Board) (i : Alone L one-n
   lone-facts : Facts L 1 w
   lone-facts =
       record {
+        own =
+            λ a h. let z : 0 ≡ a = omega arith in
+            subst (λ a. (w .nodes a .nodes ≡ 1) × (w .nodes a .number ≡ a)) z
+            (ap (λ n. n .nodes) (i .node), ap (λ n. n .number) (i .node));
         accepted =
             λ a h. let z : 0 ≡ a = omega arith in
             subst (λ a. valid L (w .nodes a) ≡ true) z

@@ -13,6 +13,8 @@ use Rattle.runs.specs.Claim.{Fit}
 
 module _ (L : Limits) (P : ℕ) where
   pub record Facts (w : Board) : Type 0 where
+    -- a node's state names the board's size and its own number
+    pub own : (a : ℕ) → a < P → (w .nodes a .nodes ≡ P) × (w .nodes a .number ≡ a)
     -- every node's state passes the test, so no call on it is refused with 13
     pub accepted : (a : ℕ) → a < P → valid L (w .nodes a) ≡ true
     -- the phases of two nodes differ by at most one

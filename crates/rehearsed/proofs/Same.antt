@@ -1,0 +1,116 @@
+-- The rehearsal's board and lent memory hold what a board of document 01 does, and what each change of the one has to
+-- be in the other.
+use mathlib.Core.Path.{_≡_, refl, sym, ap, _∙_, subst}
+use mathlib.Core.Logic.{_≢_}
+use mathlib.Core.List.{List, [], _∷_, _++_}
+use Prim.Native.Nat.{ℕ, suc, _+_, _-_, _*_, _≤_, _<_}
+use native.Mathlib.Decide.{ℕ-discrete}
+use native.Mathlib.Omega.{arith}
+use lib.Dec.{eqb}
+use lib.ListN.{length, getD, set, length-set, length-append}
+use lib.Seq.{getD-set-same, getD-set-other}
+use Rattle.base.specs.Choice.{choose}
+use Rattle.tree.specs.Tree.{dimension}
+use Rattle.node.specs.Change.{noNode}
+use Rattle.node.specs.declared.Node.{Node}
+use Rattle.runs.specs.Board.{put, Load, work, frame, Item, Board, without}
+use Rattle.runs.proofs.Tools.{put-all}
+use Rattle.items.specs.Places.{noItem, removed}
+use Rattle.items.specs.declared.Item.{Item as Header}
+use Rattle.turns.specs.Frames.{placeSize, roomFor, closed}
+use Rattle.turns.specs.Events.{nodeAt, changed}
+use Rattle.turns.specs.Pieces.{frameHeld}
+use Rattle.turns.specs.declared.Stage.{Stage}
+use Rattle.turns.proofs.Turning.{length-moved}
+use Rattle.rehearsed.proofs.Links.{placeIn, Stand, stand-more, stand-less, length-less}
+use Rattle.rehearsed.proofs.Memory.{header-before, header-after, length-closed}
+use Rattle.rehearsed.proofs.Memory.{held-closed-before, held-closed-after}
+
+-- what stands at a place: work with its phase byte, or the frame held there
+abbrev pub loadAt : ℕ → List Header → List ℕ → ℕ → Load
+loadAt P items bytes j =
+    choose (eqb (getD items j noItem .kind) 0) (work (getD items j noItem .phase)) (frame (frameHeld P bytes j))
+
+pub record Stands (P : ℕ) (items : List Header) (bytes : List ℕ) (j : ℕ) (m : Item) : Type 0 where
+  pub from : getD items j noItem .from ≡ m .from
+  pub to : getD items j noItem .to ≡ m .to
+  pub load : loadAt P items bytes j ≡ m .load
+
+pub record Same (P : ℕ) (st : Stage) (items : List Header) (bytes : List ℕ) (w : Board) : Type 0 where
+  pub size : st .size ≡ P
+  pub array : length (st .nodes) ≡ 16
+  pub nodes : (a : ℕ) → a < P → nodeAt st a ≡ w .nodes a
+  pub under : length (w .items) ≡ st .under
+  pub lent : st .under ≤ roomFor (length items) bytes
+  pub stand : Stand (Stands P items bytes) 0 (w .items)
+
+-- ---- a node has given back a state
+
+module _ (P : ℕ) (few : P ≤ 16) (st : Stage) (f : ℕ → Node) (array : length (st .nodes) ≡ 16)
+    (same : (a : ℕ) → a < P → nodeAt st a ≡ f a) (a : ℕ) (h : a < P) where
+  pub node-changed : (n : Node) (under : ℕ) → nodeAt (changed st a n under) a ≡ n
+  node-changed n under = getD-set-same (st .nodes) a n noNode (omega arith)
+
+  pub nodes-changed : (n : Node) (under b : ℕ) → b < P → nodeAt (changed st a n under) b ≡ put f a n b
+  nodes-changed n under =
+      put-all (λ b m. b < P → nodeAt (changed st a n under) b ≡ m) f a n (λ l. node-changed n under)
+      (λ b z l. getD-set-other (st .nodes) a b n noNode z ∙ same b l)
+
+  pub nodes-kept : (n : Node) → n ≡ f a → (b : ℕ) → b < P → nodeAt st b ≡ put f a n b
+  nodes-kept n e = put-all (λ b m. b < P → nodeAt st b ≡ m) f a n (λ l. same a h ∙ sym e) (λ b z l. same b l)
+
+-- ---- the lent memory
+
+pub stands-as : {P : ℕ} {items : List Header} {bytes : List ℕ} {i : ℕ} (now : List Header) (then : List ℕ) (j : ℕ)
+    {m : Item} → getD now j noItem ≡ getD items i noItem → frameHeld P then j ≡ frameHeld P bytes i
+    → Stands P items bytes i m → Stands P now then j m
+stands-as {P} {items} {bytes} {i} now then j {m} e f s =
+    record {
+      from = ap (λ x. x .from) e ∙ s .from;
+      to = ap (λ x. x .to) e ∙ s .to;
+      load =
+          (λ t. choose (eqb (e t .kind) 0) (work (e t .phase)) (frame (f t))) ∙ s .load;
+    }
+
+-- an item is put after the last; its frame, if it has one, is written at its place
+pub stand-put : (P : ℕ) (items : List Header) (bytes then : List ℕ) (ms : List Item) (x : Header) (m : Item) (i : ℕ)
+    → length ms ≡ i → i < length items → ((j : ℕ) → j < i → frameHeld P then j ≡ frameHeld P bytes j)
+    → x .from ≡ m .from → x .to ≡ m .to
+    → choose (eqb (x .kind) 0) (work (x .phase)) (frame (frameHeld P then i)) ≡ m .load
+    → Stand (Stands P items bytes) 0 ms → Stand (Stands P (set items i x) then) 0 (ms ++ m ∷ [])
+stand-put P items bytes then ms x m i len room held from to load s =
+    let now = set items i x in
+    let e : i ≡ 0 + length ms = omega arith in
+    stand-more (Stands P items bytes) (Stands P now then) 0 ms m
+    (λ j y h. stands-as now then j (getD-set-other items i j x noItem (λ z. omega arith)) (held j (omega arith)))
+    (subst (λ k. Stands P now then k m) e last) s
+  where
+    here : getD (set items i x) i noItem ≡ x
+    here = getD-set-same items i x noItem room
+
+    last : Stands P (set items i x) then i m
+    last =
+        record {
+          from = ap (λ y. y .from) here ∙ from;
+          to = ap (λ y. y .to) here ∙ to;
+          load = (λ t. choose (eqb (here t .kind) 0) (work (here t .phase)) (frame (frameHeld P then i))) ∙ load;
+        }
+
+-- the oldest item of a link goes
+pub stand-off : (P : ℕ) → dimension P ≤ 8 → (items : List Header) (bytes : List ℕ) (ms : List Item) (n a b : ℕ)
+    → length ms ≡ n → n ≤ length items → placeSize * n ≤ length bytes → placeIn a b ms < n
+    → Stand (Stands P items bytes) 0 ms
+    → Stand (Stands P (removed items n (placeIn a b ms)) (closed bytes n (placeIn a b ms))) 0 (without a b ms)
+stand-off P dim items bytes ms n a b len room lent there s =
+    let at = placeIn a b ms in
+    let now = removed items n at in
+    let then = closed bytes n at in
+    stand-less (Stands P items bytes) (Stands P now then) a b 0 ms
+    (λ j m h.
+    stands-as now then j (header-before items n at j (omega arith))
+    (held-closed-before P dim bytes n at j (omega arith) there lent))
+    (λ j m h l.
+    let e : j + 1 ≡ suc j = omega arith in
+    stands-as now then j
+    (header-after items n at j room (omega arith) (omega arith) ∙ ap (λ k. getD items k noItem) e)
+    (held-closed-after P dim bytes n at j (omega arith) (omega arith) lent ∙ ap (frameHeld P bytes) e)) s
