@@ -2,3 +2,4 @@ pub mod Links
 pub mod Memory
 pub mod Same
 pub mod Follows
+pub mod Acting
