@@ -3,3 +3,4 @@ pub mod Memory
 pub mod Same
 pub mod Follows
 pub mod Acting
+pub mod Delivering

@@ -1,0 +1,185 @@
+-- The turn of a delivery follows its event.
+use mathlib.Core.Path.{_≡_, refl, sym, ap, _∙_, subst}
+use mathlib.Core.Logic.{_≢_}
+use mathlib.Core.Option.{Option, none, some}
+use mathlib.Core.List.{List}
+use Prim.Native.Nat.{ℕ, _+_, _-_, _*_, _≤_, _<_}
+use native.Mathlib.Omega.{arith}
+use lib.Dec.{eqb}
+use lib.ListN.{length, getD}
+use borrow.Author.Tests.{eq-eqb, ne-eqb}
+use Rattle.base.specs.Choice.{choose}
+use Rattle.base.specs.Limits.{base}
+use Rattle.base.proofs.Laws.{choose-yes, choose-no, cases}
+use Rattle.tree.proofs.Dimension.{smallest}
+use Rattle.node.specs.Answers.{Given, give, Outcome, outcomeNumber}
+use Rattle.node.specs.Calls.{take, frameIn}
+use Rattle.node.specs.declared.Node.{Node}
+use Rattle.node.proofs.Ways.{TakeWay, take-way, FrameWay, frame-way}
+use Rattle.runs.specs.Board.{put, Load, work, frame, Item, Board, delivers, gave, oldest, without, afterTake, afterFrame, offUnlessEarly}
+use Rattle.runs.specs.Board.{delivered, deliveredOldest, step}
+use Rattle.runs.specs.Facts.{Facts}
+use Rattle.runs.specs.Printed.{line, loadAnswer, deliveryAnswer, printed}
+use Rattle.items.specs.Places.{noItem, placeFrom, oldestAt, removed}
+use Rattle.items.specs.declared.Item.{Item as Header}
+use Rattle.turns.specs.Frames.{placeSize, roomFor, closed}
+use Rattle.turns.specs.Events.{Turn, nodeAt, changed, unchanged, frameAt, called, deliveredAt, deliverTurn}
+use Rattle.turns.specs.Pieces.{frameHeld}
+use Rattle.turns.specs.declared.Stage.{Stage}
+use Rattle.turns.proofs.Turning.{length-moved}
+use Rattle.rehearsed.proofs.Links.{placeIn, Stand, length-less, Found, found, place-found}
+use Rattle.rehearsed.proofs.Memory.{length-closed}
+use Rattle.rehearsed.proofs.Same.{Stands, Same, stand-off}
+use Rattle.rehearsed.proofs.Follows.{Follows, Roomy, roomy, refused-follows, changes-follow}
+
+module _ {P : ℕ} {st : Stage} {items : List Header} {bytes : List ℕ} {w : Board} (few : P ≤ 16)
+    (s : Same P st items bytes w) (facts : Facts base P w) (a b : ℕ) (h : b < P) where
+  same : nodeAt st b ≡ w .nodes b
+  same = s .nodes b h
+
+  abbrev k : ℕ
+  k = placeIn a b (w .items)
+
+  abbrev Shows : Board → ℕ → Turn → Type 0
+  Shows next x = Follows P w next (line b x (next .nodes b))
+
+  -- the item found at the place k
+  module _ (m : Item) (first : oldest a b (w .items) ≡ some m) (there : k < st .under) where
+    -- it goes
+    off-follows : (n : Node) (o : Outcome) (x : ℕ) (next : Board) → x ≢ 7 → x ≢ 15
+        → next .nodes ≡ put (w .nodes) b n → next .items ≡ without a b (w .items)
+        → Shows next x (deliveredAt st items bytes b k (give n o) x)
+    off-follows n o x next early full e i =
+        subst (Shows next x) (sym (choose-no _ _ (ne-eqb x 7 early)))
+        (changes-follow few s b h n (st .under - 1) x now then next full e
+        (ap length i ∙ omega (arith, length-less a b (w .items) (omega (arith, s .under)), s .under))
+        (omega (arith, s .lent, headers, wide))
+        (subst (Stand (Stands P now then) 0) (sym i)
+        (stand-off P (smallest P 8 (omega arith)) items bytes (w .items) (st .under) a b (s .under) (room .headed)
+        (room .lent) there (s .stand))))
+      where
+        room : Roomy (st .under) (length items) bytes
+        room = roomy (st .under) (length items) bytes (s .lent)
+
+        now : List Header
+        now = removed items (st .under) k
+
+        then : List ℕ
+        then = closed bytes (st .under) k
+
+        headers : length now ≡ length items
+        headers = length-moved items k (st .under - (k + 1))
+
+        wide : length then ≡ length bytes
+        wide = length-closed bytes (st .under) k there (room .lent)
+
+    -- it is early, and stays
+    early-follows : (x : ℕ) → x ≡ 7 → Shows (offUnlessEarly (gave w b (w .nodes b)) a b x) x
+        (deliveredAt st items bytes b k (give (w .nodes b) (Outcome.refused x)) x)
+    early-follows x e =
+        subst (λ x. Shows (offUnlessEarly (gave w b (w .nodes b)) a b x) x
+        (deliveredAt st items bytes b k (give (w .nodes b) (Outcome.refused x)) x)) (sym e)
+        (refused-follows few s b h 7)
+
+    take-follows : (byte : ℕ) → m .load ≡ work byte → {g : Given Outcome} → TakeWay base (w .nodes b) a byte g
+        → take base (w .nodes b) a byte ≡ g
+        → let next = afterTake (gave w b (g .node)) a b m (g .answer) in
+        Shows next (outcomeNumber (g .answer)) (deliveredAt st items bytes b k g (outcomeNumber (g .answer)))
+    take-follows byte l (TakeWay.refused x r) e =
+        early-follows x (facts .takeEarly a b m byte x first l (ap (λ g. g .answer) e))
+    take-follows byte l (TakeWay.done v q o d r) e =
+        off-follows _ Outcome.done 0 _ (λ z. omega arith) (λ z. omega arith) refl refl
+
+    frame-follows : (bs : List ℕ) → m .load ≡ frame bs → {g : Given Outcome} → FrameWay base (w .nodes b) bs g
+        → frameIn base (w .nodes b) bs ≡ g
+        → let next = afterFrame (gave w b (g .node)) a b (g .answer) in
+        Shows next (outcomeNumber (g .answer)) (deliveredAt st items bytes b k g (outcomeNumber (g .answer)))
+    frame-follows bs l (FrameWay.refused x r) e =
+        early-follows x (facts .frameEarly a b m bs x first l (ap (λ g. g .answer) e))
+    frame-follows bs l (FrameWay.early c d) e = early-follows 7 refl
+    frame-follows bs l (FrameWay.foreign c d u v) e =
+        early-follows 8 (facts .frameEarly a b m bs 8 first l (ap (λ g. g .answer) e))
+    frame-follows bs l (FrameWay.late c d) e =
+        off-follows _ Outcome.dropped 24 _ (λ z. omega arith) (λ z. omega arith) refl refl
+    frame-follows bs l (FrameWay.done c d) e =
+        off-follows _ Outcome.done 0 _ (λ z. omega arith) (λ z. omega arith) refl refl
+
+    -- with the call that its kind stands for
+    abbrev head : Header
+    head = getD items k noItem
+
+    load-follows : Stands P items bytes k m
+        → let r = called st items bytes a b k in
+        Shows (delivered base P w a b m (m .load)) (loadAnswer w a b (m .load))
+        (deliveredAt st items bytes b k r (outcomeNumber (r .answer)))
+    load-follows i =
+        cases
+        (λ r.
+        Shows (delivered base P w a b m (m .load)) (loadAnswer w a b (m .load))
+        (deliveredAt st items bytes b k r (outcomeNumber (r .answer))))
+        (eqb (head .kind) 0) _ _ (λ t. by-load (work (head .phase)) (sym (i .load) ∙ choose-yes _ _ t) taken)
+        (λ t. by-load (frame (frameHeld P bytes k)) (sym (i .load) ∙ choose-no _ _ t) got)
+      where
+        by-load : (l : Load) → m .load ≡ l → {t : Turn}
+            → (m .load ≡ l → Shows (delivered base P w a b m l) (loadAnswer w a b l) t)
+            → Shows (delivered base P w a b m (m .load)) (loadAnswer w a b (m .load)) t
+        by-load l e {t} f =
+            subst (λ l. Shows (delivered base P w a b m l) (loadAnswer w a b l) t) (sym e) (f e)
+
+        taken : m .load ≡ work (head .phase)
+            → let r = take base (nodeAt st b) a (head .phase) in
+            Shows (delivered base P w a b m (work (head .phase))) (loadAnswer w a b (work (head .phase)))
+            (deliveredAt st items bytes b k r (outcomeNumber (r .answer)))
+        taken l =
+            subst
+            (λ n.
+            let r = take base n a (head .phase) in
+            Shows (delivered base P w a b m (work (head .phase))) (loadAnswer w a b (work (head .phase)))
+            (deliveredAt st items bytes b k r (outcomeNumber (r .answer))))
+            (sym same) (take-follows (head .phase) l (take-way base (w .nodes b) a (head .phase)) refl)
+
+        got : m .load ≡ frame (frameHeld P bytes k)
+            → let r = frameIn base (nodeAt st b) (frameAt st bytes k) in
+            Shows (delivered base P w a b m (frame (frameHeld P bytes k)))
+            (loadAnswer w a b (frame (frameHeld P bytes k)))
+            (deliveredAt st items bytes b k r (outcomeNumber (r .answer)))
+        got l =
+            let bs = frameHeld P bytes k in
+            subst
+            (λ r.
+            Shows (delivered base P w a b m (frame bs)) (loadAnswer w a b (frame bs))
+            (deliveredAt st items bytes b k r (outcomeNumber (r .answer))))
+            (λ i. frameIn base (sym same i) (frameHeld (sym (s .size) i) bytes k))
+            (frame-follows bs l (frame-way base (w .nodes b) bs) refl)
+
+  turnAt : ℕ → Turn
+  turnAt at =
+      let r = called st items bytes a b at in
+      choose (eqb at (st .under)) (unchanged st items bytes b 16)
+      (deliveredAt st items bytes b at r (outcomeNumber (r .answer)))
+
+  place-is : oldestAt items (st .under) a b ≡ k
+  place-is =
+      ap (placeFrom items a b 0) (sym (s .under))
+      ∙ place-found a b items (Stands P items bytes) (λ j m r. (r .from, r .to)) 0 (w .items) (s .stand)
+      ∙ omega arith
+
+  found-follows : {o : Option Item} → oldest a b (w .items) ≡ o → Found a b (Stands P items bytes) 0 (w .items) o
+      → Shows (deliveredOldest base P w a b o) (deliveryAnswer w a b o) (turnAt k)
+  unfolding turnAt
+  found-follows e (Found.nothing z) =
+      subst (Shows w 16) (sym (choose-yes _ _ (eq-eqb k (st .under) (z ∙ s .under))))
+      (Follows.on (λ z. omega arith) s (ap (line b 16) same))
+  found-follows e (Found.there m l i) =
+      let there : k < st .under = omega (arith, s .under) in
+      let z : 0 + k ≡ k = omega arith in
+      subst (Shows (delivered base P w a b m (m .load)) (loadAnswer w a b (m .load)))
+      (sym (choose-no _ _ (ne-eqb k (st .under) (λ y. omega arith))))
+      (load-follows m e there (subst (λ j. Stands P items bytes j m) z i))
+
+  pub deliver-follows : Follows P w (step base P w (delivers a b)) (printed P w (delivers a b))
+      (deliverTurn st items bytes a b)
+  unfolding step deliverTurn turnAt
+  deliver-follows =
+      subst (Follows P w (step base P w (delivers a b)) (printed P w (delivers a b))) (ap turnAt (sym place-is))
+      (found-follows refl (found a b (Stands P items bytes) 0 (w .items) (s .stand)))
