@@ -28,9 +28,8 @@ unfoldable pub moved : List Item → ℕ → ℕ → List Item
 moved items i zero = items
 moved items i (suc count) = moved (set items i (getD items (i + 1) noItem)) (i + 1) count
 
--- "Removal closes the gap": of n items the one at a place goes, and those after it move down; the last place keeps what
--- it
--- had
+-- "Removal closes the gap": of n items the one at a place goes, and those after it move down; the last place keeps
+-- what it had
 abbrev pub removed : List Item → ℕ → ℕ → List Item
 removed items n at = moved items at (n - (at + 1))
 

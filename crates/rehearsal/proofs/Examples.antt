@@ -40,7 +40,8 @@ script =
 
 abbrev output : List ℕ
 output =
-    110 ∷ 111 ∷ 100 ∷ 101 ∷ 32 ∷ 97 ∷ 110 ∷ 115 ∷ 119 ∷ 101 ∷ 114 ∷ 32 ∷ 112 ∷ 104 ∷ 97 ∷ 115 ∷ 101 ∷ 32 ∷ 112 ∷ 97 ∷ 115 ∷ 115 ∷ 32 ∷ 100 ∷ 105 ∷ 109 ∷ 32 ∷ 102 ∷ 108 ∷ 97 ∷ 103 ∷ 32 ∷ 98 ∷ 117 ∷ 115 ∷ 121 ∷ 10
+    110 ∷ 111 ∷ 100 ∷ 101 ∷ 32 ∷ 97 ∷ 110 ∷ 115 ∷ 119 ∷ 101 ∷ 114 ∷ 32 ∷ 112 ∷ 104 ∷ 97 ∷ 115 ∷ 101 ∷ 32
+    ∷ 112 ∷ 97 ∷ 115 ∷ 115 ∷ 32 ∷ 100 ∷ 105 ∷ 109 ∷ 32 ∷ 102 ∷ 108 ∷ 97 ∷ 103 ∷ 32 ∷ 98 ∷ 117 ∷ 115 ∷ 121 ∷ 10
     ∷ 48 ∷ 32 ∷ 48 ∷ 32 ∷ 48 ∷ 32 ∷ 49 ∷ 32 ∷ 48 ∷ 32 ∷ 49 ∷ 32 ∷ 48 ∷ 10
     ∷ 48 ∷ 32 ∷ 50 ∷ 48 ∷ 32 ∷ 48 ∷ 32 ∷ 49 ∷ 32 ∷ 48 ∷ 32 ∷ 48 ∷ 32 ∷ 48 ∷ 10
     ∷ 49 ∷ 32 ∷ 48 ∷ 32 ∷ 48 ∷ 32 ∷ 49 ∷ 32 ∷ 48 ∷ 32 ∷ 49 ∷ 32 ∷ 48 ∷ 10
@@ -60,7 +61,7 @@ output =
 pub worked : play script (replicate 4 noItem) (replicate 304 0) .text ≡ output
 unfolding smallestFrom dimension part runBelow runOf placeIn place awaited receivers distanceBelow distance fourBytes
     bytesOf wordAt frameLength numbersOf frameBytes shellAt fieldsOf numbersOk timing own ownIssued firstClauses
-    secondClauses agrees boardOk positionOk talliesOk totalOk firstOk secondOk passedOk busyOk valid send take idle gotten
-    frameIn frameDue barrier before partsWithin lineOf lineAt placeFrom moved closed framed sendTurn idleTurn callTurn
+    secondClauses agrees boardOk positionOk talliesOk totalOk firstOk secondOk passedOk busyOk valid send take idle
+    gotten frameIn frameDue barrier before partsWithin lineOf lineAt placeFrom moved closed framed sendTurn idleTurn callTurn
     deliverTurn digits turnText stopText playFrom play
 worked = refl

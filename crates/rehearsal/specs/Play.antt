@@ -71,8 +71,8 @@ playOpened script next items bytes (Idles a) = stopped (number Refusal.script) 1
 playOpened script next items bytes (Calls a) = stopped (number Refusal.script) 1 items bytes
 playOpened script next items bytes Bad = stopped (number Refusal.script) 1 items bytes
 
--- "The program reads a script of at most 4,096 bytes .. It prints a header line, then a line per event .. (17 at line 0 for a
--- script too long; the header stands first)."
+-- "The program reads a script of at most 4,096 bytes .. It prints a header line, then a line per event .. (17 at line 0
+-- for a script too long; the header stands first)."
 unfoldable pub play : List ℕ → List Item → List ℕ → Played
 play script items bytes =
     let first = lineAt script 0 in

@@ -2,9 +2,9 @@
 use mathlib.Core.Path.{_≡_, refl, sym, ap, _∙_, subst}
 use mathlib.Core.Bool.{true, false}
 use mathlib.Core.List.{List, [], _∷_, _++_, append-assoc}
-use Prim.Native.Nat.{ℕ, suc, _+_, _*_, _≤_, _<_}
+use Prim.Native.Nat.{ℕ, _+_, _*_, _≤_, _<_}
 use native.Mathlib.Omega.{arith}
-use lib.Dec.{ltb, eqb}
+use lib.Dec.{ltb}
 use lib.ListN.{length, getD, set, length-set, length-append}
 use borrow.Author.Tests.{ltb-true, lt-ltb}
 use Rattle.base.specs.Choice.{choose}
@@ -21,7 +21,7 @@ use Rattle.node.specs.Calls.{send, oneSent, idle}
 use Rattle.node.specs.Barrier.{frameDue, lengthDue, receiversDue, barrier}
 use Rattle.node.specs.declared.Node.{Node}
 use Rattle.node.proofs.Valid.{valid-known}
-use Rattle.node.proofs.Bound.{Headed, due-headed, due-length}
+use Rattle.node.proofs.Bound.{due-headed, due-length}
 use Rattle.node.proofs.Ways.{SendWay, send-way, idle-does, CallWay, call-way}
 use Rattle.runs.specs.Board.{put, work, frame, Item, Board, sends, idles, calls, gave, carries, posted, sentOut}
 use Rattle.runs.specs.Board.{sendEvent, idleEvent, callEvent}
@@ -31,13 +31,13 @@ use Rattle.runs.specs.Printed.{line, printed}
 use Rattle.runs.proofs.Tools.{put-same}
 use Rattle.items.specs.declared.Item.{Item as Header}
 use Rattle.turns.specs.Frames.{placeSize, roomFor, framed}
-use Rattle.turns.specs.Events.{Turn, nodeAt, changed, workItem, frameItem, crowded, sentBy, framedTo, calledBy}
+use Rattle.turns.specs.Events.{Turn, nodeAt, changed, workItem, frameItem, sentBy, framedTo, calledBy}
 use Rattle.turns.specs.Events.{sendTurn, idleTurn, callTurn}
 use Rattle.turns.specs.declared.Stage.{Stage}
 use Rattle.rehearsed.proofs.Links.{Stand}
 use Rattle.rehearsed.proofs.Memory.{length-framed, held-framed-before, held-framed-at}
 use Rattle.rehearsed.proofs.Same.{Stands, Same, stand-put}
-use Rattle.rehearsed.proofs.Follows.{Follows, follows-as, Roomy, roomy, refused-follows, changes-follow}
+use Rattle.rehearsed.proofs.Follows.{Follows, follows-as, roomy, refused-follows, changes-follow}
 use Rattle.rehearsed.proofs.Follows.{quiet-follows}
 
 -- a frame goes to two nodes at most
@@ -97,7 +97,13 @@ module _ {P : ℕ} {st : Stage} {items : List Header} {bytes : List ℕ} {w : Bo
       let n = oneSent (w .nodes a) (distance (w .nodes a .nodes) (w .nodes a .number) b) in
       let it = workItem a b (nodeAt st a) in
       let next = sentOut (gave w a n) a b in
-      let m : Item = record { from = a; to = b; load = work (put (w .nodes) a n a .phase); phase = w .count a; name = w .sends } in
+      let m : Item = record {
+        from = a;
+        to = b;
+        load = work (put (w .nodes) a n a .phase);
+        phase = w .count a;
+        name = w .sends;
+      } in
       cases (Follows P w next (line a 0 (next .nodes a))) (ltb (st .under) (roomFor (length items) bytes)) _ _
       (λ e.
       let lent = ltb-true _ _ e in
@@ -107,8 +113,8 @@ module _ {P : ℕ} {st : Stage} {items : List Header} {bytes : List ℕ} {w : Bo
       changes-follow few s a h n (st .under + 1) 0 (set items (st .under) it) bytes next (λ z. omega arith) refl
       (length-append (w .items) (m ∷ []) ∙ omega (arith, s .under))
       (subst (λ k. st .under + 1 ≤ roomFor k bytes) (sym long) (one-more lent))
-      (stand-put P items bytes bytes (w .items) it m (st .under) (s .under) (omega (arith, roomy _ _ bytes (one-more lent) .headed))
-      (λ j l. refl) refl refl phase (s .stand)))
+      (stand-put P items bytes bytes (w .items) it m (st .under) (s .under)
+      (omega (arith, roomy _ _ bytes (one-more lent) .headed)) (λ j l. refl) refl refl phase (s .stand)))
       (λ e. Follows.out refl s)
 
   pub send-follows : (b : ℕ)

@@ -1,9 +1,9 @@
 -- The turn of a delivery follows its event.
 use mathlib.Core.Path.{_≡_, refl, sym, ap, _∙_, subst}
 use mathlib.Core.Logic.{_≢_}
-use mathlib.Core.Option.{Option, none, some}
+use mathlib.Core.Option.{Option, some}
 use mathlib.Core.List.{List}
-use Prim.Native.Nat.{ℕ, _+_, _-_, _*_, _≤_, _<_}
+use Prim.Native.Nat.{ℕ, _+_, _-_, _≤_, _<_}
 use native.Mathlib.Omega.{arith}
 use lib.Dec.{eqb}
 use lib.ListN.{length, getD}
@@ -16,14 +16,15 @@ use Rattle.node.specs.Answers.{Given, give, Outcome, outcomeNumber}
 use Rattle.node.specs.Calls.{take, frameIn}
 use Rattle.node.specs.declared.Node.{Node}
 use Rattle.node.proofs.Ways.{TakeWay, take-way, FrameWay, frame-way}
-use Rattle.runs.specs.Board.{put, Load, work, frame, Item, Board, delivers, gave, oldest, without, afterTake, afterFrame, offUnlessEarly}
+use Rattle.runs.specs.Board.{put, Load, work, frame, Item, Board, delivers, gave, oldest, without, afterTake}
+use Rattle.runs.specs.Board.{afterFrame, offUnlessEarly}
 use Rattle.runs.specs.Board.{delivered, deliveredOldest, step}
 use Rattle.runs.specs.Facts.{Facts}
 use Rattle.runs.specs.Printed.{line, loadAnswer, deliveryAnswer, printed}
 use Rattle.items.specs.Places.{noItem, placeFrom, oldestAt, removed}
 use Rattle.items.specs.declared.Item.{Item as Header}
-use Rattle.turns.specs.Frames.{placeSize, roomFor, closed}
-use Rattle.turns.specs.Events.{Turn, nodeAt, changed, unchanged, frameAt, called, deliveredAt, deliverTurn}
+use Rattle.turns.specs.Frames.{closed}
+use Rattle.turns.specs.Events.{Turn, nodeAt, unchanged, frameAt, called, deliveredAt, deliverTurn}
 use Rattle.turns.specs.Pieces.{frameHeld}
 use Rattle.turns.specs.declared.Stage.{Stage}
 use Rattle.turns.proofs.Turning.{length-moved}

@@ -2,13 +2,13 @@
 -- the line printed is the event's.
 use mathlib.Core.Path.{_≡_, refl, sym, ap, _∙_, subst}
 use mathlib.Core.Logic.{_≢_}
-use mathlib.Core.List.{List, _++_}
-use Prim.Native.Nat.{ℕ, _*_, _/_, _≤_, _<_, min}
+use mathlib.Core.List.{List}
+use Prim.Native.Nat.{ℕ, _*_, _≤_, _<_}
 use native.Mathlib.Decide.{ℕ-discrete}
 use native.Mathlib.Omega.{arith}
 use lib.ListN.{length, length-set}
 use Rattle.node.specs.declared.Node.{Node}
-use Rattle.runs.specs.Board.{put, Item, Board, gave}
+use Rattle.runs.specs.Board.{put, Board, gave}
 use Rattle.runs.specs.Printed.{line}
 use Rattle.items.specs.declared.Item.{Item as Header}
 use Rattle.turns.specs.Frames.{placeSize, roomFor}

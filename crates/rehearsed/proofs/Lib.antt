@@ -4,3 +4,4 @@ pub mod Same
 pub mod Follows
 pub mod Acting
 pub mod Delivering
+pub mod Whole

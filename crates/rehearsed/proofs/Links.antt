@@ -2,7 +2,7 @@
 use mathlib.Core.Path.{_≡_, refl, ap, _∙_, subst}
 use mathlib.Core.Option.{Option, none, some}
 use mathlib.Core.List.{List, [], _∷_, _++_}
-use Prim.Native.Nat.{ℕ, zero, suc, _+_, _≤_, _<_}
+use Prim.Native.Nat.{ℕ, suc, _+_, _≤_, _<_}
 use native.Mathlib.Omega.{arith}
 use lib.ListN.{length, getD}
 use Rattle.base.specs.Choice.{choose}
@@ -28,8 +28,7 @@ module _ (F G : ℕ → Item → Type 0) where
       → G (i + length ms) x → Stand F i ms → Stand G i (ms ++ x ∷ [])
   stand-more i [] x f g s = let e : i + 0 ≡ i = omega arith in (subst (λ k. G k x) e g, tt)
   stand-more i (m ∷ ms) x f g s =
-      let e : i + suc (length ms) ≡ suc i + length ms = omega arith in
-      (
+      let e : i + suc (length ms) ≡ suc i + length ms = omega arith in (
         f i m (omega arith) (s .0),
         stand-more (suc i) ms x (λ j m h. f j m (omega arith)) (subst (λ k. G k x) e g) (s .1),
       )
@@ -54,8 +53,7 @@ module _ (F G : ℕ → Item → Type 0) where
       let z : placeIn a b (m ∷ ms) ≡ 0 = choose-yes _ _ e in
       stand-down i ms (λ j m h l. g j m (omega arith) (omega arith)) (s .1))
       (λ e.
-      let z : placeIn a b (m ∷ ms) ≡ suc (placeIn a b ms) = choose-no _ _ e in
-      (
+      let z : placeIn a b (m ∷ ms) ≡ suc (placeIn a b ms) = choose-no _ _ e in (
         f i m (omega arith) (s .0),
         stand-less a b (suc i) ms (λ j m h. f j m (omega arith)) (λ j m h l. g j m (omega arith) (omega arith))
             (s .1),

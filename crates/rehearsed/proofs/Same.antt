@@ -1,13 +1,11 @@
 -- The rehearsal's board and lent memory hold what a board of document 01 does, and what each change of the one has to
 -- be in the other.
-use mathlib.Core.Path.{_≡_, refl, sym, ap, _∙_, subst}
-use mathlib.Core.Logic.{_≢_}
+use mathlib.Core.Path.{_≡_, sym, ap, _∙_, subst}
 use mathlib.Core.List.{List, [], _∷_, _++_}
-use Prim.Native.Nat.{ℕ, suc, _+_, _-_, _*_, _≤_, _<_}
-use native.Mathlib.Decide.{ℕ-discrete}
+use Prim.Native.Nat.{ℕ, suc, _+_, _*_, _≤_, _<_}
 use native.Mathlib.Omega.{arith}
 use lib.Dec.{eqb}
-use lib.ListN.{length, getD, set, length-set, length-append}
+use lib.ListN.{length, getD, set}
 use lib.Seq.{getD-set-same, getD-set-other}
 use Rattle.base.specs.Choice.{choose}
 use Rattle.tree.specs.Tree.{dimension}
@@ -21,9 +19,8 @@ use Rattle.turns.specs.Frames.{placeSize, roomFor, closed}
 use Rattle.turns.specs.Events.{nodeAt, changed}
 use Rattle.turns.specs.Pieces.{frameHeld}
 use Rattle.turns.specs.declared.Stage.{Stage}
-use Rattle.turns.proofs.Turning.{length-moved}
-use Rattle.rehearsed.proofs.Links.{placeIn, Stand, stand-more, stand-less, length-less}
-use Rattle.rehearsed.proofs.Memory.{header-before, header-after, length-closed}
+use Rattle.rehearsed.proofs.Links.{placeIn, Stand, stand-more, stand-less}
+use Rattle.rehearsed.proofs.Memory.{header-before, header-after}
 use Rattle.rehearsed.proofs.Memory.{held-closed-before, held-closed-after}
 
 -- what stands at a place: work with its phase byte, or the frame held there

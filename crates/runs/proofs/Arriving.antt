@@ -20,7 +20,6 @@ use Rattle.cycle.proofs.Reached.{within-one}
 use Rattle.cycle.proofs.Window.{Window, Move, window-keeps, Sent}
 use Rattle.cycle.proofs.Dating.{FirstDated}
 use Rattle.cycle.proofs.Events.{ledgerWith, pageLost, act-lose}
-use Rattle.runs.proofs.PhaseByte.{apart}
 use Rattle.runs.proofs.Setting.{Setting, tree}
 use Rattle.runs.proofs.Pairs.{Pair, pair-append, Cut, cut, pair-all, Found, found}
 use Rattle.runs.proofs.Sim.{hasStored, awaitedIn, Carried, Sim}

@@ -13,7 +13,6 @@ use Rattle.node.specs.Change.{at}
 use Rattle.node.specs.Calls.{stepNumber}
 use Rattle.node.specs.declared.Node.{Node}
 use Rattle.runs.specs.Board.{Board}
-use Rattle.cycle.proofs.Sums.{count}
 use Rattle.cycle.proofs.OnePhase.{dimOf, Unheard, Agrees, atStep}
 use Rattle.cycle.proofs.Ledger.{Ledger, Reached}
 use Rattle.cycle.proofs.Reached.{invariant}

@@ -11,11 +11,10 @@ use Rattle.tree.specs.Tree.{dimension}
 use Rattle.frame.specs.Frame.{fieldsOf, frameBytes}
 use Rattle.node.specs.Sums.{allTaken, dims, own}
 use Rattle.node.specs.Change.{at}
-use Rattle.node.specs.Answers.{Given, refused, Barrier, waits}
+use Rattle.node.specs.Answers.{Given, Barrier}
 use Rattle.node.specs.Calls.{stepNumber}
 use Rattle.node.specs.Barrier.{frameDue, receiversDue}
-use Rattle.runs.specs.Board.{Board, sends, calls, gave, posted, afterCall}
-use Rattle.cycle.proofs.Sums.{count}
+use Rattle.runs.specs.Board.{Board, calls, gave, posted, afterCall}
 use Rattle.cycle.proofs.Lists.{All}
 use Rattle.cycle.proofs.Exact.{takenAll, Entries, ownSums}
 use Rattle.cycle.proofs.OnePhase.{report, posts, frameOf, dimOf, atStep}

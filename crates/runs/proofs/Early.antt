@@ -12,7 +12,7 @@ use Rattle.frame.specs.Timing.{difference}
 use Rattle.node.specs.Sums.{allTaken, tally}
 use Rattle.node.specs.Answers.{refused}
 use Rattle.node.specs.Calls.{take, frameIn}
-use Rattle.runs.specs.Board.{work, frame, Item, Board, Event, sends}
+use Rattle.runs.specs.Board.{work, frame, Item, Board, Event}
 use Rattle.runs.specs.Board.{start, step, after, run}
 use native.Mathlib.Nat.{mul-le-mul-right}
 use Rattle.cycle.proofs.Lists.{All, all-mid}

@@ -62,10 +62,8 @@ unfolding smallestFrom dimension part runBelow runOf placeIn place awaited recei
 worked = refl
 
 -- "P 4: 2 signs in with zeros; 1 sends to 2 (slow), signs in to 0; 3 sends to 1; 1 wakes, sends to 3; 3 takes it, goes
--- idle
--- and signs in to 2; 2 passes dimension 0 and sends to 0; then the slow message reaches 2, which sends work to 0. Node
--- 0
--- takes it, goes idle, passes dimension 0 and now sees 1 against 1 both ways while 1 is busy."
+-- idle and signs in to 2; 2 passes dimension 0 and sends to 0; then the slow message reaches 2, which sends work to 0.
+-- Node 0 takes it, goes idle, passes dimension 0 and now sees 1 against 1 both ways while 1 is busy."
 abbrev trap : List Event
 trap =
     idles 2

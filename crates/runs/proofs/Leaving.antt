@@ -13,7 +13,7 @@ use Rattle.node.specs.Change.{freshIn}
 use Rattle.node.specs.Answers.{left}
 use Rattle.node.specs.declared.Node.{Node}
 use Rattle.runs.specs.Board.{put, Board, calls, gave, afterCall}
-use Rattle.cycle.proofs.Sums.{update, update-all, update-same, update-other, count}
+use Rattle.cycle.proofs.Sums.{update, update-all, update-same, update-other}
 use Rattle.cycle.proofs.Exact.{sentAll}
 use Rattle.cycle.proofs.OnePhase.{State, dimOf, Agrees, atStep}
 use Rattle.cycle.proofs.Opening.{fresh}

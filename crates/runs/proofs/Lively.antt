@@ -18,7 +18,7 @@ use Rattle.node.specs.Agree.{agrees}
 use Rattle.node.specs.State.{valid}
 use Rattle.node.specs.Change.{at}
 use Rattle.node.specs.Answers.{Given, Barrier}
-use Rattle.node.specs.Barrier.{lengthDue, receiversDue, sending, leaving, moving, looking, barrier}
+use Rattle.node.specs.Barrier.{lengthDue, receiversDue, leaving, moving, looking, barrier}
 use Rattle.node.specs.declared.Node.{Node}
 use Rattle.runs.specs.Board.{Item, Board, Event, run}
 use Rattle.runs.specs.Claim.{Goes, Lives, NoLoss}

@@ -14,13 +14,13 @@ use Rattle.node.specs.Sums.{own, ownIssued}
 use Rattle.node.specs.Agree.{agrees}
 use Rattle.node.specs.State.{valid, boardOk, positionOk, talliesOk, totalOk, firstOk, secondOk, passedOk, busyOk}
 use Rattle.node.specs.Change.{withBusy, freshIn}
-use Rattle.node.specs.Answers.{Given, give, Outcome, done, refused, Barrier, left, barred}
+use Rattle.node.specs.Answers.{Given, give, Outcome, done, Barrier, left, barred}
 use Rattle.node.specs.Calls.{send, idle}
 use Rattle.node.specs.Barrier.{leaving, barrier}
 use Rattle.node.specs.declared.Node.{Node}
 use Rattle.runs.specs.Board.{Board, Event, sends, idles, calls, delivers, loses, start, oldest}
 use Rattle.runs.specs.Board.{lessOne, gave, afterSend, afterIdle, afterCall, deliveredOldest, step, after, run}
-use Rattle.runs.specs.Claim.{SendDone, TakeDone, takes, Leaves, Safe, Goes, Lives}
+use Rattle.runs.specs.Claim.{SendDone, TakeDone, Leaves, Safe, Goes, Lives}
 use Rattle.runs.proofs.Tools.{put-same}
 use Rattle.node.proofs.Ways.{SendWay, send-way, IdleWay, idle-way}
 

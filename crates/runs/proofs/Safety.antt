@@ -12,7 +12,7 @@ use Rattle.base.specs.Limits.{Limits, fieldLimit}
 use Rattle.base.proofs.Laws.{clash, cases}
 use Rattle.tree.specs.Tree.{dimension}
 use Rattle.node.specs.Change.{freshIn}
-use Rattle.node.specs.Answers.{Given, Outcome, done, refused, Barrier, waits, left}
+use Rattle.node.specs.Answers.{Given, Outcome, done, refused, Barrier, left}
 use Rattle.node.specs.Calls.{send, take, idle, frameIn}
 use Rattle.node.specs.Barrier.{barrier}
 use Rattle.node.specs.declared.Node.{Node}
@@ -20,7 +20,7 @@ use Rattle.runs.specs.Board.{put, Load, work, frame, Item, Board, Event,
 use Rattle.runs.specs.Board.{start, oldest}
 use Rattle.runs.specs.Board.{without, gave, carries, afterSend, afterIdle, afterCall, offUnlessEarly, afterTake}
 use Rattle.runs.specs.Board.{afterFrame, delivered, deliveredOldest, step, after, run}
-use Rattle.runs.specs.Claim.{SendDone, TakeDone, takes, Leaves, Safe}
+use Rattle.runs.specs.Claim.{SendDone, TakeDone, Leaves, Safe}
 use Rattle.cycle.proofs.Sums.{sum-zero}
 use Rattle.cycle.proofs.Ledger.{Ledger, opening, Reached, Over}
 use Rattle.cycle.proofs.Reached.{safe}

@@ -10,7 +10,7 @@ use lib.ListN.{length, length-set}
 use Rattle.base.specs.Limits.{Limits, fieldLimit}
 use Rattle.tree.specs.Tree.{dimension, distance}
 use Rattle.node.specs.Change.{withBusy}
-use Rattle.node.specs.Answers.{Given, Outcome, done, refused}
+use Rattle.node.specs.Answers.{Given, Outcome}
 use Rattle.node.specs.Calls.{oneSent}
 use Rattle.node.specs.declared.Node.{Node}
 use Rattle.runs.specs.Board.{put, work, Item, Board, sends, idles, gave, afterSend, afterIdle}

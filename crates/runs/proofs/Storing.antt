@@ -19,7 +19,7 @@ use Rattle.frame.specs.Timing.{difference}
 use Rattle.frame.specs.declared.Frame.{Frame}
 use Rattle.node.specs.Sums.{dims}
 use Rattle.node.specs.Change.{at, withFirst, withSecond}
-use Rattle.node.specs.Answers.{Given, Outcome, done, refused}
+use Rattle.node.specs.Answers.{Given, Outcome}
 use Rattle.node.specs.Calls.{frameIn, stepNumber, firstOf, secondOf, stored, gotten}
 use Rattle.node.specs.declared.Node.{Node}
 use Rattle.runs.specs.Board.{put, frame, Item, Board, delivers, gave, carries, afterFrame}

@@ -10,11 +10,10 @@ use Rattle.base.specs.Limits.{Limits, fieldLimit}
 use Rattle.tree.specs.Tree.{dimension, distance}
 use Rattle.frame.specs.Timing.{difference}
 use Rattle.node.specs.Change.{withBusy, at}
-use Rattle.node.specs.Answers.{Given, Outcome, done, refused}
+use Rattle.node.specs.Answers.{Given, Outcome, done}
 use Rattle.node.specs.Calls.{oneTaken, take}
 use Rattle.node.specs.declared.Node.{Node}
 use Rattle.runs.specs.Board.{put, work, Item, Board, delivers, gave, carries, afterTake}
-use Rattle.cycle.proofs.Sums.{count}
 use Rattle.cycle.proofs.OnePhase.{message, report, State, atStep, withTallies, bumpTaken, Content}
 use Rattle.cycle.proofs.OnePhase.{Shell}
 use Rattle.cycle.proofs.Ledger.{Dated, Page, Ledger, Reached}

@@ -1,6 +1,5 @@
 -- A local array that is lent as a `&mut [T]` for one call, beside whatever else the callee takes. The laws say nothing
--- of a
--- crate, and assume `Given`, and that the table of calls is monotone under a frame.
+-- of a crate, and assume `Given`, and that the table of calls is monotone under a frame.
 --     array-fits       the machine value of [x; n] is of the array's type
 --     array-in         [x; n] in its cell, as it was written, is n elements side by side
 --     array-room       elements side by side are room for an array

@@ -1,6 +1,6 @@
 -- A call that is handed a slice which the caller keeps: the laws that a walk over a lent slice cites at each call. They
--- say
--- nothing of a crate, and assume `Given`, and that the table of calls is monotone under a frame, as every `Tables` is.
+-- say nothing of a crate, and assume `Given`, and that the table of calls is monotone under a frame, as every `Tables`
+-- is.
 --     opened, closed   a `&mut [T]` is opened, and closed at another list of the same length
 --     looked, shut     a `&[T]` is looked into, and shut
 -- Changes          what a callee does with a `&mut [T]` at ys, at any lifetime: it returns some x, and leaves some list
@@ -21,8 +21,7 @@
 --                      that is set, or takes a result
 --     ends-local       the local whose cell is entry n is freed, whatever it holds
 -- Operands are read with two entries in front of the rest of the context (with one at calls-plain, four at
--- calls-lent₂), so
--- they stand at the places where they stood before the rule.
+-- calls-lent₂), so they stand at the places where they stood before the rule.
 use mathlib.Core.Path.{_≡_, refl, sym, ap, subst, _∙_}
 use Prim.Native.Nat.{ℕ, zero, _+_}
 use mathlib.Core.List.{List, [], _∷_}
