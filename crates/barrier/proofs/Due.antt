@@ -1,47 +1,24 @@
 -- Laws of the survey's pieces: they make the frame due and the clauses of the position's step.
-use mathlib.Core.Path.{_≡_, refl, sym, ap, _∙_, subst}
+use mathlib.Core.Path.{_≡_, refl, ap}
 use mathlib.Core.Bool.{Bool, true, false}
 use mathlib.Core.List.{[]}
 use Prim.Native.Nat.{ℕ, _≤_, _<_}
 use native.Mathlib.Omega.{arith}
 use lib.Dec.{eqb}
 use Rattle.base.specs.Choice.{choose}
-use Rattle.base.specs.Limits.{Limits, base}
-use Rattle.base.proofs.Laws.{choose-yes, cases}
-use Rattle.frame.specs.Frame.{sentNumber}
+use Rattle.base.specs.Limits.{base}
 use Rattle.node.specs.Sums.{dims, firstAt, secondAt, Field, sentIn, takenIn, allSent, allTaken, own, ownIssued}
 use Rattle.node.specs.Agree.{firstClauses, secondClauses, clauses}
-use Rattle.node.specs.State.{valid}
 use Rattle.node.specs.Barrier.{frameDue}
 use Rattle.node.specs.declared.Node.{Node}
 use Rattle.node.specs.declared.Stored.{Stored}
 use Rattle.agree.specs.Verdict.{sumAt}
-use Rattle.survey.specs.Survey.{sumsOf, noSurvey, surveyed}
+use Rattle.survey.specs.Survey.{sumsOf}
+use Rattle.survey.proofs.Known.{Known}
 use Rattle.survey.proofs.Walks.{sum-at}
 use Rattle.survey.proofs.Steps.{Below, clauses-same}
 use Rattle.survey.specs.declared.Survey.{Survey}
 use Rattle.barrier.specs.Pieces.{within, frameOf, clausesOf}
-
--- ---- what the survey of a state that passes the test says
-
-pub record Told (n : Node) (s : Survey) : Type 0 where
-  pub shells : s .dims ≡ dims n
-  pub sums : s .own ≡ sumsOf n (n .dim)
-  pub sent : s .issued ≡ sentNumber (ownIssued n (n .dim))
-  pub whole : s .total ≡ own n (dims n) allTaken
-
-module _ (L : Limits) (n : Node) (s : Survey) (e : s ≡ surveyed L n) where
-  pub survey-ok : s .ok ≡ valid L n
-  unfolding surveyed
-  survey-ok =
-      ap (λ (x : Survey). x .ok) e
-      ∙ cases (λ (x : Survey). x .ok ≡ valid L n) (valid L n) _ noSurvey (λ v. sym v) (λ v. sym v)
-
-  pub survey-told : valid L n ≡ true → Told n s
-  unfolding surveyed
-  survey-told v =
-      subst (Told n) (sym (e ∙ choose-yes _ noSurvey v))
-      (record { shells = refl; sums = refl; sent = refl; whole = refl })
 
 -- the clauses read the sums of the shells that there are, and the survey holds these
 sums-first : (n : Node) (p k : ℕ) (x : Stored) → k < p → p ≤ 8
@@ -54,12 +31,12 @@ sums-first n p k x a b = clauses-same p k (sumAt (sumsOf n k)) (own n k) x a sam
     same allSent h = sum-at n k allSent tt
     same allTaken h = sum-at n k allTaken tt
 
-module _ (n : Node) (s : Survey) (t : Told n s) (few : dims n ≤ 8) where
+module _ (n : Node) (s : Survey) (t : Known base n s) (few : dims n ≤ 8) where
   -- ---- the frame due
 
   pub frame-is : frameOf (n .pass) (n .phase) (n .dim) (n .number) s (n .agreed) ≡ frameDue n
   unfolding frameOf frameDue within sumsOf
-  frame-is = rw (t .shells, t .sums, t .sent)
+  frame-is = rw (t .dims, t .sums, t .issued)
 
   -- ---- the clauses of the position's step
 
@@ -70,6 +47,6 @@ module _ (n : Node) (s : Survey) (t : Told n s) (few : dims n ≤ 8) where
   clauses-are true h = refl
   clauses-are false h =
       let second = secondClauses base (dims n) (n .dim) (ownIssued n (n .dim)) (n .agreed) (secondAt n (n .dim)) in
-      rw (t .shells, t .sums, t .sent)
+      rw (t .dims, t .sums, t .issued)
       (ap (λ cs. choose (eqb (n .pass) 1) cs second)
       (sums-first n (dims n) (n .dim) (firstAt n (n .dim)) (h refl) few))

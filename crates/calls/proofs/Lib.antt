@@ -1,4 +1,3 @@
-pub mod Known
 pub mod Lookups
 pub mod Storing
 pub mod Intake

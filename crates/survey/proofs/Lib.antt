@@ -5,3 +5,4 @@ pub mod Walks
 pub mod Steps
 pub mod Tested
 pub mod Exits
+pub mod Known

@@ -24,11 +24,12 @@ use Rattle.node.proofs.Valid.{Valid, valid-known, valid-width}
 use Rattle.agree.specs.Verdict.{isVerdict}
 use Rattle.agree.specs.declared.Verdict.{Verdict}
 use Rattle.survey.specs.declared.Survey.{Survey}
+use Rattle.survey.proofs.Known.{Known, test, passed as known-passed}
 use Rattle.barrier.specs.Pieces.{toWhom, isLone, whomList, clausesOf, sendTurn, lookTurn, turnedBy}
 use Rattle.barrier.proofs.Turns.{answers-same, refuses-state, refuses-busy, tried, looks}
 use Rattle.barrier.proofs.Placing.{looked-whom, looked-alone, not-alone-low, dim-room}
 use Rattle.barrier.proofs.Placing.{receivers-low, some-due, none-due}
-use Rattle.barrier.proofs.Due.{Told, survey-ok, survey-told, frame-is, clauses-are}
+use Rattle.barrier.proofs.Due.{frame-is, clauses-are}
 use Rattle.barrier.proofs.Sending.{sends}
 use Rattle.barrier.proofs.barrier_call.Statement.{statement}
 use Rattle.barrier.proofs.barrier_call.Tie as tie
@@ -45,7 +46,7 @@ abbrev survey : tie.After-struct-known → Survey
 survey k = k .before .survey-of .result
 
 tested : (k : tie.After-struct-known) → survey k .ok ≡ valid base (node k)
-tested k = survey-ok base (node k) (survey k) (k .before .survey-of .ensures)
+tested k = test base (node k) (survey k) (k .before .survey-of .ensures)
 
 returns : tie.Need-returns
 returns c =
@@ -71,10 +72,10 @@ idler i = node (i .before .before)
 good : (i : tie.Else2) → Valid base (idler i)
 good i = valid-known base (idler i) (passed (i .before))
 
-told : (i : tie.Else2) → Told (idler i) (survey (i .before .before))
+told : (i : tie.Else2) → Known base (idler i) (survey (i .before .before))
 told i =
     let k = i .before .before in
-    survey-told base (node k) (survey k) (k .before .survey-of .ensures) (passed (i .before))
+    known-passed base (node k) (survey k) (k .before .survey-of .ensures) (i .before .if1 .left)
 
 few : (i : tie.Else2) → dims (idler i) ≤ 8
 few i = valid-width base (idler i) (omega arith) (good i)
@@ -116,7 +117,7 @@ low k = due-dim base (idler (sender k)) (good (sender k)) _ _ (somebody k .1)
 frame-due-requires : tie.Need-frame-due-requires
 frame-due-requires c κs =
     let i = sender c in
-    let e = told i .shells in
+    let e = told i .dims in
     (omega (arith, low c, e), omega (arith, few i, e))
 
 returns-3 : tie.Need-returns-3
@@ -161,7 +162,7 @@ cast-verdict-on c = omega (arith, room (c .before .before .before))
 look-requires : tie.Need-look-requires
 look-requires c κs =
     let i = looker (c .before .before .before .before) in
-    omega (arith, few i, told i .shells)
+    omega (arith, few i, told i .dims)
 
 nobody : (k : tie.After-enum-told) → NoneDue base (idler (looker k))
 nobody k =
@@ -193,7 +194,7 @@ returns-4 c =
     let buf = lent (i .before .before) in
     let t = told i in
     answers-same n buf refl
-    (c .turned4 .ensures ∙ ap (turnedBy n) (c .before .look .ensures ∙ turn _ _ _ _ (t .shells) (t .whole)))
+    (c .turned4 .ensures ∙ ap (turnedBy n) (c .before .look .ensures ∙ turn _ _ _ _ (t .dims) (t .total)))
     (looks n buf (passed (i .before)) (i .if2 .left) (nobody k) (v .verdict-on .result) (judged v))
   where
     turn : (v : Verdict) (pass k agreed : ℕ) {p q x y : ℕ} → p ≡ q → x ≡ y

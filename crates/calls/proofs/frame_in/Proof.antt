@@ -17,7 +17,7 @@ use Rattle.node.specs.Calls.{frameIn, byTiming}
 use Rattle.node.specs.declared.Node.{Node}
 use Rattle.node.proofs.Valid.{valid-width}
 use Rattle.node.proofs.Ways.{frame-refuses}
-use Rattle.calls.proofs.Known.{Known, failed, passed}
+use Rattle.survey.proofs.Known.{Known, failed, passed}
 use Rattle.calls.proofs.Intake.{heard, frame-refused, frame-read, frame-heard}
 use Rattle.calls.proofs.Intake.{heard-self, heard-partner, heard-timed}
 use Rattle.calls.proofs.frame_in.Statement.{statement}

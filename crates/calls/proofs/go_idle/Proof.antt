@@ -4,7 +4,7 @@ use mathlib.Core.Path.{sym, _∙_}
 use Rattle.base.specs.Limits.{base}
 use Rattle.base.proofs.Laws.{here}
 use Rattle.node.proofs.Ways.{idle-refuses, idle-does}
-use Rattle.calls.proofs.Known.{failed, passed}
+use Rattle.survey.proofs.Known.{failed, passed}
 use Rattle.calls.proofs.go_idle.Statement.{statement}
 use Rattle.calls.proofs.go_idle.Tie as tie
 

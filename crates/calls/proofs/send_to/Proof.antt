@@ -13,7 +13,7 @@ use Rattle.node.specs.Calls.{oneSent}
 use Rattle.node.specs.declared.Node.{Node}
 use Rattle.node.proofs.Ways.{send-refuses, send-does}
 use Rattle.survey.proofs.Lists.{total-has}
-use Rattle.calls.proofs.Known.{Known, failed, passed}
+use Rattle.survey.proofs.Known.{Known, failed, passed}
 use Rattle.calls.proofs.send_to.Statement.{statement}
 use Rattle.calls.proofs.send_to.Tie as tie
 

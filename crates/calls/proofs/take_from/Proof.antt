@@ -17,7 +17,7 @@ use Rattle.node.specs.Calls.{refusal, isEarly, isForeignWork, woken, take}
 use Rattle.node.specs.declared.Node.{Node}
 use Rattle.node.proofs.Ways.{takeChecks, take-refuses}
 use Rattle.survey.proofs.Lists.{total-has}
-use Rattle.calls.proofs.Known.{Known, failed, passed}
+use Rattle.survey.proofs.Known.{Known, failed, passed}
 use Rattle.calls.proofs.take_from.Statement.{statement}
 use Rattle.calls.proofs.take_from.Tie as tie
 
