@@ -23,7 +23,7 @@ PATH = re.compile(r"`((?:crates|docs|include|scripts|tests)/[\w./]+)`")
 
 def table(titles, rows):
     lines = [titles, ["---"] * len(titles), *rows]
-    return "\n" + "".join("| " + " | ".join(str(cell) for cell in row) + " |\n" for row in lines)
+    return "\n\n" + "".join("| " + " | ".join(str(cell) for cell in row) + " |\n" for row in lines) + "\n"
 
 
 # ---- The made parts
@@ -139,7 +139,7 @@ def again(name):
 def phases():
     """The program boards' lines about phase bytes."""
     lines = [line for line in played.output("target/bin/boards", "") if line.startswith("node in phase")]
-    return "\n```\n" + "".join(line + "\n" for line in lines) + "```\n"
+    return "\n\n```\n" + "".join(line + "\n" for line in lines) + "```\n\n"
 
 
 def frames_of(name):
@@ -154,14 +154,16 @@ def costs():
     words, longest = numbers["OCB_STATE_WORDS"], numbers["OCB_FRAME_BYTES"]
     rows = [("state of a node", f"{words} words of 4 bytes: {4 * words} bytes"),
             ("buffer for a frame", f"{longest} bytes, the longest frame of any board")]
-    for name in ("worked", "empty_cycle_of_five"):
+    cycles = [("worked", "without work"), ("empty_cycle_of_five", "without work"),
+              ("rollback_of_five", "with one piece of work, which comes late")]
+    for name, words in cycles:
         count, size = frames_of(name)
-        rows.append((f"a cycle without work on a board of {played.size(name)} (`scripts/{name}`)",
+        rows.append((f"a cycle {words}, on a board of {played.size(name)} (`scripts/{name}`)",
                      f"{count} frames on links, {size} bytes"))
     for nodes in (5, 6):
         awaiting = sum(place.awaited is not None for place in played.places(nodes).values())
-        rows.append((f"the same by the table of partners, board of {nodes}: {awaiting} places await a frame in each pass",
-                     f"{2 * awaiting} frames on links"))
+        words = f"a cycle without work, by the partners of a board of {nodes}: {awaiting} frames are awaited in a pass"
+        rows.append((words, f"{2 * awaiting} frames on links"))
     return table(["What", "How much"], rows)
 
 
