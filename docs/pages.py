@@ -106,8 +106,10 @@ def shells(nodes):
 
 def frame(name, line):
     """The frame that a line of a script sends, byte by byte."""
-    event = next(e for e in played.events(name)[0] if e.line == int(line))
-    data = event.frame.data
+    sent = {e.line: e.frame.data for e in played.events(name)[0] if e.frame is not None}
+    if int(line) not in sent:
+        raise played.Trouble(f"docs/BARRIER.md: line {line} of scripts/{name} sends no frame")
+    data = sent[int(line)]
     heads = ["pass", "phase", "dimension", "sender"]
     rows = [(i, f"`{data[i]:02x}`", heads[i], data[i]) for i in range(4)]
     rows += [(f"{at} to {at + 3}", f"`{data[at:at + 4].hex(' ')}`", words, value)
@@ -187,12 +189,15 @@ def page(text):
 
 
 def check_names(text):
-    """The page's names are in the header, with their numbers; no refusal is left out."""
+    """The page's names and limits are in the header, names with their numbers; no refusal is left out."""
     numbers = played.header()
-    functions = (played.ROOT / "include" / "ocb.h").read_text()
+    header = (played.ROOT / "include" / "ocb.h").read_text()
     for name in re.findall(r"\b(?:OCB|ocb)_\w+", text):
-        if name not in numbers and f" {name}(" not in functions:
+        if name not in numbers and f" {name}(" not in header:
             raise played.Trouble(f"docs/BARRIER.md: include/ocb.h has no {name}")
+    for limit in re.findall(r"\d+(?:,\d{3})+", text):
+        if limit not in header:
+            raise played.Trouble(f"docs/BARRIER.md: include/ocb.h has no limit {limit}")
     rows = NUMBERED.findall(text)
     for value, name, word in rows:
         if numbers[name] != int(value) or name != "OCB_" + word.upper().replace(" ", "_"):
