@@ -37,6 +37,7 @@ ANSWERS = {20: "sent", 21: "waits", 22: "moved", 23: "left", 24: "dropped"}
 ROW = 20  # height of an event's row
 LEFT = 110  # width of the script's column
 RIGHT = 370  # width of the answers' column
+COLUMN = 130  # width of a node's column where partners are drawn
 
 
 def text(x, y, words, *classes):
@@ -49,8 +50,8 @@ def line(x1, y1, x2, y2, name, head=""):
     return f'<line x1="{x1}" y1="{y1}" x2="{x2}" y2="{y2}" class="{name}"{end}/>'
 
 
-def box(x, y, width, height, name, round=0):
-    return f'<rect x="{x}" y="{y}" width="{width}" height="{height}" rx="{round}" class="{name}"/>'
+def box(x, y, width, height, name, corner=0):
+    return f'<rect x="{x}" y="{y}" width="{width}" height="{height}" rx="{corner}" class="{name}"/>'
 
 
 def circle(x, y, radius, name):
@@ -100,11 +101,10 @@ def tree(nodes):
 # ---- Who talks to whom
 
 def arc(x1, x2, y, height):
-    """A frame each way between two neighbours: one curve, with a head at either end."""
+    """A frame each way between two neighbours: one curve, drawn from either end with a head."""
     middle = (x1 + x2) // 2
-    curves = [(x1, x2), (x2, x1)]
     return [f'<path d="M{a} {y}Q{middle} {y - height} {b} {y}" class="first" marker-end="url(#first18)"/>'
-            for a, b in curves]
+            for a, b in ((x1, x2), (x2, x1))]
 
 
 def place_words(place):
@@ -113,7 +113,7 @@ def place_words(place):
 
 def partners_in(board, row, k, x_of, y):
     """One dimension: runs as boxes, nodes, an arc for each pair of neighbours, a broken arrow to each hermit."""
-    parts = [box(x_of(run[0]) - 52, y - 26, (run[-1] - run[0]) * 130 + 104, 52, "box", 10) for run in row]
+    parts = [box(x_of(run[0]) - 52, y - 26, (run[-1] - run[0]) * COLUMN + 104, 52, "box", 10) for run in row]
     arcs, copies, nodes = [], [], []
     for a in sorted(a for a, dimension in board if dimension == k):
         place = board[a, k]
@@ -135,9 +135,9 @@ def partners(nodes):
         spans = [p.awaited - a for (a, d), p in sorted(board.items()) if d == k and p.awaited is not None]
         y += 30 + 16 * max(spans) + 15
         parts += [text(16, y + 5, f"dimension {k}", "strong")]
-        parts += partners_in(board, rows[k], k, lambda a: 170 + 130 * a, y)
+        parts += partners_in(board, rows[k], k, lambda a: 170 + COLUMN * a, y)
         y += 100
-    return picture(f"Who talks to whom on a board of {nodes}", 130 * nodes + 120, y, parts)
+    return picture(f"Who talks to whom on a board of {nodes}", COLUMN * nodes + 120, y, parts)
 
 
 # ---- Sequence charts
@@ -157,6 +157,7 @@ def said(events, at):
 
 
 def kind_of(frame):
+    """The class of an item's stroke, and the name of its arrow head."""
     if frame is None:
         return "work", "work"
     name = "first" if frame.data[0] == 1 else "second"
@@ -187,7 +188,7 @@ def arrows(shown, open_items, x_of, y_of, top):
             start = max(y_of(item.line), top)
             parts.append(line(x_of(item.source), start, x_of(item.target), y_of(event.line), name, f"{head}4"))
     for item in open_items:
-        name, head = kind_of(item.frame)
+        name, _ = kind_of(item.frame)
         x, y = x_of(item.source), y_of(item.line)
         step = 34 if item.target > item.source else -34
         parts.append(line(x, y, x + step, y + 12, name))
