@@ -7,6 +7,7 @@ python3 docs/pages.py check    remakes them in memory and ends with status 1 at 
 A made part of the page stands between two comments, <!-- made: KIND WORDS --> and <!-- end -->; the function KIND
 makes it. Wants target/bin/boards, target/bin/rehearse and target/c/play.
 """
+import itertools
 import re
 import sys
 
@@ -191,7 +192,7 @@ def page(text):
 def check_names(text):
     """The page's names and limits are in the header, names with their numbers; no refusal is left out."""
     numbers = played.header()
-    header = (played.ROOT / "include" / "ocb.h").read_text()
+    header = (played.ROOT / "include" / "ocb.h").read_text(encoding="utf-8")
     for name in re.findall(r"\b(?:OCB|ocb)_\w+", text):
         if name not in numbers and f" {name}(" not in header:
             raise played.Trouble(f"docs/BARRIER.md: include/ocb.h has no {name}")
@@ -218,7 +219,7 @@ def check_paths(text, pictures):
 
 def wanted():
     """Every made file with the text it should have."""
-    text = page(PAGE.read_text())
+    text = page(PAGE.read_text(encoding="utf-8"))
     pictures = charts.pictures()
     check_names(text)
     check_paths(text, pictures)
@@ -230,7 +231,7 @@ def wanted():
 def make():
     PICTURES.mkdir(exist_ok=True)
     for path, text in sorted(wanted().items()):
-        path.write_text(text)
+        path.write_text(text, encoding="utf-8")
     return "made"
 
 
@@ -241,12 +242,11 @@ def check():
             raise played.Trouble(f"{path.relative_to(played.ROOT)} is made by nothing")
     for path, text in sorted(files.items()):
         name = path.relative_to(played.ROOT)
-        found = path.read_text() if path.exists() else ""
-        for at, (old, new) in enumerate(zip(found.splitlines() + [""], text.splitlines() + [""]), start=1):
+        found = path.read_bytes().decode("utf-8") if path.exists() else ""
+        lines = itertools.zip_longest(found.split("\n"), text.split("\n"))
+        for at, (old, new) in enumerate(lines, start=1):
             if old != new:
-                raise played.Trouble(f"{name}, line {at}: stands\n  {old}\nbut the programs give\n  {new}")
-        if found != text:
-            raise played.Trouble(f"{name}: its end differs from what the programs give")
+                raise played.Trouble(f"{name}, line {at}: stands\n  {old!r}\nbut the programs give\n  {new!r}")
     return f"{len(files)} files are what the programs give"
 
 

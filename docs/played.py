@@ -74,7 +74,7 @@ def runs(board):
 
 def printed_with_frames(name):
     """The lines that a script prints, each with its frame's receivers and bytes, or None."""
-    text = (ROOT / "scripts" / name).read_text()
+    text = (ROOT / "scripts" / name).read_text(encoding="utf-8")
     lines = output("target/bin/rehearse", text)
     pairs = []
     for line in output("target/c/play", text, "frames"):
@@ -120,7 +120,7 @@ def events(name):
 
 def size(name):
     """How many nodes a script's board has."""
-    return int((ROOT / "scripts" / name).read_text().split()[1])
+    return int((ROOT / "scripts" / name).read_text(encoding="utf-8").split()[1])
 
 
 def before(played, at):
@@ -151,6 +151,6 @@ def fields(data):
 
 def header():
     """The numbers that include/ocb.h gives to its names."""
-    text = (ROOT / "include" / "ocb.h").read_text()
+    text = (ROOT / "include" / "ocb.h").read_text(encoding="utf-8")
     text = text[text.index("#ifndef OCB_H"):]
     return {name: int(value) for name, value in re.findall(r"\b(OCB_\w+)(?: =)? (\d+)", text)}
