@@ -1,0 +1,260 @@
+#!/usr/bin/env python3
+"""Makes docs/pictures and the made parts of docs/BARRIER.md from what the programs print today.
+
+python3 docs/pages.py make     writes them
+python3 docs/pages.py check    remakes them in memory and ends with status 1 at the first difference
+
+A made part of the page stands between two comments, <!-- made: KIND WORDS --> and <!-- end -->; the function KIND
+makes it. Wants target/bin/boards, target/bin/rehearse and target/c/play.
+"""
+import itertools
+import re
+import sys
+
+sys.dont_write_bytecode = True
+import charts
+import played
+
+PAGE = played.ROOT / "docs" / "BARRIER.md"
+PICTURES = played.ROOT / "docs" / "pictures"
+MADE = re.compile(r"(<!-- made: ([^>]*) -->)(.*?)(<!-- end -->)", re.DOTALL)
+NUMBERED = re.compile(r"^\| (\d+) \| `(OCB_\w+)` \| ([a-z ]+) \|", re.MULTILINE)
+PATH = re.compile(r"`((?:crates|docs|include|scripts|tests)/[\w./]+)`")
+
+
+def table(titles, rows):
+    lines = [titles, ["---"] * len(titles), *rows]
+    return "\n\n" + "".join("| " + " | ".join(str(cell) for cell in row) + " |\n" for row in lines) + "\n"
+
+
+# ---- The made parts
+
+def step_words(step):
+    return f"pass {step[0]}, dimension {step[1]}"
+
+
+def joined(numbers):
+    words = [str(n) for n in numbers]
+    return " and ".join(([", ".join(words[:-1])] if words[1:] else []) + words[-1:])
+
+
+def delivery_words(events, at):
+    """A delivery in words: what came, and what it did to the receiver."""
+    event = events[at]
+    kind = "work" if event.item.frame is None else "frame"
+    words = f"the {kind} of line {event.item.line} reaches {event.node}"
+    if event.answer in (7, 24):
+        return words + (": early, it stays" if event.answer == 7 else ": late, dropped")
+    if event.answer != 0:
+        return words + f": refused with {event.answer}"
+    back = f"falls back to {step_words(event.step)}" if played.fell_back(events, at) else ""
+    busy = "is busy" if kind == "work" else ""
+    effect = " and ".join(x for x in (busy, back) if x)
+    return words + (f", which {effect}" if effect else "")
+
+
+def event_words(events, at):
+    """An event in words, from what was printed."""
+    event = events[at]
+    if event.frame is not None:
+        step = f"pass {event.frame.data[0]}, dimension {event.frame.data[2]}"
+        again = " **again**" if event.frame.before else ""
+        return f"{event.node} sends its frame of {step} to {joined(event.frame.receivers)}{again}"
+    if event.item is not None:
+        return delivery_words(events, at)
+    if event.answer == 0:
+        to = event.text.split()[-1]
+        return f"{event.node} is out of work: idle" if event.text[0] == "i" else f"{event.node} sends work to {to}"
+    if event.answer == 21:
+        return f"{event.node} waits in {step_words(event.step)}"
+    if event.answer == 22:
+        return f"{event.node} moves on to {step_words(event.step)}"
+    if event.answer == 23:
+        return f"{event.node} leaves: phase {event.phase} begins for it"
+    return f"refused with {event.answer}"
+
+
+def trace(name, first="1", last="999999", node=""):
+    """The lines of a script with what they print and the same in words; of one node only where it is named."""
+    events, _ = played.events(name)
+    rows = [(event.line, f"`{event.text}`", f"`{event.printed}`", event_words(events, at))
+            for at, event in enumerate(events)
+            if int(first) <= event.line <= int(last) and node in ("", str(event.node))]
+    return table(["Line", "Script", "Printed", "In words"], rows)
+
+
+def partners(nodes):
+    """Who talks to whom, a row for each node and a column for each dimension."""
+    board = played.places(int(nodes))
+    count = played.dimensions(board)
+    rows = [[node] + [board[node, k].words for k in range(count)] for node in range(int(nodes))]
+    return table(["Node"] + [f"Dimension {k}" for k in range(count)], rows)
+
+
+def shells(nodes):
+    """The shells of every node: in each dimension the run of the node that it awaits."""
+    board = played.places(int(nodes))
+    rows = played.runs(board)
+    count = played.dimensions(board)
+
+    def shell(node, k):
+        awaited = board[node, k].awaited
+        return "none" if awaited is None else joined(next(run for run in rows[k] if awaited in run))
+
+    cells = [[node] + [shell(node, k) for k in range(count)] for node in range(int(nodes))]
+    return table(["Node"] + [f"Shell {k}" for k in range(count)], cells)
+
+
+def frame(name, line):
+    """The frame that a line of a script sends, byte by byte."""
+    sent = {e.line: e.frame.data for e in played.events(name)[0] if e.frame is not None}
+    if int(line) not in sent:
+        raise played.Trouble(f"docs/BARRIER.md: line {line} of scripts/{name} sends no frame")
+    data = sent[int(line)]
+    heads = ["pass", "phase", "dimension", "sender"]
+    rows = [(i, f"`{data[i]:02x}`", heads[i], data[i]) for i in range(4)]
+    rows += [(f"{at} to {at + 3}", f"`{data[at:at + 4].hex(' ')}`", words, value)
+             for words, at, value in played.fields(data)]
+    return table(["Bytes", "In hex", "Field", "Value"], rows)
+
+
+def lengths(name):
+    """How many bytes the frames of each step have."""
+    frames = [e.frame.data for e in played.events(name)[0] if e.frame is not None]
+    found = sorted({(data[0], data[2], len(data)) for data in frames})
+    return table(["Step", "Bytes"], [(step_words(step), size) for *step, size in found])
+
+
+def again(name):
+    """The frames of a script that repeat a step, with the fields that have changed since the frame before."""
+    events, _ = played.events(name)
+    sent = {e.line: e for e in events if e.frame is not None}
+    rows = []
+    for line, event in sorted(sent.items()):
+        if event.frame.before:
+            old, new = (played.fields(e.frame.data) for e in (sent[event.frame.before], event))
+            changes = [f"{words}: {was} → {now}" for (words, _, was), (_, _, now) in zip(old, new) if was != now]
+            ends = f"{event.node} to {joined(event.frame.receivers)}"
+            rows.append((event.frame.before, line, ends, step_words(event.step), ", ".join(changes)))
+    return table(["Sent first in line", "Again in line", "From, to", "Step", "What has changed in it"], rows)
+
+
+def phases():
+    """The program boards' lines about phase bytes."""
+    lines = [line for line in played.output("target/bin/boards", "") if line.startswith("node in phase")]
+    return "\n\n```\n" + "".join(line + "\n" for line in lines) + "```\n\n"
+
+
+def frames_of(name):
+    """How many frames a script puts on links, and their bytes; a frame to two receivers counts twice."""
+    frames = [e.frame for e in played.events(name)[0] if e.frame is not None]
+    return (sum(len(f.receivers) for f in frames), sum(len(f.receivers) * len(f.data) for f in frames))
+
+
+def costs():
+    """What the barrier costs."""
+    numbers = played.header()
+    words, longest = numbers["OCB_STATE_WORDS"], numbers["OCB_FRAME_BYTES"]
+    rows = [("state of a node", f"{words} words of 4 bytes: {4 * words} bytes"),
+            ("buffer for a frame", f"{longest} bytes, the longest frame of any board")]
+    cycles = [("worked", "without work"), ("empty_cycle_of_five", "without work"),
+              ("rollback_of_five", "with one piece of work, which comes late")]
+    for name, words in cycles:
+        count, size = frames_of(name)
+        rows.append((f"a cycle {words}, on a board of {played.size(name)} (`scripts/{name}`)",
+                     f"{count} frames on links, {size} bytes"))
+    for nodes in (5, 6):
+        awaiting = sum(place.awaited is not None for place in played.places(nodes).values())
+        words = f"a cycle without work, by the partners of a board of {nodes}: {awaiting} frames are awaited in a pass"
+        rows.append((words, f"{2 * awaiting} frames on links"))
+    return table(["What", "How much"], rows)
+
+
+KINDS = {kind.__name__: kind for kind in (trace, partners, shells, frame, lengths, again, phases, costs)}
+
+
+# ---- The page
+
+def remade(match):
+    kind, *words = match[2].split()
+    if kind not in KINDS:
+        raise played.Trouble(f"docs/BARRIER.md: no made part is called '{kind}'")
+    return match[1] + KINDS[kind](*words) + match[4]
+
+
+def page(text):
+    """The page with its made parts made anew."""
+    if len(MADE.findall(text)) != text.count("<!-- made:") or text.count("<!-- end -->") != text.count("<!-- made:"):
+        raise played.Trouble("docs/BARRIER.md: a made part without its end")
+    return MADE.sub(remade, text)
+
+
+def check_names(text):
+    """The page's names and limits are in the header, names with their numbers; no refusal is left out."""
+    numbers = played.header()
+    header = (played.ROOT / "include" / "ocb.h").read_text(encoding="utf-8")
+    for name in re.findall(r"\b(?:OCB|ocb)_\w+", text):
+        if name not in numbers and f" {name}(" not in header:
+            raise played.Trouble(f"docs/BARRIER.md: include/ocb.h has no {name}")
+    for limit in re.findall(r"\d+(?:,\d{3})+", text):
+        if limit not in header:
+            raise played.Trouble(f"docs/BARRIER.md: include/ocb.h has no limit {limit}")
+    rows = NUMBERED.findall(text)
+    for value, name, word in rows:
+        if numbers[name] != int(value) or name != "OCB_" + word.upper().replace(" ", "_"):
+            raise played.Trouble(f"docs/BARRIER.md: {value} {name} {word} is not what include/ocb.h says")
+    if sorted(int(value) for value, _, _ in rows) != [0, *range(1, 18), *range(20, 25)]:
+        raise played.Trouble("docs/BARRIER.md: not every answer and refusal stands once in its tables")
+
+
+def check_paths(text, pictures):
+    """What the page names is there, and every picture is shown."""
+    for path in PATH.findall(text):
+        if not (played.ROOT / path).exists():
+            raise played.Trouble(f"docs/BARRIER.md: there is no {path}")
+    shown = set(re.findall(r"\(pictures/(\w+)\.svg\)", text))
+    if shown != set(pictures):
+        raise played.Trouble(f"docs/BARRIER.md: made and shown pictures differ: {sorted(shown ^ set(pictures))}")
+
+
+def wanted():
+    """Every made file with the text it should have."""
+    text = page(PAGE.read_text(encoding="utf-8"))
+    pictures = charts.pictures()
+    check_names(text)
+    check_paths(text, pictures)
+    files = {PICTURES / f"{name}.svg": picture for name, picture in pictures.items()}
+    files[PAGE] = text
+    return files
+
+
+def make():
+    PICTURES.mkdir(exist_ok=True)
+    for path, text in sorted(wanted().items()):
+        path.write_text(text, encoding="utf-8")
+    return "made"
+
+
+def check():
+    files = wanted()
+    for path in sorted(PICTURES.glob("*")):
+        if path not in files:
+            raise played.Trouble(f"{path.relative_to(played.ROOT)} is made by nothing")
+    for path, text in sorted(files.items()):
+        name = path.relative_to(played.ROOT)
+        found = path.read_bytes().decode("utf-8") if path.exists() else ""
+        lines = itertools.zip_longest(found.split("\n"), text.split("\n"))
+        for at, (old, new) in enumerate(lines, start=1):
+            if old != new:
+                raise played.Trouble(f"{name}, line {at}: stands\n  {old!r}\nbut the programs give\n  {new!r}")
+    return f"{len(files)} files are what the programs give"
+
+
+if __name__ == "__main__":
+    modes = {"make": make, "check": check}
+    if len(sys.argv) != 2 or sys.argv[1] not in modes:
+        sys.exit("python3 docs/pages.py make | check")
+    try:
+        print("pages:", modes[sys.argv[1]]())
+    except played.Trouble as trouble:
+        sys.exit(f"pages: {trouble}\nIf that is meant: python3 docs/pages.py make, and read the page again.")
