@@ -5,7 +5,7 @@ python3 docs/pages.py make     writes them
 python3 docs/pages.py check    remakes them in memory and ends with status 1 at the first difference
 
 A made part of the page stands between two comments, <!-- made: KIND WORDS --> and <!-- end -->; the function KIND
-makes it. Wants target/bin/boards, target/bin/rehearse and target/c/play.
+makes it. Wants what tests/c/run and tests/scripts/run build: target/bin, target/c and target/staticlib.
 """
 import itertools
 import re
@@ -156,7 +156,8 @@ def costs():
     numbers = played.header()
     words, longest = numbers["OCB_STATE_WORDS"], numbers["OCB_FRAME_BYTES"]
     rows = [("state of a node", f"{words} words of 4 bytes: {4 * words} bytes"),
-            ("buffer for a frame", f"{longest} bytes, the longest frame of any board")]
+            ("buffer for a frame", f"{longest} bytes, the longest frame of any board"),
+            ("code of the C library, on x86-64", f"{-(-played.code_size() // 1024)} KB, rounded up")]
     cycles = [("worked", "without work"), ("empty_cycle_of_five", "without work"),
               ("rollback_of_five", "with one piece of work, which comes late")]
     for name, words in cycles:

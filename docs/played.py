@@ -149,6 +149,15 @@ def fields(data):
     return [(name, 4 + 4 * i, number(data, 4 + 4 * i)) for i, name in enumerate(names)]
 
 
+def code_size():
+    """The bytes of code and constants in the C library."""
+    path = ROOT / "target" / "staticlib" / "libbarrier_c.a"
+    if not path.exists():
+        raise Trouble("the C library is not built; tests/c/run builds it")
+    totals = subprocess.run(["size", "-t", str(path)], stdout=subprocess.PIPE, check=True).stdout.decode()
+    return int(totals.splitlines()[-1].split()[0])
+
+
 def header():
     """The numbers that include/ocb.h gives to its names."""
     text = (ROOT / "include" / "ocb.h").read_text(encoding="utf-8")
