@@ -10,7 +10,6 @@ ghost use Rattle.frame.specs.Frame.{written, sentNumber, takenNumber, sentAt, t
 ghost use Rattle.tree.specs.Lookups.{placedAnswer};
 ghost use Rattle.node.specs.Answers.{barrierReplied};
 ghost use Rattle.node.specs.Barrier.{barrier, barrierBytes, clauseFails};
-ghost use Rattle.node.specs.Change.{freshIn};
 ghost use Rattle.agree.specs.Verdict.{isVerdict};
 ghost use Rattle.barrier.specs.Pieces.{toWhom, isLone, whomList, within, firstDue, secondDue, frameOf, clausesOf};
 ghost use Rattle.barrier.specs.Pieces.{sendTurn, onwardTurn, lookTurn, turnedBy};
@@ -236,40 +235,6 @@ fn look(v: Verdict, dims: u32, pass: u8, k: u8, agreed: u32, total: u32) -> Turn
     }
 }
 
-// A fresh node in a phase.
-fn fresh_in(nodes: u16, number: u8, phase: u8) -> Node
-    ensures { λ r. ⌜ r ≡ freshIn nodes number phase ⌝ }
-{
-    let sent = [Sent(0); 8];
-    let taken = [Taken(0); 8];
-    let no_first = Stored {
-        present: false,
-        sent: sent,
-        taken: taken,
-        issued: Sent(0),
-        received: Taken(0),
-    };
-    let no_second = Confirm {
-        present: false,
-        agreed: 0,
-        issued: Sent(0),
-    };
-    Node {
-        nodes: nodes,
-        number: number,
-        phase: phase,
-        busy: true,
-        sent: sent,
-        taken: taken,
-        pass: 1,
-        dim: 0,
-        flag: true,
-        first: [no_first; 8],
-        second: [no_second; 8],
-        agreed: 0,
-    }
-}
-
 // The state after a turn, and the answer.
 fn turned(n: Node, t: Turn) -> BarrierReply
     ensures { λ r. ⌜ r ≡ turnedBy n t ⌝ }
@@ -300,7 +265,7 @@ fn turned(n: Node, t: Turn) -> BarrierReply
             }
         }
         Turn::Leaves => {
-            let fresh = fresh_in(n.nodes, n.number, std::num::wrapping_add_u8(n.phase, 1));
+            let fresh = fresh::fresh_in(n.nodes, n.number, std::num::wrapping_add_u8(n.phase, 1));
             BarrierReply {
                 node: fresh,
                 answer: BarrierAnswer::Left,

@@ -8,7 +8,6 @@ ghost use Rattle.base.specs.Limits.{base};
 ghost use Rattle.tree.specs.Tree.{dimension, awaited, distance};
 ghost use Rattle.tree.specs.Lookups.{badBoard};
 ghost use Rattle.node.specs.Sums.{dims};
-ghost use Rattle.node.specs.Change.{noNode};
 ghost use Rattle.node.specs.Answers.{replied};
 ghost use Rattle.node.specs.Calls.{refusal, fresh, send, take, idle, frameIn};
 ghost use Rattle.node.specs.Calls.{stepNumber, firstOf, secondOf, gotten, isAwaited};
@@ -35,55 +34,21 @@ fn refuse(n: Node, no: u8) -> Reply
     }
 }
 
-// All zeros: no state.
-fn no_node() -> Node
-    ensures { λ r. ⌜ r ≡ noNode ⌝ }
-{
-    Node {
-        nodes: 0,
-        number: 0,
-        phase: 0,
-        busy: false,
-        sent: [Sent(0); 8],
-        taken: [Taken(0); 8],
-        pass: 0,
-        dim: 0,
-        flag: false,
-        first: [Stored {
-            present: false,
-            sent: [Sent(0); 8],
-            taken: [Taken(0); 8],
-            issued: Sent(0),
-            received: Taken(0),
-        }; 8],
-        second: [Confirm {
-            present: false,
-            agreed: 0,
-            issued: Sent(0),
-        }; 8],
-        agreed: 0,
-    }
-}
-
 // A node that has just started. Refuses 1, 2.
 pub fn fresh_node(nodes: u32, number: u32) -> Reply
     ensures { λ r. ⌜ replied r ≡ fresh base nodes number ⌝ }
 {
-    let mut n = no_node();
+    let none = fresh::no_node();
     if nodes == 0 {
-        return refuse(n, 1);
+        return refuse(none, 1);
     }
     if 256 < nodes {
-        return refuse(n, 1);
+        return refuse(none, 1);
     }
     if nodes <= number {
-        return refuse(n, 2);
+        return refuse(none, 2);
     }
-    n.nodes = nodes as u16;
-    n.number = number as u8;
-    n.busy = true;
-    n.pass = 1;
-    n.flag = true;
+    let n = fresh::fresh_in(nodes as u16, number as u8, 0);
     Reply {
         node: n,
         answer: Answer::Done,

@@ -10,7 +10,6 @@ use Rattle.base.specs.Limits.{base}
 use Rattle.base.proofs.Laws.{clash}
 use Rattle.node.specs.State.{valid, boardOk}
 use Rattle.node.specs.Change.{noNode}
-use Rattle.node.specs.Calls.{fresh}
 use Rattle.turns.specs.Events.{nodeAt}
 use Rattle.turns.specs.declared.Stage.{Stage}
 
@@ -34,8 +33,3 @@ in-array st a l v = go (decLt a 16)
     go : Dec (a < 16) → a < 16
     go (yes h) = h
     go (no h) = clash (sym v ∙ ap (valid base) (sym (past-all st a (omega arith))) ∙ no-state)
-
--- what is given back for a board of no nodes
-pub none-given : fresh base 0 0 .node ≡ noNode
-unfolding fresh
-none-given = refl

@@ -87,8 +87,7 @@ fn node_at(st: Stage, a: u32) -> Node
         let i = a as usize;
         return st.nodes[i];
     }
-    let none = calls::fresh_node(0, 0);
-    none.node
+    fresh::no_node()
 }
 
 // The board with another state of a node and another number of items under way.

@@ -8,7 +8,6 @@ ghost use Rattle.base.specs.Choice.{every, list};
 ghost use Rattle.base.specs.Limits.{width};
 ghost use Rattle.frame.specs.Frame.{sentAt, takenAt, noFrame};
 ghost use Rattle.frame.specs.Parts.{pasted};
-ghost use Rattle.node.specs.Change.{noNode};
 ghost use Rattle.words.specs.Words.{bit, firstWords, secondWords, packed};
 ghost use Rattle.words.specs.Words.{firstFrom, secondFrom, unpacked, isPacked};
 ghost use Rattle.words.specs.Held.{held};
@@ -290,38 +289,6 @@ fn state_from(s: &[u32]) -> Node
     }
 }
 
-// What is given where words hold no state.
-fn no_node() -> Node
-    ensures { λ r. ⌜ r ≡ noNode ⌝ }
-{
-    let first = Stored {
-        present: false,
-        sent: [Sent(0); 8],
-        taken: [Taken(0); 8],
-        issued: Sent(0),
-        received: Taken(0),
-    };
-    let second = Confirm {
-        present: false,
-        agreed: 0,
-        issued: Sent(0),
-    };
-    Node {
-        nodes: 0,
-        number: 0,
-        phase: 0,
-        busy: false,
-        sent: [Sent(0); 8],
-        taken: [Taken(0); 8],
-        pass: 0,
-        dim: 0,
-        flag: false,
-        first: [first; 8],
-        second: [second; 8],
-        agreed: 0,
-    }
-}
-
 // ---- A frame's fields
 
 // Puts all fields but the tallies.
@@ -402,7 +369,7 @@ pub fn unpack(state: &[u32; 200]) -> Held
     ensures { λ r. ⌜ r ≡ held (now (state .entry)) ⌝ }
 {
     if !in_range(state) {
-        let none = no_node();
+        let none = fresh::no_node();
         return Held {
             ok: false,
             node: none,

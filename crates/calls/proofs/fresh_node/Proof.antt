@@ -6,6 +6,7 @@ use mathlib.Core.Bool.{false}
 use Rattle.base.specs.Limits.{base}
 use Rattle.base.proofs.Laws.{here, later}
 use Rattle.tree.specs.Lookups.{badBoard}
+use Rattle.node.specs.Answers.{give, done}
 use Rattle.node.specs.Calls.{refusal}
 use Rattle.node.proofs.Ways.{fresh-refuses, fresh-does}
 use Rattle.calls.proofs.fresh_node.Statement.{statement}
@@ -36,10 +37,12 @@ returns-3 c =
 
 returns-4 : tie.Need-returns-4
 returns-4 c =
-    rw (c .before .before .before .no-node .ensures) (sym (fresh-does base _ _ (good (c .before)) (c .if3 .left)))
+    ap (λ n. give n done) (c .fresh-in .ensures)
+    ∙ sym (fresh-does base _ _ (good (c .before .before)) (c .before .if3 .left))
 
 pub fresh-node-spec : {M : Type 1} → statement M
 fresh-node-spec =
     tie.close
     (tie.spec (λ c κs. search needs) (λ c κs. search needs) returns (λ c κs. search needs) returns-2
-    (λ c κs. search needs) returns-3 (λ c. search needs) (λ c. search needs) returns-4)
+    (λ c κs. search needs) returns-3 (λ c. search needs) (λ c. search needs) (λ c κs. search needs)
+    returns-4)

@@ -1,10 +1,10 @@
 -- `node_at` is the node at a place of the array, or none.
 use borrow.Author.Needs.{needs}
 use native.Mathlib.Omega.{arith}
-use mathlib.Core.Path.{_≡_, sym, ap, _∙_}
+use mathlib.Core.Path.{_≡_, sym, _∙_}
 use lib.ListN.{length, length-map}
 use Rattle.node.specs.Change.{noNode}
-use Rattle.turns.proofs.Board.{any-default, past-all, in-array, none-given}
+use Rattle.turns.proofs.Board.{any-default, past-all, in-array}
 use Rattle.turns.proofs.node_at.Statement.{statement}
 use Rattle.turns.proofs.node_at.Tie as tie
 
@@ -20,12 +20,9 @@ returns c =
 
 returns-2 : tie.Need-returns-2
 returns-2 c =
-    let s = c .before .before .before in
+    let s = c .before .before in
     let l = sixteen s in
-    let e =
-    ap (λ g. g .node) (c .before .fresh-node .ensures)
-    ∙ none-given
-    ∙ past-all (s .args .t1) (s .args .a) (omega arith) in
+    let e = c .no-node .ensures ∙ past-all (s .args .t1) (s .args .a) (omega arith) in
     (e, λ v. in-array (s .args .t1) _ l (rw (sym e) v))
 
 pub node-at-spec : {M : Type 1} → statement M
