@@ -1,16 +1,13 @@
 -- Laws of the writer's and the reader's answers: each refusal in its order, and what is found when none is met.
 use mathlib.Core.Path.{_≡_, sym, ap, _∙_}
-use mathlib.Core.Bool.{Bool, true, false, not}
+use mathlib.Core.Bool.{true, false}
 use mathlib.Core.List.{List}
 use Prim.Native.Nat.{ℕ, _+_, _≤_, _<_}
 use native.Mathlib.Nat.{zero-add, le-of-lt}
-use lib.Dec.{leb, eqb}
 use lib.ListN.{length, getD}
-use borrow.Author.Tests.{le-ltb, lt-ltb, le-leb, lt-leb, eq-eqb, ne-eqb, leb-false}
-use Rattle.base.specs.Choice.{either}
+use borrow.Author.Tests.{le-ltb, lt-ltb, le-leb, lt-leb, eq-eqb, ne-eqb}
 use Rattle.base.specs.Limits.{Limits, base}
 use Rattle.base.specs.Refusal.{refused, found}
-use Rattle.base.proofs.Laws.{clash}
 use Rattle.tree.specs.Tree.{dimension}
 use Rattle.tree.specs.Lookups.{badBoard}
 use Rattle.tree.proofs.Dimension.{smallest}
@@ -19,21 +16,14 @@ use Rattle.frame.specs.declared.Frame.{Frame}
 use Rattle.frame.specs.Frame.{badStep, frameLength, frameBytes, numbersOk, fieldsOf}
 use Rattle.frame.specs.Frame.{readFrame, writeFrame, written}
 use Rattle.frame.specs.Parts.{pasted}
+use Rattle.frame.proofs.RoundTripChecks.{step-known}
 use Rattle.frame.proofs.Writing.{length-frame}
 
--- a step that is not bad has its dimension below p
-pub step-below : (p pass k : ℕ) → badStep p pass k ≡ false → k < p
-step-below p pass k e = go (either (eqb pass 1) (eqb pass 2)) e
-  where
-    go : (t : Bool) → either (not t) (leb p k) ≡ false → k < p
-    go true q = leb-false p k q
-    go false q = clash q
-
--- and there are at most 8 shells
+-- a step that is not bad is one of the board, which has at most 8 shells
 pub step-fits : (P p pass k : ℕ) → badBoard base P ≡ false → p ≡ dimension P → badStep p pass k ≡ false
     → (k ≤ p) × (p ≤ 8)
 step-fits P p pass k g e s =
-    (le-of-lt (step-below p pass k s), rw e (smallest P 8 (board-good base P g .1)))
+    (le-of-lt (step-known p pass k s .1), rw e (smallest P 8 (board-good base P g .1)))
 
 module _ (L : Limits) (P : ℕ) (f : Frame) (room : ℕ) where
   pub write-board : badBoard L P ≡ true → writeFrame L P f room ≡ refused 1
