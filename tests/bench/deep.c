@@ -19,6 +19,7 @@ static struct figures {
     unsigned long long moved, calls;
 } figures[SIDES][KINDS];
 
+static size_t around[SIDES]; /* what a call of the empty function uses */
 static uint8_t stack[STACK];
 static ucontext_t outside, inside;
 static void (*side_now)(struct call *);
@@ -58,12 +59,12 @@ static size_t depth_of(void (*side)(struct call *), struct call *call)
 
 void perform(void (*side)(struct call *), struct call *call)
 {
-    struct call empty = {.kind = KINDS};
-    struct figures *f = &figures[side == lib_call ? LIBRARY : IN_PLACE][call->kind];
-    size_t around = depth_of(side, &empty);
+    int at = side == lib_call ? LIBRARY : IN_PLACE;
+    struct figures *f = &figures[at][call->kind];
+    if (around[at] == 0) around[at] = depth_of(side, &(struct call){.kind = KINDS});
     moved = 0;
     size_t depth = depth_of(side, call);
-    if (depth - around > f->deepest) f->deepest = depth - around;
+    if (depth - around[at] > f->deepest) f->deepest = depth - around[at];
     if (moved > f->moved_most) f->moved_most = moved;
     f->moved += moved;
     f->calls++;
@@ -80,6 +81,7 @@ int main(void)
 {
     const uint32_t boards[] = {2, 5, 16, 96, 256};
     for (size_t i = 0; i < sizeof boards / sizeof *boards; i++) play_board(boards[i]);
+    printf("state %zu %zu\n", OCB_STATE_WORDS * sizeof(uint32_t), sizeof(struct inplace_node));
     for (int kind = 0; kind < KINDS; kind++) {
         printf("%s", kind_names[kind]);
         for (int side = 0; side < SIDES; side++) {

@@ -156,23 +156,29 @@ static bool tallies_stand(const uint32_t *tallies, uint32_t p, uint32_t limit, u
     return all_zero(tallies + p, INPLACE_SHELLS - p);
 }
 
+/* Shells k to p - 1 are within the limit, and the others 0. */
+static bool shells_stand(const uint32_t *numbers, uint32_t k, uint32_t p)
+{
+    for (uint32_t m = k; m < p; m++)
+        if (numbers[m] > FIELD_LIMIT) return false;
+    return all_zero(numbers, k) && all_zero(numbers + p, INPLACE_SHELLS - p);
+}
+
 static bool first_stands(const struct inplace_first *f, uint32_t k, uint32_t p, bool awaits)
 {
-    uint32_t limit = f->present ? FIELD_LIMIT : 0;
-    if (f->present > 1 || (f->present && !awaits)) return false;
-    if (f->total_sent > limit || f->total_taken > limit) return false;
-    for (uint32_t m = 0; m < INPLACE_SHELLS; m++) {
-        uint32_t most = k <= m && m < p ? limit : 0;
-        if (f->sent[m] > most || f->taken[m] > most) return false;
-    }
-    return true;
+    if (!f->present)
+        return f->total_sent == 0 && f->total_taken == 0 && all_zero(f->sent, INPLACE_SHELLS) &&
+               all_zero(f->taken, INPLACE_SHELLS);
+    if (f->present > 1 || !awaits) return false;
+    if (f->total_sent > FIELD_LIMIT || f->total_taken > FIELD_LIMIT) return false;
+    return shells_stand(f->sent, k, p) && shells_stand(f->taken, k, p);
 }
 
 static bool second_stands(const struct inplace_second *s, bool awaits)
 {
-    uint32_t limit = s->present ? FIELD_LIMIT : 0;
-    if (s->present > 1 || (s->present && !awaits)) return false;
-    return s->agreed <= limit && s->total_sent <= limit;
+    if (!s->present) return s->agreed == 0 && s->total_sent == 0;
+    if (s->present > 1 || !awaits) return false;
+    return s->agreed <= FIELD_LIMIT && s->total_sent <= FIELD_LIMIT;
 }
 
 static void add_frames(struct sums *own, const struct inplace_node *n, uint32_t k, uint32_t p)

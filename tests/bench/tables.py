@@ -5,7 +5,9 @@ import sys
 
 BOARDS = [2, 5, 16, 96, 256]
 CALLS = ["send", "take", "idle", "frame_in", "barrier"]
+TITLES = ["send", "take", "idle", "frame in", "barrier"]
 SIDES = [("lib_call", "ocb_"), ("own_call", "inplace_")]
+WAYS = ["O2", "O3", "words"]
 CASES = {
     "send_bare": "send, nothing stored",
     "send_full": "send, most stored",
@@ -53,9 +55,18 @@ def average(edges, caller, callee):
     return cost / calls if calls else 0
 
 
-def pair(edges, callers, call):
-    """Library and in-place instructions of a call, and their ratio."""
-    library, in_place = (average(edges, at, side + call) for at, (_, side) in zip(callers, SIDES))
+def both(edges, callers, call):
+    """Library and in-place instructions of a call."""
+    return [average(edges, at, side + call) for at, (_, side) in zip(callers, SIDES)]
+
+
+def ratio(edges, call):
+    library, in_place = both(edges, [side[0] for side in SIDES], call)
+    return f"{library / in_place:.1f}"
+
+
+def compared(edges, callers, call):
+    library, in_place = both(edges, callers, call)
     return f"{library:.0f} / {in_place:.0f} = {library / in_place:.1f}"
 
 
@@ -68,27 +79,31 @@ def head(*cells):
     row(*("---" for _ in cells))
 
 
-def print_averages(title, costs):
-    print(f"\n{title}: library / in place = ratio\n")
-    head("P", *(call.replace("_", " ") for call in CALLS))
+def print_averages(costs):
+    print("\nInstructions per call, average: library / in place = ratio\n")
+    head("P", *TITLES, "calls")
     for board in BOARDS:
-        row(board, *(pair(costs[board][0], [side[0] for side in SIDES], call) for call in CALLS))
+        edges, _ = costs[board]
+        callers = [side[0] for side in SIDES]
+        calls = sum(edges["lib_call", "ocb_" + call][0] for call in CALLS)
+        row(board, *(compared(edges, callers, call) for call in CALLS), calls)
 
 
-def print_calls(costs):
-    print("\nCalls of each kind that the averages are over\n")
-    head("P", *(call.replace("_", " ") for call in CALLS))
+def print_ratios(costs):
+    print("\nThe ratios with the in-place version at -O3; and at -O2 with a memcpy that moves a word at a time\n")
+    head("P", *TITLES)
     for board in BOARDS:
-        row(board, *(costs[board][0]["lib_call", "ocb_" + call][0] for call in CALLS))
+        ways = [costs[way][board][0] for way in ("O3", "words")]
+        row(board, *("; ".join(ratio(edges, call) for edges in ways) for call in CALLS))
 
 
-def print_cases(folder, board, edges):
+def print_cases(path, board, edges):
     print(f"\nSingle calls at P = {board}: library / in place = ratio\n")
     head("Call", "frames stored", "instructions")
-    for line in open(f"{folder}/cases.{board}"):
+    for line in open(path):
         name, stored = line.split()
         callee = next(to for at, to in edges if at == name and to.startswith("ocb_"))
-        row(CASES[name[5:]], stored, pair(edges, [name, name], callee[4:]))
+        row(CASES[name[5:]], stored, compared(edges, [name, name], callee[4:]))
 
 
 def print_shares(costs):
@@ -96,7 +111,7 @@ def print_shares(costs):
     parts = ["survey::survey_of", "words::unpack", "words::pack", "memcpy", "the rest"]
     print("\nWhere the library's instructions go, in percent\n")
     head("P", *parts)
-    for board in BOARDS:
+    for board in (2, 256):
         edges, own = costs[board]
         total = sum(cost for (at, to), (_, cost) in edges.items() if to.startswith("ocb_") and at == "lib_call")
         inside = [name for name in own if "::" in name or name.startswith("ocb_")]
@@ -105,24 +120,23 @@ def print_shares(costs):
         row(board, *(f"{100 * share / total:.0f}" for share in shares + [total - sum(shares)]))
 
 
-def print_depths(folder):
-    print("\nDeepest stack of a call, and what its memcpy calls move, in bytes\n")
-    head("Call", "library stack", "in-place stack", "library moves, average", "most")
-    for line in open(f"{folder}/deep"):
-        call, depth, moved, most, other = line.split()[:5]
+def print_depths(path):
+    lines = [line.split() for line in open(path)]
+    print("\nDeepest stack of a call, what the library has memcpy move, and the state, in bytes\n")
+    head("", "library", "in place", "library moves, average", "most")
+    for call, depth, moved, most, other, *_ in lines[1:]:
         row(call.replace("_", " "), depth, other, moved, most)
+    row(*lines[0], "", "")
 
 
 def main():
     folder = sys.argv[1]
-    costs = {board: read_costs(f"{folder}/callgrind.{board}") for board in BOARDS}
-    print_averages("Instructions per call, average", costs)
-    print_calls(costs)
-    print_cases(folder, 256, costs[256][0])
-    print_shares(costs)
-    plain = {board: read_costs(f"{folder}/callgrind.words.{board}") for board in BOARDS}
-    print_averages("The same, with a memcpy that moves a word at a time", plain)
-    print_depths(folder)
+    costs = {way: {board: read_costs(f"{folder}/callgrind.{way}.{board}") for board in BOARDS} for way in WAYS}
+    print_averages(costs["O2"])
+    print_ratios(costs)
+    print_cases(f"{folder}/cases.O2.256", 256, costs["O2"][256][0])
+    print_shares(costs["O2"])
+    print_depths(f"{folder}/depths")
 
 
 main()
