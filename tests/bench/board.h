@@ -1,6 +1,6 @@
 /*
- * A board played twice, call by call: through the library and through the in-place version. Every answer, every byte and
- * every state is compared, and a difference ends the program.
+ * A board played twice, call by call: through the library and through the in-place version. Every answer, every byte
+ * and every state is compared, and a difference ends the program.
  */
 #ifndef BOARD_H
 #define BOARD_H

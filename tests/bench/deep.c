@@ -1,6 +1,6 @@
 /*
- * How deep each call writes into its stack, and how many bytes it has memcpy move. Each call runs on a stack filled with
- * a pattern; what a call of an empty function uses is taken off. Linked with --wrap=memcpy.
+ * How deep each call writes into its stack, and how many bytes it has memcpy move. Each call runs on a stack filled
+ * with a pattern; what a call of an empty function uses is taken off. Linked with --wrap=memcpy.
  */
 #define _XOPEN_SOURCE 700
 #include "board.h"

@@ -1,4 +1,4 @@
-/* A call on the side of the library, and on the side of the in-place version. Put into each function that is counted. */
+/* A call on either side, as code that each function of which callgrind tells the cost takes in whole. */
 #ifndef SIDES_H
 #define SIDES_H
 
