@@ -1,13 +1,16 @@
-//! Holds the library to the plain model, through the C functions: `compare [SEED [SCALE]]`.
+//! Holds the library to the plain model, through the C functions: `compare [SEED [SCALE]]`, or `compare replay` with a
+//! script on standard input.
 //!
 //! It prints how many cases of each kind it compared and how often each answer came, and ends with a failure at the first
-//! difference, with what was done.
+//! difference: for a call by itself with the call in C, for a run with a script that `compare replay` plays.
 
 mod calls;
 mod frames;
 mod library;
+mod replay;
 mod report;
 mod runs;
+mod script;
 mod trees;
 
 use model::random::Random;
@@ -29,6 +32,9 @@ const WANTED: [(&str, &[u32]); 11] = [
 ];
 
 fn main() {
+    if std::env::args().nth(1).is_some_and(|word| word == "replay") {
+        return replay::replay();
+    }
     let mut arguments = std::env::args().skip(1).map(|word| word.parse::<u64>().expect("a number"));
     let seed = arguments.next().unwrap_or(1);
     let scale = arguments.next().unwrap_or(1);
@@ -37,7 +43,6 @@ fn main() {
     trees::compare(&mut report);
     frames::compare(&mut report, &mut random, 20_000 * scale);
     calls::fresh(&mut report);
-    calls::limits(&mut report);
     for _ in 0..20_000 * scale {
         let words = calls::noise(&mut random);
         calls::every(&mut report, &mut random, &words, &[]);
