@@ -1,6 +1,6 @@
 //! Runs of whole boards: the model plays an event and checks demand 3, and the library plays it beside.
 
-use crate::calls;
+use crate::{calls, orders};
 use crate::library::{self, Words};
 use crate::report::{held, Difference, Report};
 use crate::script::{self, Run};
@@ -162,9 +162,16 @@ fn turn(random: &mut Random, board: &Board, at: u32) -> Event {
     Event::Idle { at }
 }
 
+/// How many frames words hold.
+fn stored(words: &Words) -> u32 {
+    (0..8).map(|k| words[24 + 19 * k] + words[176 + 3 * k]).sum()
+}
+
 /// Whole phases with work: all nodes take a turn, then each item under way is delivered, or is slow, so many times in 4.
+/// The state with the most stored frames of the first phase has each of its numbers set to each boundary.
 fn phases(report: &mut Report, random: &mut Random, size: u32, (first, last): (u64, u64), slow: u32) {
     let mut pair = Pair::new(size, first);
+    let mut fullest = pair.states[0];
     while pair.board.oldest() < last {
         for at in 0..size {
             let happens = turn(random, &pair.board, at);
@@ -179,7 +186,11 @@ fn phases(report: &mut Report, random: &mut Random, size: u32, (first, last): (u
         if random.below(64) == 0 {
             hand(report, random, &pair);
         }
+        if pair.board.oldest() == first {
+            fullest = *pair.states.iter().chain([&fullest]).max_by_key(|words| stored(words)).expect("a node");
+        }
     }
+    orders::boundaries(report, &fullest);
     finish(report, &pair);
 }
 
@@ -188,7 +199,7 @@ pub fn compare(report: &mut Report, random: &mut Random, scale: u64) {
         run(report, random, size, 6_000 * scale, &EVEN);
         run(report, random, size, 3_000 * scale, &SLOW);
         run(report, random, size, 1_500 * scale, &LOSSY);
-        phases(report, random, size, (0, 260 * scale), size % 4);
+        phases(report, random, size, (0, 260 * scale), 1 + size % 2);
     }
     for size in [33, 96, 256] {
         run(report, random, size, 2_000 * scale, &EVEN);
