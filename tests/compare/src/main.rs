@@ -1,8 +1,8 @@
 //! Holds the library to the plain model, through the C functions: `compare [SEED [SCALE]]`, or `compare replay` with a
 //! script on standard input.
 //!
-//! It prints how many cases of each kind it compared and how often each answer came, and ends with a failure at the first
-//! difference: for a call by itself with the call in C, for a run with a script that `compare replay` plays.
+//! It prints how many cases of each kind it compared and how often each answer came, and ends with a failure at the
+//! first difference: for a call by itself with the call in C, for a run with a script that `compare replay` plays.
 
 mod calls;
 mod frames;

@@ -33,7 +33,7 @@ impl Pair {
         item.map(|item| item.load.clone())
     }
 
-    /// The event at the library's state, and the acting node and its answer; each call is held to the model's by itself.
+    /// The event at the library's state. The acting node and its answer; each call is held to the model's by itself.
     fn beside(&mut self, report: &mut Report, event: Event) -> Result<Option<(u32, u32)>, Difference> {
         let (node, answer) = match event {
             Event::Send { at, to } => (at, calls::send(report, &mut self.states[at as usize], to)?),
@@ -98,7 +98,8 @@ fn fail(run: &Run, difference: Difference) -> ! {
     }
     eprintln!("---- end of the script, with the difference at its last line");
     if !script::is_rehearsal(&short, &lines) {
-        eprintln!("The rehearsal program does not take it: more than 16 nodes or 4,096 bytes, or lines of its own.");
+        eprintln!("The rehearsal program does not take it: it has more than 16 nodes or 4,096 bytes, or lines that");
+        eprintln!("document 01's grammar lacks (phase, b .. room, lose, s to a node that the board lacks).");
     }
     if let Some((_, difference)) = first_difference(&short) {
         difference.print();
@@ -167,7 +168,7 @@ fn stored(words: &Words) -> u32 {
     (0..8).map(|k| words[24 + 19 * k] + words[176 + 3 * k]).sum()
 }
 
-/// Whole phases with work: all nodes take a turn, then each item under way is delivered, or is slow, so many times in 4.
+/// Whole phases with work: all nodes take a turn, then each item under way is delivered or, so many times in 4, is slow.
 /// The state with the most stored frames of the first phase has each of its numbers set to each boundary.
 fn phases(report: &mut Report, random: &mut Random, size: u32, (first, last): (u64, u64), slow: u32) {
     let mut pair = Pair::new(size, first);
@@ -194,17 +195,17 @@ fn phases(report: &mut Report, random: &mut Random, size: u32, (first, last): (u
     finish(report, &pair);
 }
 
+/// Larger boards start in a later phase, so that all go past phase 255.
 pub fn compare(report: &mut Report, random: &mut Random, scale: u64) {
     for size in 1..=16 {
         run(report, random, size, 6_000 * scale, &EVEN);
         run(report, random, size, 3_000 * scale, &SLOW);
         run(report, random, size, 1_500 * scale, &LOSSY);
-        phases(report, random, size, (0, 260 * scale), 1 + size % 2);
+        let first = if size <= 8 { 0 } else { 200 };
+        phases(report, random, size, (first, 300 * scale), 1 + size % 2);
     }
-    for size in [33, 96, 256] {
+    for (size, first, last) in [(33, 220, 280), (96, 250, 262), (256, 252, 258)] {
         run(report, random, size, 2_000 * scale, &EVEN);
+        phases(report, random, size, (first, last * scale), 1);
     }
-    phases(report, random, 33, (0, 258 * scale), 1);
-    phases(report, random, 96, (250, 256 + 4 * scale), 2);
-    phases(report, random, 256, (253, 256 + 2 * scale), 1);
 }

@@ -89,13 +89,28 @@ pub fn is_rehearsal(run: &Run, lines: &[String]) -> bool {
     run.size <= 16 && run.phase == 0 && bytes <= 4_096 && run.events.iter().all(plain)
 }
 
+/// The run without events that alter nothing on the model's board; the last one stays.
+fn without_idle_steps(run: &Run) -> Run {
+    let mut board = board_in(run.size, run.phase);
+    let mut short = Run { events: vec![], ..*run };
+    for (at, &event) in run.events.iter().enumerate() {
+        let before = (board.nodes.clone(), board.links.len());
+        board.play_and_tell(event);
+        if at + 1 == run.events.len() || before != (board.nodes.clone(), board.links.len()) {
+            short.events.push(event);
+        }
+    }
+    short
+}
+
 /// How many events are played at most to shorten a run.
-const PATIENCE: usize = 3_000_000;
+const PATIENCE: usize = 1_000_000;
 
 /// The run without events that its difference does not need. `differs` tells the event at which a run differs.
 pub fn shorten(run: &Run, differs: impl Fn(&Run) -> Option<usize>) -> Run {
-    let mut short = run.clone();
-    let (mut played, mut part) = (0, run.events.len() / 2);
+    let busy = without_idle_steps(run);
+    let mut short = if differs(&busy).is_some() { busy } else { run.clone() };
+    let (mut played, mut part) = (0, short.events.len() / 2);
     while part > 0 {
         let mut at = 0;
         while at < short.events.len() && played < PATIENCE {
