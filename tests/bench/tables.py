@@ -122,8 +122,8 @@ def print_shares(costs):
 
 def print_depths(path):
     lines = [line.split() for line in open(path)]
-    print("\nDeepest stack of a call, what the library has memcpy move, and the state, in bytes\n")
-    head("", "library", "in place", "library moves, average", "most")
+    print("\nDeepest stack of a call, what the library has memcpy copy, and the state, in bytes\n")
+    head("", "library", "in place", "library copies, average", "most")
     for call, depth, moved, most, other, *_ in lines[1:]:
         row(call.replace("_", " "), depth, other, moved, most)
     row(*lines[0], "", "")

@@ -168,7 +168,7 @@ fn stored(words: &Words) -> u32 {
     (0..8).map(|k| words[24 + 19 * k] + words[176 + 3 * k]).sum()
 }
 
-/// Whole phases with work: all nodes take a turn, then each item under way is delivered or, so many times in 4, is slow.
+/// Whole phases with work: all nodes take a turn, then each item under way is delivered or, so often in 4, is slow.
 /// The state with the most stored frames of the first phase has each of its numbers set to each boundary.
 fn phases(report: &mut Report, random: &mut Random, size: u32, (first, last): (u64, u64), slow: u32) {
     let mut pair = Pair::new(size, first);
