@@ -1,6 +1,6 @@
 //! Frames written and read: valid ones, and ones with something wrong.
 
-use crate::library;
+use crate::library::{self, c_array};
 use crate::report::{same, Report};
 use model::frame::{self, Fields};
 use model::random::Random;
@@ -65,32 +65,43 @@ fn spoilt(random: &mut Random, mut fields: Fields) -> Fields {
     fields
 }
 
-fn write(report: &mut Report, nodes: u32, fields: &Fields, room: usize) -> Option<Vec<u8>> {
-    let pattern: Vec<u8> = (0..room).map(|at| (at * 7 + 3) as u8).collect();
-    let (mut ours, mut theirs) = (pattern.clone(), pattern);
+/// Writes into so many bytes in the middle of a pattern.
+pub fn write(report: &mut Report, nodes: u32, fields: &Fields, room: usize) -> (u32, Vec<u8>) {
+    let (mut ours, mut theirs) = (library::pattern::<256>(), library::pattern::<256>());
+    let lent = 16..16 + room;
+    let words = library::field_words(fields);
     let mut length = [0xa5a5_a5a5; 1];
-    let answer = library::frame_write(nodes, &library::field_words(fields), &mut ours, &mut length);
-    let model = match frame::write(nodes, fields, &mut theirs) {
+    let answer = library::frame_write(nodes, &words, &mut ours[lent.clone()], &mut length);
+    let model = match frame::write(nodes, fields, &mut theirs[lent.clone()]) {
         Ok(written) => (0, [written as u32]),
         Err(number) => (u32::from(number), [0xa5a5_a5a5]),
     };
-    same("written answer", &(answer, length), &model, &(nodes, fields, room));
-    same("written bytes", &ours, &theirs, &(nodes, fields, room));
+    let again = || {
+        let fields = format!("uint32_t fields[OCB_FIELD_WORDS] = {}; uint8_t buffer[256];", c_array(&words));
+        format!("{fields} uint32_t length; ocb_frame_write({nodes}u, fields, buffer, {room}, &length);")
+    };
+    same("written answer", &(answer, length), &model, again);
+    same("written bytes", &ours, &theirs, again);
     report.count("frames written");
     report.answer("frame writer", answer);
-    (answer == 0).then(|| ours[..length[0] as usize].to_vec())
+    let written = if answer == 0 { length[0] as usize } else { 0 };
+    (answer, ours[lent][..written].to_vec())
 }
 
-fn read(report: &mut Report, nodes: u32, bytes: &[u8]) {
+pub fn read(report: &mut Report, nodes: u32, bytes: &[u8]) -> u32 {
     let mut ours = [0xa5a5_a5a5; 23];
     let answer = library::frame_read(nodes, bytes, &mut ours);
     let model = match frame::read(nodes, bytes) {
         Ok(fields) => (0, library::field_words(&fields)),
         Err(number) => (u32::from(number), [0xa5a5_a5a5; 23]),
     };
-    same("read frame", &(answer, ours), &model, &(nodes, bytes));
+    same("read frame", &(answer, ours), &model, || {
+        let lent = format!("uint8_t bytes[] = {}; uint32_t fields[OCB_FIELD_WORDS];", c_array(bytes));
+        format!("{lent} ocb_frame_read({nodes}u, bytes, {}, fields);", bytes.len())
+    });
     report.count("frames read");
     report.answer("frame reader", answer);
+    answer
 }
 
 /// The bytes as they are, cut, lengthened, and with one byte changed.
@@ -114,7 +125,7 @@ pub fn compare(report: &mut Report, random: &mut Random, rounds: u64) {
         let fields = good(random, nodes);
         let room = random.below(90) as usize;
         write(report, nodes, &fields, room);
-        let bytes = write(report, nodes, &fields, 76 + room).expect("good fields are written");
+        let (_, bytes) = write(report, nodes, &fields, 76 + room);
         read_all(report, random, nodes, &bytes);
         let fields = spoilt(random, fields);
         write(report, nodes, &fields, 76);

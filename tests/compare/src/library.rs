@@ -64,6 +64,17 @@ pub fn frame_read(nodes: u32, bytes: &[u8], fields: &mut [u32; 23]) -> u32 {
     unsafe { ocb_frame_read(nodes, bytes.as_ptr(), bytes.len(), fields.as_mut_ptr()) }
 }
 
+/// Memory filled with a pattern, to lend a part of: what is written beside that part shows.
+pub fn pattern<const N: usize>() -> [u8; N] {
+    std::array::from_fn(|at| (at * 7 + 3) as u8)
+}
+
+/// Numbers as C writes an array.
+pub fn c_array<T: std::fmt::Display>(numbers: &[T]) -> String {
+    let numbers: Vec<String> = numbers.iter().map(T::to_string).collect();
+    format!("{{{}}}", numbers.join(", "))
+}
+
 /// The words of a state of the model; its numbers must fit their places.
 pub fn words_of(node: &Node) -> Words {
     let mut words = vec![

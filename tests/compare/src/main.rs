@@ -1,20 +1,24 @@
-//! Holds the library to the plain model, through the C functions: `compare [SEED [SCALE]]`.
+//! Holds the library to the plain model, through the C functions: `compare [SEED [SCALE]]`, or `compare replay` with a
+//! script on standard input.
 //!
-//! It prints how many cases of each kind it compared and how often each answer came, and ends with a failure at the first
-//! difference, with what was done.
+//! It prints how many cases of each kind it compared and how often each answer came, and ends with a failure at the
+//! first difference: for a call by itself with the call in C, for a run with a script that `compare replay` plays.
 
 mod calls;
 mod frames;
 mod library;
+mod orders;
+mod replay;
 mod report;
 mod runs;
+mod script;
 mod trees;
 
 use model::random::Random;
 use report::Report;
 
 /// Answers that each call must have given at least once.
-const WANTED: [(&str, &[u32]); 11] = [
+const WANTED: [(&str, &[u32]); 12] = [
     ("dimension", &[0, 1]),
     ("place", &[0, 1, 2, 10]),
     ("distance", &[0, 1, 2, 3]),
@@ -26,9 +30,26 @@ const WANTED: [(&str, &[u32]); 11] = [
     ("idle", &[0, 13]),
     ("frame in", &[0, 2, 3, 7, 8, 9, 10, 11, 13, 24]),
     ("barrier", &[12, 13, 14, 20, 21, 22, 23]),
+    ("clause", &[0, 1, 2, 3, 4, 5, 6]),
+];
+
+/// How many pairs of refusals of a call can be due at once; each must have come, the earlier being given.
+const PAIRS: [(&str, usize); 9] = [
+    ("place", 2),
+    ("distance", 3),
+    ("fresh", 1),
+    ("send", 9),
+    ("take", 13),
+    ("barrier", 3),
+    ("frame in", 38),
+    ("frame reader", 12),
+    ("frame writer", 10),
 ];
 
 fn main() {
+    if std::env::args().nth(1).is_some_and(|word| word == "replay") {
+        return replay::replay();
+    }
     let mut arguments = std::env::args().skip(1).map(|word| word.parse::<u64>().expect("a number"));
     let seed = arguments.next().unwrap_or(1);
     let scale = arguments.next().unwrap_or(1);
@@ -37,20 +58,31 @@ fn main() {
     trees::compare(&mut report);
     frames::compare(&mut report, &mut random, 20_000 * scale);
     calls::fresh(&mut report);
-    calls::limits(&mut report);
+    orders::compare(&mut report);
     for _ in 0..20_000 * scale {
         let words = calls::noise(&mut random);
         calls::every(&mut report, &mut random, &words, &[]);
     }
     runs::compare(&mut report, &mut random, scale);
     report.print();
+    check_reach(&report);
+    println!("seed {seed}, scale {scale}: library and model agree");
+}
+
+/// Ends the program where an answer, or two refusals due at once, never came.
+fn check_reach(report: &Report) {
+    let mut missed = vec![];
     for (call, answers) in WANTED {
-        for &answer in answers {
-            if !report.seen(call, answer) {
-                eprintln!("{call} never answered {answer}");
-                std::process::exit(1);
-            }
+        let never = answers.iter().filter(|&&answer| !report.seen(call, answer));
+        missed.extend(never.map(|answer| format!("{call} never answered {answer}")));
+    }
+    for (call, pairs) in PAIRS {
+        if report.pairs(call) != pairs {
+            missed.push(format!("{call}: {} of {pairs} pairs of refusals due at once", report.pairs(call)));
         }
     }
-    println!("seed {seed}, scale {scale}: library and model agree");
+    if !missed.is_empty() {
+        eprintln!("{}", missed.join("\n"));
+        std::process::exit(1);
+    }
 }

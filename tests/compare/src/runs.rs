@@ -1,26 +1,31 @@
 //! Runs of whole boards: the model plays an event and checks demand 3, and the library plays it beside.
 
-use crate::calls;
+use crate::{calls, orders};
 use crate::library::{self, Words};
-use crate::report::{same, Report};
+use crate::report::{held, Difference, Report};
+use crate::script::{self, Run};
 use model::board::{Board, Event, Load};
 use model::random::{event, Habits, Random};
+use model::LONGEST;
 
-/// A board of the model, and the library's states beside it.
-struct Pair {
-    board: Board,
-    states: Vec<Words>,
-    script: Vec<Event>,
+/// A board of the model, the library's states beside it, and what happened so far.
+pub struct Pair {
+    pub board: Board,
+    pub states: Vec<Words>,
+    run: Run,
 }
 
 impl Pair {
-    fn new(size: u32) -> Pair {
+    /// Fresh nodes in a phase.
+    pub fn new(size: u32, phase: u64) -> Pair {
         let fresh = |number| {
             let mut words = [0; library::WORDS];
-            same("fresh", &library::fresh(&mut words, size, number), &0, &(size, number));
+            library::fresh(&mut words, size, number);
+            words[2] = u32::from(phase as u8);
             words
         };
-        Pair { board: Board::new(size), states: (0..size).map(fresh).collect(), script: vec![] }
+        let states = (0..size).map(fresh).collect();
+        Pair { board: script::board_in(size, phase), states, run: Run { size, phase, events: vec![] } }
     }
 
     fn oldest_of(&self, from: u32, to: u32) -> Option<Load> {
@@ -28,44 +33,78 @@ impl Pair {
         item.map(|item| item.load.clone())
     }
 
-    /// The event at the library's state; each call is held to the model's by itself.
-    fn beside(&mut self, report: &mut Report, event: Event) {
-        match event {
-            Event::Send { at, to } => {
-                calls::send(report, &mut self.states[at as usize], to);
+    /// The event at the library's state. The acting node and its answer; each call is held to the model's by itself.
+    fn beside(&mut self, report: &mut Report, event: Event) -> Result<Option<(u32, u32)>, Difference> {
+        let (node, answer) = match event {
+            Event::Send { at, to } => (at, calls::send(report, &mut self.states[at as usize], to)?),
+            Event::Idle { at } => (at, calls::idle(report, &mut self.states[at as usize])?),
+            Event::Barrier { at, room } => (at, calls::barrier(report, &mut self.states[at as usize], room)?),
+            Event::Deliver { from, to } => {
+                let state = &mut self.states[to as usize].clone();
+                let answer = match self.oldest_of(from, to) {
+                    Some(Load::Work { byte, .. }) => calls::take(report, state, from, byte)?,
+                    Some(Load::Frame { bytes }) => calls::frame_in(report, state, &bytes)?,
+                    None => return Ok(None),
+                };
+                self.states[to as usize] = *state;
+                (to, answer)
             }
-            Event::Idle { at } => {
-                calls::idle(report, &mut self.states[at as usize]);
-            }
-            Event::Barrier { at, room } => {
-                calls::barrier(report, &mut self.states[at as usize], &mut vec![0x11; room]);
-            }
-            Event::Deliver { from, to } => match self.oldest_of(from, to) {
-                Some(Load::Work { byte, .. }) => {
-                    calls::take(report, &mut self.states[to as usize], from, byte);
-                }
-                Some(Load::Frame { bytes }) => {
-                    calls::frame_in(report, &mut self.states[to as usize], &bytes);
-                }
-                None => {}
-            },
-            Event::Lose { .. } => {}
+            Event::Lose { .. } => return Ok(None),
+        };
+        Ok(Some((node, answer)))
+    }
+
+    /// Plays an event on both sides. The acting node and its answer, if there was a call.
+    pub fn step(&mut self, report: &mut Report, event: Event) -> Result<Option<(u32, u32)>, Difference> {
+        self.run.events.push(event);
+        let acted = self.beside(report, event)?;
+        let (_, faults) = self.board.play_and_tell(event);
+        held("demand 3", &Vec::<String>::new(), &faults, || "the script".to_string())?;
+        if let Some((at, _)) = acted {
+            let model = library::words_of(&self.board.nodes[at as usize]);
+            held("a state of the run", &self.states[at as usize], &model, || "the script".to_string())?;
         }
+        report.count("events of runs");
+        Ok(acted)
     }
 
     fn play(&mut self, report: &mut Report, event: Event) {
-        self.beside(report, event);
-        self.script.push(event);
-        let (_, faults) = self.board.play_and_tell(event);
-        same("demand 3", &Vec::<String>::new(), &faults, &self.script);
-        report.count("events of runs");
-    }
-
-    fn hold(&self) {
-        for (state, node) in self.states.iter().zip(&self.board.nodes) {
-            same("state in a run", state, &library::words_of(node), &self.script);
+        if let Err(difference) = self.step(report, event) {
+            fail(&self.run, difference);
         }
     }
+}
+
+/// The first event at which a run differs, and how.
+fn first_difference(run: &Run) -> Option<(usize, Difference)> {
+    let (mut pair, mut report) = (Pair::new(run.size, run.phase), Report::default());
+    for (at, &event) in run.events.iter().enumerate() {
+        if let Err(difference) = pair.step(&mut report, event) {
+            return Some((at, difference));
+        }
+    }
+    None
+}
+
+/// Ends the program with the shortest script found.
+fn fail(run: &Run, difference: Difference) -> ! {
+    difference.print();
+    eprintln!("after {} events on {} nodes, being shortened", run.events.len(), run.size);
+    let short = script::shorten(run, |run| first_difference(run).map(|(at, _)| at));
+    let lines = script::lines_of(&short);
+    eprintln!("---- script, for 'bash tests/compare/run replay'");
+    for line in &lines {
+        eprintln!("{line}");
+    }
+    eprintln!("---- end of the script, with the difference at its last line");
+    if !script::is_rehearsal(&short, &lines) {
+        eprintln!("The rehearsal program does not take it: it has more than 16 nodes or 4,096 bytes, or lines that");
+        eprintln!("document 01's grammar lacks (phase, b .. room, lose, s to a node that the board lacks).");
+    }
+    if let Some((_, difference)) = first_difference(&short) {
+        difference.print();
+    }
+    std::process::exit(1)
 }
 
 const EVEN: Habits = Habits { send: 3, idle: 4, barrier: 9, deliver: 9, lose: 0, odd: 1 };
@@ -73,26 +112,27 @@ const SLOW: Habits = Habits { send: 4, idle: 5, barrier: 20, deliver: 3, lose: 0
 const LOSSY: Habits = Habits { send: 3, idle: 4, barrier: 9, deliver: 9, lose: 1, odd: 1 };
 
 /// A run of so many events; its states, now and then, are handed to every call, whole and with one word changed.
-fn run(report: &mut Report, random: &mut Random, size: u32, events: u64, habits: &Habits, handed: u64) {
-    let mut pair = Pair::new(size);
+fn run(report: &mut Report, random: &mut Random, size: u32, events: u64, habits: &Habits) {
+    let mut pair = Pair::new(size, 0);
     for number in 0..events {
         let happens = event(random, &pair.board, habits);
         pair.play(report, happens);
-        if number % 64 == 0 {
-            pair.script.clear();
-            pair.hold();
-        }
-        if handed > 0 && number % handed == 0 {
+        if number % 23 == 0 {
             hand(report, random, &pair);
         }
     }
-    pair.hold();
+    finish(report, &pair);
+}
+
+fn finish(report: &mut Report, pair: &Pair) {
     report.count("runs");
-    for _ in 0..pair.board.oldest() {
-        report.count("phases left by all");
+    report.add("phases left by all", pair.board.oldest() - pair.run.phase);
+    if pair.board.oldest() > 255 {
+        report.count("runs past phase 255");
     }
 }
 
+/// States of a run handed to every call, with frames under way in it.
 fn hand(report: &mut Report, random: &mut Random, pair: &Pair) {
     let state = pair.states[random.below(pair.states.len() as u32) as usize];
     let frames: Vec<Vec<u8>> = (pair.board.links.iter().rev())
@@ -111,37 +151,61 @@ fn hand(report: &mut Report, random: &mut Random, pair: &Pair) {
     }
 }
 
-/// Phases past 255 with nothing sent: every node idles, calls and delivers in turn.
-fn quiet_phases(report: &mut Report, size: u32, phases: u64) {
-    let mut pair = Pair::new(size);
-    while pair.board.oldest() < phases {
-        for at in 0..size {
-            pair.play(report, Event::Idle { at });
-            pair.play(report, Event::Barrier { at, room: 76 });
-        }
-        while let Some(item) = pair.board.links.first().cloned() {
-            let before = pair.board.links.len();
-            pair.play(report, Event::Deliver { from: item.from, to: item.to });
-            if pair.board.links.len() == before {
-                break;
-            }
-        }
-        pair.script.clear();
+/// What a node of a board in use does next: sends some work while busy, then idles, then calls the barrier.
+fn turn(random: &mut Random, board: &Board, at: u32) -> Event {
+    let size = board.nodes.len() as u32;
+    if !board.nodes[at as usize].busy {
+        return Event::Barrier { at, room: LONGEST };
     }
-    pair.hold();
-    report.count("runs past phase 255");
+    if size > 1 && random.below(3) == 0 {
+        return Event::Send { at, to: (at + 1 + random.below(size - 1)) % size };
+    }
+    Event::Idle { at }
 }
 
+/// How many frames words hold.
+fn stored(words: &Words) -> u32 {
+    (0..8).map(|k| words[24 + 19 * k] + words[176 + 3 * k]).sum()
+}
+
+/// Whole phases with work: all nodes take a turn, then each item under way is delivered or, so often in 4, is slow.
+/// The state with the most stored frames of the first phase has each of its numbers set to each boundary.
+fn phases(report: &mut Report, random: &mut Random, size: u32, (first, last): (u64, u64), slow: u32) {
+    let mut pair = Pair::new(size, first);
+    let mut fullest = pair.states[0];
+    while pair.board.oldest() < last {
+        for at in 0..size {
+            let happens = turn(random, &pair.board, at);
+            pair.play(report, happens);
+        }
+        let ends: Vec<(u32, u32)> = pair.board.links.iter().map(|item| (item.from, item.to)).collect();
+        for (from, to) in ends {
+            if random.below(4) >= slow {
+                pair.play(report, Event::Deliver { from, to });
+            }
+        }
+        if random.below(64) == 0 {
+            hand(report, random, &pair);
+        }
+        if pair.board.oldest() == first {
+            fullest = *pair.states.iter().chain([&fullest]).max_by_key(|words| stored(words)).expect("a node");
+        }
+    }
+    orders::boundaries(report, &fullest);
+    finish(report, &pair);
+}
+
+/// Larger boards start in a later phase, so that all go past phase 255.
 pub fn compare(report: &mut Report, random: &mut Random, scale: u64) {
     for size in 1..=16 {
-        run(report, random, size, 6_000 * scale, &EVEN, 23);
-        run(report, random, size, 3_000 * scale, &SLOW, 23);
-        run(report, random, size, 1_500 * scale, &LOSSY, 23);
-        quiet_phases(report, size, 260);
+        run(report, random, size, 6_000 * scale, &EVEN);
+        run(report, random, size, 3_000 * scale, &SLOW);
+        run(report, random, size, 1_500 * scale, &LOSSY);
+        let first = if size <= 8 { 0 } else { 200 };
+        phases(report, random, size, (first, 300 * scale), 1 + size % 2);
     }
-    for (size, events) in [(33, 4_000), (96, 3_000), (256, 2_000)] {
-        run(report, random, size, events * scale, &EVEN, 41);
+    for (size, first, last) in [(33, 220, 280), (96, 250, 262), (256, 252, 258)] {
+        run(report, random, size, 2_000 * scale, &EVEN);
+        phases(report, random, size, (first, last * scale), 1);
     }
-    quiet_phases(report, 33, 3);
-    quiet_phases(report, 256, 2);
 }

@@ -25,7 +25,7 @@ fn dimension(report: &mut Report, nodes: u32) {
     let mut found = [0xa5a5_a5a5; 1];
     let answer = library::dimension(nodes, &mut found);
     let model = expected(tree::dimension(nodes).map(|p| [p]));
-    same("dimension", &(answer, found), &model, &nodes);
+    same("dimension", &(answer, found), &model, || format!("ocb_dimension({nodes}u, found);"));
     report.count("dimensions");
     report.answer("dimension", answer);
 }
@@ -34,18 +34,23 @@ fn place(report: &mut Report, nodes: u32, node: u32, k: u32) {
     let mut found = [0xa5a5_a5a5; 3];
     let answer = library::place(nodes, k, node, &mut found);
     let model = expected(tree::place(nodes, node, k).map(place_words));
-    same("place", &(answer, found), &model, &(nodes, node, k));
+    same("place", &(answer, found), &model, || format!("ocb_place({nodes}u, {k}u, {node}u, found);"));
     report.count("places");
     report.answer("place", answer);
+    let bad = nodes == 0 || nodes > 256;
+    let deep = !bad && tree::dimension(nodes).is_ok_and(|p| k >= p);
+    report.order("place", &[("1", 1, bad), ("2", 2, node >= nodes), ("10", 10, deep)], answer);
 }
 
 fn distance(report: &mut Report, nodes: u32, a: u32, b: u32) {
     let mut found = [0xa5a5_a5a5; 1];
     let answer = library::distance(nodes, a, b, &mut found);
     let model = expected(tree::distance(nodes, a, b).map(|d| [d]));
-    same("distance", &(answer, found), &model, &(nodes, a, b));
+    same("distance", &(answer, found), &model, || format!("ocb_distance({nodes}u, {a}u, {b}u, found);"));
     report.count("distances");
     report.answer("distance", answer);
+    let bad = nodes == 0 || nodes > 256;
+    report.order("distance", &[("1", 1, bad), ("2", 2, a >= nodes || b >= nodes), ("3", 3, a == b)], answer);
 }
 
 pub fn compare(report: &mut Report) {

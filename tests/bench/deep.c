@@ -1,0 +1,94 @@
+/*
+ * How deep each call writes into its stack, and how many bytes it has memcpy move. Each call runs on a stack filled
+ * with a pattern; what a call of an empty function uses is taken off. Linked with --wrap=memcpy.
+ */
+#define _XOPEN_SOURCE 700
+#include "board.h"
+
+#include <stdio.h>
+#include <string.h>
+#include <ucontext.h>
+
+#define STACK (16 * 1024)
+#define PATTERN 0xa5
+
+enum { LIBRARY, IN_PLACE, SIDES };
+
+static struct figures {
+    size_t deepest, moved_most;
+    unsigned long long moved, calls;
+} figures[SIDES][KINDS];
+
+static size_t around[SIDES]; /* what a call of the empty function uses */
+static uint8_t stack[STACK];
+static ucontext_t outside, inside;
+static void (*side_now)(struct call *);
+static struct call *call_now;
+static size_t moved;
+
+void *__real_memcpy(void *to, const void *from, size_t count);
+void *__wrap_memcpy(void *to, const void *from, size_t count);
+
+void *__wrap_memcpy(void *to, const void *from, size_t count)
+{
+    moved += count;
+    return __real_memcpy(to, from, count);
+}
+
+static void on_stack(void)
+{
+    side_now(call_now);
+}
+
+/* Runs a call on the painted stack; how many bytes from its top are written. */
+static size_t depth_of(void (*side)(struct call *), struct call *call)
+{
+    size_t clean = 0;
+    memset(stack, PATTERN, sizeof stack);
+    getcontext(&inside);
+    inside.uc_stack.ss_sp = stack;
+    inside.uc_stack.ss_size = sizeof stack;
+    inside.uc_link = &outside;
+    makecontext(&inside, on_stack, 0);
+    side_now = side;
+    call_now = call;
+    swapcontext(&outside, &inside);
+    while (clean < sizeof stack && stack[clean] == PATTERN) clean++;
+    return sizeof stack - clean;
+}
+
+void perform(void (*side)(struct call *), struct call *call)
+{
+    int at = side == lib_call ? LIBRARY : IN_PLACE;
+    struct figures *f = &figures[at][call->kind];
+    if (around[at] == 0) around[at] = depth_of(side, &(struct call){.kind = KINDS});
+    moved = 0;
+    size_t depth = depth_of(side, call);
+    if (depth - around[at] > f->deepest) f->deepest = depth - around[at];
+    if (moved > f->moved_most) f->moved_most = moved;
+    f->moved += moved;
+    f->calls++;
+}
+
+void saw(const struct pair *before, const struct call *call, uint32_t answer)
+{
+    (void)before;
+    (void)call;
+    (void)answer;
+}
+
+int main(void)
+{
+    const uint32_t boards[] = {2, 5, 16, 96, 256};
+    for (size_t i = 0; i < sizeof boards / sizeof *boards; i++) play_board(boards[i]);
+    printf("state %zu %zu\n", OCB_STATE_WORDS * sizeof(uint32_t), sizeof(struct inplace_node));
+    for (int kind = 0; kind < KINDS; kind++) {
+        printf("%s", kind_names[kind]);
+        for (int side = 0; side < SIDES; side++) {
+            const struct figures *f = &figures[side][kind];
+            printf(" %zu %llu %zu", f->deepest, f->moved / f->calls, f->moved_most);
+        }
+        printf("\n");
+    }
+    return 0;
+}
