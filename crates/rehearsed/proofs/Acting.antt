@@ -51,16 +51,16 @@ few-receivers P k a = go (place P k a)
     go (neighbour b) = omega arith
     go (messenger b h) = omega arith
 
--- the length of a frame due is read off its head
-pub record Whole (P : ℕ) (frame : List ℕ) : Type 0 where
+-- a frame whose length can be read off its head
+pub record Legible (P : ℕ) (frame : List ℕ) : Type 0 where
   pub told : frameLength (dimension P) (getD frame 0 0) (getD frame 2 0) ≡ length frame
   pub headed : 3 ≤ length frame
   pub fits : length frame ≤ placeSize
 
-due-whole : (P : ℕ) (n : Node) → n .nodes ≡ P → valid base n ≡ true → lengthDue n ≤ placeSize
-    → Whole P (frameBytes (dims n) (frameDue n))
+due-legible : (P : ℕ) (n : Node) → n .nodes ≡ P → valid base n ≡ true → lengthDue n ≤ placeSize
+    → Legible P (frameBytes (dims n) (frameDue n))
 unfolding frameBytes
-due-whole P n e v l =
+due-legible P n e v l =
     let pass = valid-known base n v .pass in
     let count = due-length n pass in
     let head = due-headed n pass in
@@ -155,7 +155,7 @@ module _ {P : ℕ} {st : Stage} {items : List Header} {bytes : List ℕ} {w : Bo
   -- ---- "b a (barrier call)"
 
   -- a frame is put on the link to one node or to two
-  module _ (n : Node) (fr : List ℕ) (frame-is : Whole P fr) where
+  module _ (n : Node) (fr : List ℕ) (frame-is : Legible P fr) where
     dim : dimension P ≤ 8
     dim = smallest P 8 (omega arith)
 
@@ -260,12 +260,12 @@ module _ {P : ℕ} {st : Stage} {items : List Header} {bytes : List ℕ} {w : Bo
       subst
       (λ fr.
       Follows P w (posts (at n (n .pass) (n .dim) false (n .agreed)) (frameOf n)
-      (due-whole P n (facts .own a h .0) v l) (receiversDue n))
+      (due-legible P n (facts .own a h .0) v l) (receiversDue n))
       (line a 20 (put (w .nodes) a (at n (n .pass) (n .dim) false (n .agreed)) a))
       (framedTo st items bytes a (at n (n .pass) (n .dim) false (n .agreed)) fr (receiversDue n)))
       (ap frameOf (sym same))
       (framed-follows (at n (n .pass) (n .dim) false (n .agreed)) (frameOf n)
-      (due-whole P n (facts .own a h .0) v l) (receiversDue n) (omega arith)
+      (due-legible P n (facts .own a h .0) v l) (receiversDue n) (omega arith)
       (few-receivers (n .nodes) (n .dim) (n .number)))
   call-way-follows (CallWay.waits v b d z r) = quiet-follows few s a h _ 21 _ (λ z. omega arith) refl refl
   call-way-follows (CallWay.next v b d r l) = quiet-follows few s a h _ 22 _ (λ z. omega arith) refl refl
