@@ -7,13 +7,13 @@ use model::frame::{stated_length, Fields};
 use model::{tree, FIELD_LIMIT, SENT_LIMIT, SHELLS, TAKEN_LIMIT};
 
 /// Boards and nodes: a neighbour, a messenger and a hermit, one alone in dimension 0, and large boards.
-const PLACES: [(u32, u32); 7] = [(2, 0), (3, 2), (5, 2), (5, 3), (6, 2), (96, 47), (256, 77)];
+pub const PLACES: [(u32, u32); 7] = [(2, 0), (3, 2), (5, 2), (5, 3), (6, 2), (96, 47), (256, 77)];
 
 /// Differences of phases with something to tell: now, early, foreign, late.
 const DIFFERENCES: [u8; 6] = [0, 1, 2, 128, 254, 255];
 
 /// A fresh node in a phase; where it is bad, T is 1 in pass 1, and all else can still be told.
-fn fresh(board: u32, number: u32, phase: u8, bad: bool) -> Words {
+pub fn fresh(board: u32, number: u32, phase: u8, bad: bool) -> Words {
     let mut words: Words = [0; library::WORDS];
     same("fresh", &library::fresh(&mut words, board, number), &0, || format!("board {board}, node {number}"));
     words[2] = u32::from(phase);
@@ -213,28 +213,6 @@ fn writer(report: &mut Report, board: u32, number: u32) {
     }
 }
 
-/// A frame stored at a fresh idle node of two whose sums with the node's tallies are next to the limit, in both passes.
-fn sums(report: &mut Report) {
-    for (sent, taken) in [(0, 0), (1, 0), (2, 2), (SENT_LIMIT, SENT_LIMIT), (7, TAKEN_LIMIT)] {
-        for (over, under) in [(0, 0), (1, 1), (1, 0), (0, 1), (2, 2)] {
-            let mut state = fresh(2, 0, 0, false);
-            (state[3], state[6], state[8], state[16]) = (0, 0, sent, taken);
-            // pass 1, dimension 0: stored; sent, taken, total sent, total taken
-            (state[24], state[25], state[33]) = (1, taken, sent);
-            (state[41], state[42]) = (FIELD_LIMIT - 1 - sent + over, FIELD_LIMIT - 1 - taken + under);
-            must(calls::barrier(report, &mut state, 76));
-            must(calls::barrier(report, &mut state, 76));
-            for (agreed, total) in [(0, 0), (1, 0), (0, 1)] {
-                let mut state = state;
-                // pass 2, dimension 0: stored, T, total sent
-                (state[176], state[177], state[178]) = (1, FIELD_LIMIT - agreed, FIELD_LIMIT - sent + total);
-                must(calls::barrier(report, &mut state, 76));
-            }
-            report.count("sums next to the limit");
-        }
-    }
-}
-
 /// A valid state with each of its numbers, one after the other, set to each boundary.
 pub fn boundaries(report: &mut Report, state: &Words) {
     let limits = [2, 255, 256, SENT_LIMIT, TAKEN_LIMIT, FIELD_LIMIT, u32::MAX - 1];
@@ -258,5 +236,4 @@ pub fn compare(report: &mut Report) {
         reader(report, board, number);
         writer(report, board, number);
     }
-    sums(report);
 }
