@@ -26,19 +26,28 @@ fn others(board: u32, number: u32) -> [u32; 4] {
     [(number + 1) % board, board, u32::MAX, number]
 }
 
+/// Tallies, from a word on, that add up to a total: half in the first shell, and the rest in the last.
+fn tally(state: &mut Words, at: usize, total: u32) {
+    let p = tree::dimension(state[0]).expect("a board") as usize;
+    state[at] = total / 2;
+    state[at + p - 1] += total - total / 2;
+}
+
+/// Messages taken, all that there can be, do not matter to a send.
 fn send(report: &mut Report, board: u32, number: u32) {
     for other in others(board, number) {
         for bits in 0..8 {
             let (bad, idle) = (bits & 1 == 1, bits & 2 == 2);
             let mut state = fresh(board, number, 0, bad);
             state[3] = u32::from(!idle);
-            state[8] = SENT_LIMIT - 1 + (bits >> 2);
+            tally(&mut state, 8, SENT_LIMIT - 1 + (bits >> 2));
+            tally(&mut state, 16, TAKEN_LIMIT);
             let order = [
                 ("13", 13, bad),
                 ("2", 2, other >= board),
                 ("3", 3, other == number),
                 ("4", 4, idle),
-                ("5", 5, state[8] == SENT_LIMIT),
+                ("5", 5, bits >> 2 == 1),
             ];
             let answer = must(calls::send(report, &mut state, other));
             report.order("send", &order, answer);
@@ -46,20 +55,22 @@ fn send(report: &mut Report, board: u32, number: u32) {
     }
 }
 
+/// Messages sent, all that there can be, do not matter to a take.
 fn take(report: &mut Report, board: u32, number: u32) {
     for other in others(board, number) {
         for difference in DIFFERENCES {
             for bits in 0..4 {
                 let (bad, phase) = (bits & 1 == 1, 253 + difference % 3);
                 let mut state = fresh(board, number, phase, bad);
-                state[16] = TAKEN_LIMIT - 1 + (bits >> 1);
+                tally(&mut state, 8, SENT_LIMIT);
+                tally(&mut state, 16, TAKEN_LIMIT - 1 + (bits >> 1));
                 let order = [
                     ("13", 13, bad),
                     ("2", 2, other >= board),
                     ("3", 3, other == number),
                     ("7", 7, difference == 1),
                     ("8", 8, difference > 1),
-                    ("6", 6, state[16] == TAKEN_LIMIT),
+                    ("6", 6, bits >> 1 == 1),
                 ];
                 let answer = must(calls::take(report, &mut state, other, phase.wrapping_add(difference)));
                 report.order("take", &order, answer);
@@ -213,6 +224,17 @@ fn writer(report: &mut Report, board: u32, number: u32) {
     }
 }
 
+/// Every phase of a node with every phase of a message and of a frame.
+fn phases(report: &mut Report) {
+    for (node, item) in (0..=255).flat_map(|node| (0..=255).map(move |item| (node, item))) {
+        let state = fresh(2, 0, node, false);
+        must(calls::take(report, &mut state.clone(), 1, item));
+        let parts = Parts { pass: 1, dim: 0, sender: 1, phase: item, largest: 0, longer: 0 };
+        must(calls::frame_in(report, &mut state.clone(), &parts.bytes(1)));
+        report.count("pairs of phases");
+    }
+}
+
 /// A valid state with each of its numbers, one after the other, set to each boundary.
 pub fn boundaries(report: &mut Report, state: &Words) {
     let limits = [2, 255, 256, SENT_LIMIT, TAKEN_LIMIT, FIELD_LIMIT, u32::MAX - 1];
@@ -236,4 +258,5 @@ pub fn compare(report: &mut Report) {
         reader(report, board, number);
         writer(report, board, number);
     }
+    phases(report);
 }
