@@ -12,6 +12,7 @@ mod replay;
 mod report;
 mod runs;
 mod script;
+mod sums;
 mod trees;
 
 use model::random::Random;
@@ -59,6 +60,7 @@ fn main() {
     frames::compare(&mut report, &mut random, 20_000 * scale);
     calls::fresh(&mut report);
     orders::compare(&mut report);
+    sums::compare(&mut report);
     for _ in 0..20_000 * scale {
         let words = calls::noise(&mut random);
         calls::every(&mut report, &mut random, &words, &[]);

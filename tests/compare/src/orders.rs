@@ -7,13 +7,13 @@ use model::frame::{stated_length, Fields};
 use model::{tree, FIELD_LIMIT, SENT_LIMIT, SHELLS, TAKEN_LIMIT};
 
 /// Boards and nodes: a neighbour, a messenger and a hermit, one alone in dimension 0, and large boards.
-const PLACES: [(u32, u32); 7] = [(2, 0), (3, 2), (5, 2), (5, 3), (6, 2), (96, 47), (256, 77)];
+pub const PLACES: [(u32, u32); 7] = [(2, 0), (3, 2), (5, 2), (5, 3), (6, 2), (96, 47), (256, 77)];
 
 /// Differences of phases with something to tell: now, early, foreign, late.
 const DIFFERENCES: [u8; 6] = [0, 1, 2, 128, 254, 255];
 
 /// A fresh node in a phase; where it is bad, T is 1 in pass 1, and all else can still be told.
-fn fresh(board: u32, number: u32, phase: u8, bad: bool) -> Words {
+pub fn fresh(board: u32, number: u32, phase: u8, bad: bool) -> Words {
     let mut words: Words = [0; library::WORDS];
     same("fresh", &library::fresh(&mut words, board, number), &0, || format!("board {board}, node {number}"));
     words[2] = u32::from(phase);
@@ -26,19 +26,28 @@ fn others(board: u32, number: u32) -> [u32; 4] {
     [(number + 1) % board, board, u32::MAX, number]
 }
 
+/// Tallies, from a word on, that add up to a total: half in the first shell, and the rest in the last.
+fn tally(state: &mut Words, at: usize, total: u32) {
+    let p = tree::dimension(state[0]).expect("a board") as usize;
+    state[at] = total / 2;
+    state[at + p - 1] += total - total / 2;
+}
+
+/// Messages taken, all that there can be, do not matter to a send.
 fn send(report: &mut Report, board: u32, number: u32) {
     for other in others(board, number) {
         for bits in 0..8 {
             let (bad, idle) = (bits & 1 == 1, bits & 2 == 2);
             let mut state = fresh(board, number, 0, bad);
             state[3] = u32::from(!idle);
-            state[8] = SENT_LIMIT - 1 + (bits >> 2);
+            tally(&mut state, 8, SENT_LIMIT - 1 + (bits >> 2));
+            tally(&mut state, 16, TAKEN_LIMIT);
             let order = [
                 ("13", 13, bad),
                 ("2", 2, other >= board),
                 ("3", 3, other == number),
                 ("4", 4, idle),
-                ("5", 5, state[8] == SENT_LIMIT),
+                ("5", 5, bits >> 2 == 1),
             ];
             let answer = must(calls::send(report, &mut state, other));
             report.order("send", &order, answer);
@@ -46,20 +55,22 @@ fn send(report: &mut Report, board: u32, number: u32) {
     }
 }
 
+/// Messages sent, all that there can be, do not matter to a take.
 fn take(report: &mut Report, board: u32, number: u32) {
     for other in others(board, number) {
         for difference in DIFFERENCES {
             for bits in 0..4 {
                 let (bad, phase) = (bits & 1 == 1, 253 + difference % 3);
                 let mut state = fresh(board, number, phase, bad);
-                state[16] = TAKEN_LIMIT - 1 + (bits >> 1);
+                tally(&mut state, 8, SENT_LIMIT);
+                tally(&mut state, 16, TAKEN_LIMIT - 1 + (bits >> 1));
                 let order = [
                     ("13", 13, bad),
                     ("2", 2, other >= board),
                     ("3", 3, other == number),
                     ("7", 7, difference == 1),
                     ("8", 8, difference > 1),
-                    ("6", 6, state[16] == TAKEN_LIMIT),
+                    ("6", 6, bits >> 1 == 1),
                 ];
                 let answer = must(calls::take(report, &mut state, other, phase.wrapping_add(difference)));
                 report.order("take", &order, answer);
@@ -213,25 +224,14 @@ fn writer(report: &mut Report, board: u32, number: u32) {
     }
 }
 
-/// A frame stored at a fresh idle node of two whose sums with the node's tallies are next to the limit, in both passes.
-fn sums(report: &mut Report) {
-    for (sent, taken) in [(0, 0), (1, 0), (2, 2), (SENT_LIMIT, SENT_LIMIT), (7, TAKEN_LIMIT)] {
-        for (over, under) in [(0, 0), (1, 1), (1, 0), (0, 1), (2, 2)] {
-            let mut state = fresh(2, 0, 0, false);
-            (state[3], state[6], state[8], state[16]) = (0, 0, sent, taken);
-            // pass 1, dimension 0: stored; sent, taken, total sent, total taken
-            (state[24], state[25], state[33]) = (1, taken, sent);
-            (state[41], state[42]) = (FIELD_LIMIT - 1 - sent + over, FIELD_LIMIT - 1 - taken + under);
-            must(calls::barrier(report, &mut state, 76));
-            must(calls::barrier(report, &mut state, 76));
-            for (agreed, total) in [(0, 0), (1, 0), (0, 1)] {
-                let mut state = state;
-                // pass 2, dimension 0: stored, T, total sent
-                (state[176], state[177], state[178]) = (1, FIELD_LIMIT - agreed, FIELD_LIMIT - sent + total);
-                must(calls::barrier(report, &mut state, 76));
-            }
-            report.count("sums next to the limit");
-        }
+/// Every phase of a node with every phase of a message and of a frame.
+fn phases(report: &mut Report) {
+    for (node, item) in (0..=255).flat_map(|node| (0..=255).map(move |item| (node, item))) {
+        let state = fresh(2, 0, node, false);
+        must(calls::take(report, &mut state.clone(), 1, item));
+        let parts = Parts { pass: 1, dim: 0, sender: 1, phase: item, largest: 0, longer: 0 };
+        must(calls::frame_in(report, &mut state.clone(), &parts.bytes(1)));
+        report.count("pairs of phases");
     }
 }
 
@@ -258,5 +258,5 @@ pub fn compare(report: &mut Report) {
         reader(report, board, number);
         writer(report, board, number);
     }
-    sums(report);
+    phases(report);
 }
