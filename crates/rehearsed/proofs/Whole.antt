@@ -246,29 +246,29 @@ module _ (P : ℕ) (one : 1 ≤ P) (few : P ≤ 16) where
 module _ (script : List ℕ) (items : List Item) (bytes : List ℕ) where
   -- how a play opens: it stops at once, or a board of 1 to 16 nodes is played
   data Opening : Played → Type 0 where
-    shut : (why line : ℕ) → Opening (stopped why line items bytes)
+    shut : (why line : ℕ) → line ≤ 1 → Opening (stopped why line items bytes)
     opens : (P : ℕ) → 1 ≤ P → P ≤ 16 → lineAt script 0 .line ≡ Nodes P
         → Opening (playFrom script (length script) (lineAt script 0 .next) 2 (opening P) items bytes)
 
   by-line : (l : Line) → lineAt script 0 .line ≡ l → Opening (playOpened script (lineAt script 0 .next) items bytes l)
   by-line (Nodes P) e =
-      cases Opening (either (eqb P 0) (ltb 16 P)) _ _ (λ t. shut 1 1)
+      cases Opening (either (eqb P 0) (ltb 16 P)) _ _ (λ t. shut 1 1 (omega arith))
       (λ t. let z = either-false (eqb P 0) (ltb 16 P) t in
       opens P (omega (arith, eqb-false P 0 (z .0))) (ltb-false 16 P (z .1)) e)
-  by-line (Sends a b) e = shut 17 1
-  by-line (Delivers a b) e = shut 17 1
-  by-line (Idles a) e = shut 17 1
-  by-line (Calls a) e = shut 17 1
-  by-line Bad e = shut 17 1
+  by-line (Sends a b) e = shut 17 1 (omega arith)
+  by-line (Delivers a b) e = shut 17 1 (omega arith)
+  by-line (Idles a) e = shut 17 1 (omega arith)
+  by-line (Calls a) e = shut 17 1 (omega arith)
+  by-line Bad e = shut 17 1 (omega arith)
 
   open-is : Opening (choose (ltb 4096 (length script)) (stopped 17 0 items bytes)
       (playOpened script (lineAt script 0 .next) items bytes (lineAt script 0 .line)))
   open-is =
-      cases Opening (ltb 4096 (length script)) _ _ (λ e. shut 17 0) (λ e. by-line (lineAt script 0 .line) refl)
+      cases Opening (ltb 4096 (length script)) _ _ (λ e. shut 17 0 (omega arith)) (λ e. by-line (lineAt script 0 .line) refl)
 
   by-opening : {p : Played} → Opening p → play script items bytes .text ≡ header ++ p .text
       → Rehearsal script items bytes
-  by-opening (shut why line) e = Rehearsal.shut why line e
+  by-opening (shut why line h) e = Rehearsal.shut why line h e
   by-opening (opens P one few l) e =
       let t = texted script (length script) (lineAt script 0 .next) 2 (opening P) items bytes in
       Rehearsal.opens P one few l (t .closing) (t .closes) (e ∙ ap (λ r. header ++ r) (t .is))

@@ -92,8 +92,9 @@ pub record IsRun (P : ℕ) (ts : List Told) : Type 0 where
   pub lives : (n : ℕ) → Lives base P (run base P (take n (eventsIn (kept ts))))
 
 pub data Rehearsal (script : List ℕ) (items : List Item) (bytes : List ℕ) : Type 0 where
-  -- the first line stops the play
-  shut : (why line : ℕ) → play script items bytes .text ≡ header ++ stopText why line → Rehearsal script items bytes
+  -- the script is too long (line 0), or its first line opens no board
+  shut : (why line : ℕ) → line ≤ 1 → play script items bytes .text ≡ header ++ stopText why line
+      → Rehearsal script items bytes
   -- a board of P nodes is played
   opens : (P : ℕ) → 1 ≤ P → P ≤ 16 → lineAt script 0 .line ≡ Nodes P → (closing : List ℕ) → Closing closing
       → play script items bytes .text ≡ header ++ (textOf (told script P items bytes) ++ closing)

@@ -22,11 +22,10 @@ pub fn replay() {
     let lines: Vec<&str> = text.lines().collect();
     let size = number_in(lines.first(), "nodes").filter(|size| (1..=256).contains(size));
     let size = size.unwrap_or_else(|| refuse("the first line is not 'nodes P' with P from 1 to 256"));
-    let phase = number_in(lines.get(1), "phase");
-    let mut pair = Pair::new(size as u32, phase.unwrap_or(0));
+    let mut pair = Pair::new(size as u32);
     let mut report = Report::default();
     println!("node answer phase pass dim flag busy");
-    for line in lines.iter().skip(if phase.is_some() { 2 } else { 1 }) {
+    for line in lines.iter().skip(1) {
         let event = event_of(&pair.board, line).unwrap_or_else(|| refuse(line));
         let acted = must(pair.step(&mut report, event));
         let Some((at, answer)) = acted else {

@@ -16,16 +16,15 @@ pub struct Pair {
 }
 
 impl Pair {
-    /// Fresh nodes in a phase.
-    pub fn new(size: u32, phase: u64) -> Pair {
+    /// Fresh nodes.
+    pub fn new(size: u32) -> Pair {
         let fresh = |number| {
             let mut words = [0; library::WORDS];
             library::fresh(&mut words, size, number);
-            words[2] = u32::from(phase as u8);
             words
         };
         let states = (0..size).map(fresh).collect();
-        Pair { board: script::board_in(size, phase), states, run: Run { size, phase, events: vec![] } }
+        Pair { board: Board::new(size), states, run: Run { size, events: vec![] } }
     }
 
     fn oldest_of(&self, from: u32, to: u32) -> Option<Load> {
@@ -77,7 +76,7 @@ impl Pair {
 
 /// The first event at which a run differs, and how.
 fn first_difference(run: &Run) -> Option<(usize, Difference)> {
-    let (mut pair, mut report) = (Pair::new(run.size, run.phase), Report::default());
+    let (mut pair, mut report) = (Pair::new(run.size), Report::default());
     for (at, &event) in run.events.iter().enumerate() {
         if let Err(difference) = pair.step(&mut report, event) {
             return Some((at, difference));
@@ -99,7 +98,7 @@ fn fail(run: &Run, difference: Difference) -> ! {
     eprintln!("---- end of the script, with the difference at its last line");
     if !script::is_rehearsal(&short, &lines) {
         eprintln!("The rehearsal program does not take it: it has more than 16 nodes or 4,096 bytes, or lines that");
-        eprintln!("document 01's grammar lacks (phase, b .. room, lose, s to a node that the board lacks).");
+        eprintln!("document 01's grammar lacks (b .. room, lose, s to a node that the board lacks).");
     }
     if let Some((_, difference)) = first_difference(&short) {
         difference.print();
@@ -113,7 +112,7 @@ const LOSSY: Habits = Habits { send: 3, idle: 4, barrier: 9, deliver: 9, lose: 1
 
 /// A run of so many events; its states, now and then, are handed to every call, whole and with one word changed.
 fn run(report: &mut Report, random: &mut Random, size: u32, events: u64, habits: &Habits) {
-    let mut pair = Pair::new(size, 0);
+    let mut pair = Pair::new(size);
     for number in 0..events {
         let happens = event(random, &pair.board, habits);
         pair.play(report, happens);
@@ -126,7 +125,7 @@ fn run(report: &mut Report, random: &mut Random, size: u32, events: u64, habits:
 
 fn finish(report: &mut Report, pair: &Pair) {
     report.count("runs");
-    report.add("phases left by all", pair.board.oldest() - pair.run.phase);
+    report.add("phases left by all", pair.board.oldest());
     if pair.board.oldest() > 255 {
         report.count("runs past phase 255");
     }
@@ -170,8 +169,8 @@ fn stored(words: &Words) -> u32 {
 
 /// Whole phases with work: all nodes take a turn, then each item under way is delivered or, so often in 4, is slow.
 /// The state with the most stored frames of the first phase has each of its numbers set to each boundary.
-fn phases(report: &mut Report, random: &mut Random, size: u32, (first, last): (u64, u64), slow: u32) {
-    let mut pair = Pair::new(size, first);
+fn phases(report: &mut Report, random: &mut Random, size: u32, last: u64, slow: u32) {
+    let mut pair = Pair::new(size);
     let mut fullest = pair.states[0];
     while pair.board.oldest() < last {
         for at in 0..size {
@@ -187,7 +186,7 @@ fn phases(report: &mut Report, random: &mut Random, size: u32, (first, last): (u
         if random.below(64) == 0 {
             hand(report, random, &pair);
         }
-        if pair.board.oldest() == first {
+        if pair.board.oldest() == 0 {
             fullest = *pair.states.iter().chain([&fullest]).max_by_key(|words| stored(words)).expect("a node");
         }
     }
@@ -195,17 +194,16 @@ fn phases(report: &mut Report, random: &mut Random, size: u32, (first, last): (u
     finish(report, &pair);
 }
 
-/// Larger boards start in a later phase, so that all go past phase 255.
+/// Every board goes past phase 255.
 pub fn compare(report: &mut Report, random: &mut Random, scale: u64) {
     for size in 1..=16 {
         run(report, random, size, 6_000 * scale, &EVEN);
         run(report, random, size, 3_000 * scale, &SLOW);
         run(report, random, size, 1_500 * scale, &LOSSY);
-        let first = if size <= 8 { 0 } else { 200 };
-        phases(report, random, size, (first, 300 * scale), 1 + size % 2);
+        phases(report, random, size, 300 * scale, 1 + size % 2);
     }
-    for (size, first, last) in [(33, 220, 280), (96, 250, 262), (256, 252, 258)] {
+    for (size, last) in [(33, 280), (96, 262), (256, 258)] {
         run(report, random, size, 2_000 * scale, &EVEN);
-        phases(report, random, size, (first, last * scale), 1);
+        phases(report, random, size, last * scale, 1);
     }
 }

@@ -1,6 +1,5 @@
 //! A run as a script: document 01's grammar, and named lines for what that grammar cannot say.
 //!
-//! - `phase N` after `nodes P`: all nodes start fresh in phase N, with empty links.
 //! - `b A room N`: a barrier call with a buffer of N bytes, where N is not 76.
 //! - `lose A B N`: the N-th item on the link from A to B, the oldest being the 0-th, is lost.
 //! - `s A B` with B not below P. The rehearsal program answers 17 to all of these.
@@ -12,18 +11,7 @@ use model::LONGEST;
 #[derive(Clone)]
 pub struct Run {
     pub size: u32,
-    pub phase: u64,
     pub events: Vec<Event>,
-}
-
-/// A board whose nodes are fresh in a phase.
-pub fn board_in(size: u32, phase: u64) -> Board {
-    let mut board = Board::new(size);
-    board.phases.fill(phase);
-    for node in &mut board.nodes {
-        node.phase = phase as u8;
-    }
-    board
 }
 
 /// The line of an event that happens to a board; none where an item is lost that is not there.
@@ -65,11 +53,8 @@ pub fn event_of(board: &Board, line: &str) -> Option<Event> {
 
 /// The lines of a run.
 pub fn lines_of(run: &Run) -> Vec<String> {
-    let mut board = board_in(run.size, run.phase);
+    let mut board = Board::new(run.size);
     let mut lines = vec![format!("nodes {}", run.size)];
-    if run.phase > 0 {
-        lines.push(format!("phase {}", run.phase));
-    }
     for &event in &run.events {
         lines.extend(line_of(&board, event));
         board.play_and_tell(event);
@@ -86,12 +71,12 @@ pub fn is_rehearsal(run: &Run, lines: &[String]) -> bool {
         _ => true,
     };
     let bytes: usize = lines.iter().map(|line| line.len() + 1).sum();
-    run.size <= 16 && run.phase == 0 && bytes <= 4_096 && run.events.iter().all(plain)
+    run.size <= 16 && bytes <= 4_096 && run.events.iter().all(plain)
 }
 
 /// The run without events that alter nothing on the model's board; the last one stays.
 fn without_idle_steps(run: &Run) -> Run {
-    let mut board = board_in(run.size, run.phase);
+    let mut board = Board::new(run.size);
     let mut short = Run { events: vec![], ..*run };
     for (at, &event) in run.events.iter().enumerate() {
         let before = (board.nodes.clone(), board.links.len());
