@@ -34,7 +34,8 @@ const WANTED: [(&str, &[u32]); 12] = [
     ("clause", &[0, 1, 2, 3, 4, 5, 6]),
 ];
 
-/// How many pairs of refusals of a call can be due at once; each must have come, the earlier being given.
+/// How many pairs of refusals of a call the cases bring due at once, the earlier being given. For frame in and the frame
+/// reader the number is what the cases reach, not one derived from document 01; fewer means poorer cases.
 const PAIRS: [(&str, usize); 9] = [
     ("place", 2),
     ("distance", 3),
