@@ -1,7 +1,7 @@
 #include "board.h"
 
-#include <stdio.h>
-#include <stdlib.h>
+#include "machine.h"
+
 #include <string.h>
 
 #define ITEMS 16384
@@ -16,7 +16,7 @@ struct item {
 
 static struct {
     uint32_t nodes, cycles;
-    struct pair pairs[OCB_NODES];
+    struct states states[OCB_NODES];
     uint32_t left[OCB_NODES]; /* how many cycles a node has left */
     uint32_t work[OCB_NODES]; /* messages that a node will still send before it idles */
     struct item items[ITEMS]; /* all links in one list, oldest first */
@@ -24,8 +24,6 @@ static struct {
     uint32_t round;
     uint32_t blocked[OCB_NODES][OCB_NODES]; /* the last round in which a link was held up */
 } board;
-
-const char *const kind_names[KINDS] = {"send", "take", "idle", "frame_in", "barrier"};
 
 static uint32_t seed;
 
@@ -35,85 +33,73 @@ static uint32_t below(uint32_t bound)
     return (seed >> 8) % bound;
 }
 
-static void fail(const char *what, const struct call *ours, const struct call *theirs)
+/* Says what was wrong with a call, and ends the program. */
+static _Noreturn void fail(const struct call *call, const char *what)
 {
-    fprintf(stderr, "P = %u: %s: %s differs: library answers %u, in place %u\n", (unsigned)board.nodes,
-            kind_names[ours->kind], what, (unsigned)ours->answer, (unsigned)theirs->answer);
-    exit(1);
+    print("P = ");
+    print_number(board.nodes);
+    print(": ");
+    print(call->kind < KINDS ? kind_names[call->kind] : "");
+    print(" answers ");
+    print_number(call->answer);
+    print(": ");
+    stop(what);
 }
 
-/* ---- Both sides of a call */
+/* ---- A call on every side */
 
-/* The words that the library holds for a state of the in-place version. */
-static void pack(const struct inplace_node *n, uint32_t *words)
-{
-    const uint32_t head[] = {n->nodes, n->number, n->phase, n->busy, n->pass, n->dim, n->flag, n->agreed};
-    memcpy(words, head, sizeof head);
-    memcpy(words + 8, n->sent, sizeof n->sent);
-    memcpy(words + 16, n->taken, sizeof n->taken);
-    for (uint32_t k = 0; k < INPLACE_SHELLS; k++) {
-        const struct inplace_first *f = &n->first[k];
-        const struct inplace_second *s = &n->second[k];
-        uint32_t *first = words + 24 + 19 * k, *second = words + 176 + 3 * k;
-        first[0] = f->present;
-        memcpy(first + 1, f->sent, sizeof f->sent);
-        memcpy(first + 9, f->taken, sizeof f->taken);
-        first[17] = f->total_sent;
-        first[18] = f->total_taken;
-        second[0] = s->present;
-        second[1] = s->agreed;
-        second[2] = s->total_sent;
-    }
-}
-
-static void compare(const struct call *ours, const struct call *theirs, const struct pair *pair)
+static void compare(const struct call *ours, const struct call *theirs, struct states *states, enum side side)
 {
     uint32_t words[OCB_STATE_WORDS];
-    if (ours->answer != theirs->answer) fail("the answer", ours, theirs);
-    if (memcmp(ours->bytes, theirs->bytes, sizeof ours->bytes) != 0) fail("a byte of the frame", ours, theirs);
-    if (memcmp(ours->details, theirs->details, sizeof ours->details) != 0) fail("a detail", ours, theirs);
-    pack(&pair->node, words);
-    if (memcmp(words, pair->words, sizeof words) != 0) fail("the state", ours, theirs);
+    if (ours->answer != theirs->answer) fail(theirs, "the library answers something else");
+    if (memcmp(ours->bytes, theirs->bytes, sizeof ours->bytes) != 0) fail(theirs, "a byte of the frame differs");
+    if (memcmp(ours->found, theirs->found, sizeof ours->found) != 0) fail(theirs, "a detail differs");
+    words_of(states, side, words);
+    if (memcmp(words, states->words, sizeof words) != 0) fail(theirs, "the state differs");
 }
 
-/* A call on both sides; what the library gave stands in the call then. */
-static uint32_t call_both(uint32_t at, struct call *call)
+/* A call on every side; what the library gave stands in the call then. */
+static uint32_t call_all(uint32_t at, struct call *call)
 {
-    struct pair *pair = &board.pairs[at];
-    struct pair before = *pair;
-    struct call asked = *call, theirs = *call;
-    call->state = pair->words;
-    theirs.state = &pair->node;
-    perform(lib_call, call);
-    perform(own_call, &theirs);
-    compare(call, &theirs, pair);
+    struct states *states = &board.states[at];
+    struct states before = *states;
+    const struct call asked = *call;
+    call->state = state_of(states, LIBRARY);
+    perform(LIBRARY, call);
+    for (enum side side = LIBRARY + 1; side < SIDES; side++) {
+        struct call theirs = asked;
+        theirs.state = state_of(states, side);
+        perform(side, &theirs);
+        compare(call, &theirs, states, side);
+    }
     saw(&before, &asked, call->answer);
     return call->answer;
 }
 
 static uint32_t must(uint32_t at, struct call *call, uint32_t wanted)
 {
-    uint32_t answer = call_both(at, call);
-    if (answer == wanted) return answer;
-    fprintf(stderr, "P = %u: %s answers %u\n", (unsigned)board.nodes, kind_names[call->kind], (unsigned)answer);
-    exit(1);
+    if (call_all(at, call) != wanted) fail(call, "not the answer that the schedule has");
+    return wanted;
 }
 
 /* ---- The schedule */
 
 static struct item *put_item(uint32_t from, uint32_t to, bool is_work)
 {
-    if (board.under_way == ITEMS) {
-        fputs("too many items under way\n", stderr);
-        exit(1);
-    }
+    if (board.under_way == ITEMS) stop("too many items under way");
     struct item *item = &board.items[board.under_way++];
     item->from = from;
     item->to = to;
     item->is_work = is_work;
-    item->phase = (uint8_t)board.pairs[from].words[OCB_AT_PHASE];
+    item->phase = (uint8_t)board.states[from].words[OCB_AT_PHASE];
     item->count = 0;
     return item;
+}
+
+/* How many messages a node sends before it idles. */
+static uint32_t some_work(void)
+{
+    return board.nodes == 1 ? 0 : below(5);
 }
 
 static void send_work(uint32_t at)
@@ -128,31 +114,30 @@ static void barrier_step(uint32_t at)
 {
     struct call call = {.kind = BARRIER, .count = OCB_FRAME_BYTES};
     memset(call.bytes, 0xa5, sizeof call.bytes);
-    switch (call_both(at, &call)) {
+    switch (call_all(at, &call)) {
     case OCB_SENT:
-        for (uint32_t i = 0; i < call.details[0]; i++) {
-            struct item *item = put_item(at, call.details[1 + i], false);
-            item->count = call.details[3];
+        for (uint32_t i = 0; i < call.found[0]; i++) {
+            struct item *item = put_item(at, call.found[1 + i], false);
+            item->count = call.found[3];
             memcpy(item->bytes, call.bytes, item->count);
         }
         break;
     case OCB_LEFT:
         board.left[at]++;
-        board.work[at] = below(5);
+        board.work[at] = some_work();
         break;
     case OCB_MOVED:
     case OCB_WAITS:
         break;
     default:
-        fputs("a barrier call is refused\n", stderr);
-        exit(1);
+        fail(&call, "a barrier call is refused");
     }
 }
 
 /* One turn of a node's loop: work while there is work, and without it a step of the barrier. */
 static void turn(uint32_t at)
 {
-    if (!board.pairs[at].words[OCB_AT_BUSY])
+    if (!board.states[at].words[OCB_AT_BUSY])
         barrier_step(at);
     else if (board.work[at] > 0)
         send_work(at);
@@ -166,12 +151,11 @@ static bool deliver(const struct item *item)
     struct call call = {.kind = item->is_work ? TAKE : FRAME_IN, .other = item->from, .phase = item->phase};
     call.count = item->count;
     memcpy(call.bytes, item->bytes, item->count);
-    uint32_t answer = call_both(item->to, &call);
+    uint32_t answer = call_all(item->to, &call);
     if (answer == OCB_EARLY) return false;
     if (answer == OCB_DONE && item->is_work && below(4) == 0) board.work[item->to]++;
     if (answer == OCB_DONE || answer == OCB_DROPPED) return true;
-    fprintf(stderr, "P = %u: an item is refused with %u\n", (unsigned)board.nodes, (unsigned)answer);
-    exit(1);
+    fail(&call, "an item is refused");
 }
 
 /* Delivers most of what is under way, in the order of each link. */
@@ -195,16 +179,15 @@ static bool all_have_left(void)
     return true;
 }
 
-void play_board(uint32_t nodes)
+void play_board(uint32_t nodes, uint8_t phase, uint32_t cycles)
 {
     memset(&board, 0, sizeof board);
     seed = nodes;
     board.nodes = nodes;
-    board.cycles = nodes < 96 ? 512 / nodes : 3;
+    board.cycles = cycles;
     for (uint32_t at = 0; at < nodes; at++) {
-        board.work[at] = below(5);
-        if (ocb_fresh(board.pairs[at].words, nodes, at) != OCB_DONE) exit(1);
-        if (inplace_fresh(&board.pairs[at].node, nodes, at) != OCB_DONE) exit(1);
+        board.work[at] = some_work();
+        make_states(&board.states[at], nodes, at, phase);
     }
     while (!all_have_left()) {
         board.round++;
@@ -212,4 +195,9 @@ void play_board(uint32_t nodes)
             if (board.left[at] < board.cycles) turn(at);
         deliver_some();
     }
+}
+
+void play_measured_board(uint32_t nodes)
+{
+    play_board(nodes, 0, nodes < 96 ? 512 / nodes : 3);
 }

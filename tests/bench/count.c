@@ -2,7 +2,7 @@
  * The program to run under callgrind: count P. It plays a board of P nodes, and then single calls, each from a function
  * of its own, so that callgrind gives its cost apart. It prints the names of these functions and what they stand for.
  */
-#include "sides.h"
+#include "board.h"
 
 #include <stdio.h>
 #include <stdlib.h>
@@ -27,23 +27,23 @@
 struct found {
     bool is_found;
     uint32_t stored;
-    struct pair pair;
+    struct states states;
     struct call call;
 };
 
 struct wanted {
     const char *name;
-    void (*replay)(struct call *ours, struct call *theirs);
+    void (*replay)(struct call calls[SIDES]);
     enum kind kind;
     uint32_t answer, pass;
     bool most;
 };
 
-#define REPLAY(name, kind, answer, pass, most)                                             \
-    __attribute__((noipa)) static void case_##name(struct call *ours, struct call *theirs) \
-    {                                                                                      \
-        lib_inside(ours);                                                                  \
-        own_inside(theirs);                                                                \
+#define REPLAY(name, kind, answer, pass, most)                                  \
+    __attribute__((noipa)) static void case_##name(struct call calls[SIDES])    \
+    {                                                                           \
+        library_inside(&calls[LIBRARY]);                                        \
+        in_place_inside(&calls[IN_PLACE]);                                      \
     }
 CASES(REPLAY)
 
@@ -60,7 +60,7 @@ static uint32_t stored_in(const struct inplace_node *n)
     return stored;
 }
 
-void saw(const struct pair *before, const struct call *call, uint32_t answer)
+void saw(const struct states *before, const struct call *call, uint32_t answer)
 {
     uint32_t stored = stored_in(&before->node);
     uint32_t pass = call->kind == FRAME_IN ? call->bytes[0] : before->node.pass;
@@ -71,23 +71,26 @@ void saw(const struct pair *before, const struct call *call, uint32_t answer)
         if (f->is_found && (w->most ? stored <= f->stored : stored >= f->stored)) continue;
         f->is_found = true;
         f->stored = stored;
-        f->pair = *before;
+        f->states = *before;
         f->call = *call;
     }
 }
 
-void perform(void (*side)(struct call *), struct call *call)
+void perform(enum side side, struct call *call)
 {
-    side(call);
+    side_calls[side](call);
 }
 
 static void replay(const struct wanted *w, struct found *f)
 {
-    struct call ours = f->call, theirs = f->call;
-    ours.state = f->pair.words;
-    theirs.state = &f->pair.node;
-    w->replay(&ours, &theirs);
-    if (ours.answer != w->answer || theirs.answer != w->answer) exit(1);
+    struct call calls[SIDES];
+    for (enum side side = 0; side < SIDES; side++) {
+        calls[side] = f->call;
+        calls[side].state = state_of(&f->states, side);
+    }
+    w->replay(calls);
+    for (enum side side = 0; side < SIDES; side++)
+        if (calls[side].answer != w->answer) exit(1);
     printf("%s %u\n", w->name, (unsigned)f->stored);
 }
 
@@ -98,7 +101,7 @@ int main(int count, char **words)
         fputs("count P, with P from 2 to 256\n", stderr);
         return 2;
     }
-    play_board(nodes);
+    play_measured_board(nodes);
     for (size_t i = 0; i < COUNT; i++)
         if (found[i].is_found) replay(&wanted[i], &found[i]);
     return 0;

@@ -12,17 +12,15 @@
 #define STACK (16 * 1024)
 #define PATTERN 0xa5
 
-enum { LIBRARY, IN_PLACE, SIDES };
-
 static struct figures {
     size_t deepest, moved_most;
     unsigned long long moved, calls;
-} figures[SIDES][KINDS];
+} figures[SIDES][SCHEDULED];
 
 static size_t around[SIDES]; /* what a call of the empty function uses */
 static uint8_t stack[STACK];
 static ucontext_t outside, inside;
-static void (*side_now)(struct call *);
+static enum side side_now;
 static struct call *call_now;
 static size_t moved;
 
@@ -37,11 +35,11 @@ void *__wrap_memcpy(void *to, const void *from, size_t count)
 
 static void on_stack(void)
 {
-    side_now(call_now);
+    side_calls[side_now](call_now);
 }
 
 /* Runs a call on the painted stack; how many bytes from its top are written. */
-static size_t depth_of(void (*side)(struct call *), struct call *call)
+static size_t depth_of(enum side side, struct call *call)
 {
     size_t clean = 0;
     memset(stack, PATTERN, sizeof stack);
@@ -57,20 +55,19 @@ static size_t depth_of(void (*side)(struct call *), struct call *call)
     return sizeof stack - clean;
 }
 
-void perform(void (*side)(struct call *), struct call *call)
+void perform(enum side side, struct call *call)
 {
-    int at = side == lib_call ? LIBRARY : IN_PLACE;
-    struct figures *f = &figures[at][call->kind];
-    if (around[at] == 0) around[at] = depth_of(side, &(struct call){.kind = KINDS});
+    struct figures *f = &figures[side][call->kind];
+    if (around[side] == 0) around[side] = depth_of(side, &(struct call){.kind = KINDS});
     moved = 0;
     size_t depth = depth_of(side, call);
-    if (depth - around[at] > f->deepest) f->deepest = depth - around[at];
+    if (depth - around[side] > f->deepest) f->deepest = depth - around[side];
     if (moved > f->moved_most) f->moved_most = moved;
     f->moved += moved;
     f->calls++;
 }
 
-void saw(const struct pair *before, const struct call *call, uint32_t answer)
+void saw(const struct states *before, const struct call *call, uint32_t answer)
 {
     (void)before;
     (void)call;
@@ -80,11 +77,11 @@ void saw(const struct pair *before, const struct call *call, uint32_t answer)
 int main(void)
 {
     const uint32_t boards[] = {2, 5, 16, 96, 256};
-    for (size_t i = 0; i < sizeof boards / sizeof *boards; i++) play_board(boards[i]);
+    for (size_t i = 0; i < sizeof boards / sizeof *boards; i++) play_measured_board(boards[i]);
     printf("state %zu %zu\n", OCB_STATE_WORDS * sizeof(uint32_t), sizeof(struct inplace_node));
-    for (int kind = 0; kind < KINDS; kind++) {
+    for (int kind = 0; kind < SCHEDULED; kind++) {
         printf("%s", kind_names[kind]);
-        for (int side = 0; side < SIDES; side++) {
+        for (enum side side = 0; side < SIDES; side++) {
             const struct figures *f = &figures[side][kind];
             printf(" %zu %llu %zu", f->deepest, f->moved / f->calls, f->moved_most);
         }

@@ -1,12 +1,74 @@
-/* A call on either side, as code that each function of which callgrind tells the cost takes in whole. */
+/*
+ * A call, and the sides that can make it. A further side is its name in `enum side`, its state in `struct states`, its
+ * calls beside in_place_inside, and a row in each table of sides.c.
+ */
 #ifndef SIDES_H
 #define SIDES_H
 
-#include "board.h"
+#include "inplace.h"
+#include "ocb.h"
 
+#include <stdbool.h>
+
+enum side { LIBRARY, IN_PLACE, SIDES };
+
+/* The exported functions. The first are the schedule's, which every side has. */
+enum kind {
+    SEND,
+    TAKE,
+    IDLE,
+    FRAME_IN,
+    BARRIER,
+    SCHEDULED,
+    FRESH = SCHEDULED,
+    DIMENSION,
+    PLACE,
+    DISTANCE,
+    FRAME_WRITE,
+    FRAME_READ,
+    KINDS
+};
+
+#define CALL_BYTES (OCB_FRAME_BYTES + 24) /* longer than any frame */
+
+/* One call: its arguments, and what it gave. A kind of KINDS calls the empty function `nothing`. */
+struct call {
+    enum kind kind;
+    void *state;
+    uint32_t nodes, node, other, dimension;
+    uint8_t phase;
+    uint8_t bytes[CALL_BYTES]; /* the frame handed in, or the buffer lent */
+    size_t count;
+    uint32_t fields[OCB_FIELD_WORDS];
+    uint32_t found[OCB_DETAIL_WORDS]; /* a barrier call's details, or what a lookup found */
+    uint32_t answer;
+};
+
+/* A node's state, held by each side. */
+struct states {
+    uint32_t words[OCB_STATE_WORDS];
+    struct inplace_node node;
+};
+
+extern const char *const side_names[SIDES];
+extern const char *const kind_names[KINDS];
+
+/* A call on a side, from a function of its own. */
+extern void (*const side_calls[SIDES])(struct call *call);
+
+uint32_t nothing(void);
+void *state_of(struct states *states, enum side side);
+
+/* Makes a node's state on every side, fresh but for its phase. */
+void make_states(struct states *states, uint32_t nodes, uint32_t number, uint8_t phase);
+
+/* The words that the library holds for a state of a side. */
+void words_of(struct states *states, enum side side, uint32_t words[OCB_STATE_WORDS]);
+
+/* Inlined into each function of which callgrind tells the cost. */
 #define INSIDE static inline __attribute__((always_inline))
 
-INSIDE void lib_inside(struct call *c)
+INSIDE void library_inside(struct call *c)
 {
     switch (c->kind) {
     case SEND:
@@ -22,14 +84,32 @@ INSIDE void lib_inside(struct call *c)
         c->answer = ocb_frame_in(c->state, c->bytes, c->count);
         break;
     case BARRIER:
-        c->answer = ocb_barrier(c->state, c->bytes, c->count, c->details);
+        c->answer = ocb_barrier(c->state, c->bytes, c->count, c->found);
+        break;
+    case FRESH:
+        c->answer = ocb_fresh(c->state, c->nodes, c->node);
+        break;
+    case DIMENSION:
+        c->answer = ocb_dimension(c->nodes, c->found);
+        break;
+    case PLACE:
+        c->answer = ocb_place(c->nodes, c->dimension, c->node, c->found);
+        break;
+    case DISTANCE:
+        c->answer = ocb_distance(c->nodes, c->node, c->other, c->found);
+        break;
+    case FRAME_WRITE:
+        c->answer = ocb_frame_write(c->nodes, c->fields, c->bytes, c->count, c->found);
+        break;
+    case FRAME_READ:
+        c->answer = ocb_frame_read(c->nodes, c->bytes, c->count, c->fields);
         break;
     default:
         c->answer = nothing();
     }
 }
 
-INSIDE void own_inside(struct call *c)
+INSIDE void in_place_inside(struct call *c)
 {
     switch (c->kind) {
     case SEND:
@@ -45,7 +125,7 @@ INSIDE void own_inside(struct call *c)
         c->answer = inplace_frame_in(c->state, c->bytes, c->count);
         break;
     case BARRIER:
-        c->answer = inplace_barrier(c->state, c->bytes, c->count, c->details);
+        c->answer = inplace_barrier(c->state, c->bytes, c->count, c->found);
         break;
     default:
         c->answer = nothing();

@@ -1,0 +1,128 @@
+#include "others.h"
+
+#include <string.h>
+
+#define COUNT(array) (sizeof(array) / sizeof *(array))
+
+/* The limits that the header names. */
+#define SENT_LIMIT 65535u
+#define TAKEN_LIMIT 16711425u
+#define FIELD_LIMIT 16776960u
+
+static uint32_t seed;
+static struct call last_frame; /* the last frame that the schedule handed in */
+
+void start_others(uint32_t first)
+{
+    seed = first;
+    memset(&last_frame, 0, sizeof last_frame);
+}
+
+/* Numbers are drawn one to a statement: C does not say in which order a statement's calls are made. */
+static uint32_t below(uint32_t bound)
+{
+    seed = seed * 1664525u + 1013904223u;
+    return (seed >> 8) % bound;
+}
+
+/* A number next to a limit, or any. */
+static uint32_t odd_number(void)
+{
+    static const uint32_t limits[] = {0,   1,   2,          3,           8,           255,
+                                      256, 257, SENT_LIMIT, TAKEN_LIMIT, FIELD_LIMIT, 0x80000000u};
+    uint32_t at = below(COUNT(limits) + 1);
+    uint32_t high = below(1u << 16), low = below(1u << 16);
+    if (at == COUNT(limits)) return high << 16 | low;
+    return limits[at] + low % 3 - 1;
+}
+
+/* A number up to a bound, most of the time. */
+static uint32_t argument(uint32_t bound)
+{
+    return below(8) == 0 ? odd_number() : below(bound + 1);
+}
+
+/* Puts a number where two states differ. */
+static void put_where_changed(uint32_t *state, const uint32_t *before, const uint32_t *after, uint32_t number)
+{
+    for (uint32_t i = 0; i < OCB_STATE_WORDS; i++)
+        if (before[i] != after[i]) state[i] = number;
+}
+
+/* A fresh node that has sent and taken as much as it may, or nearly: the words are those that a send and a take change. */
+static void fill_up(uint32_t *state, const struct call *call)
+{
+    uint32_t fresh[OCB_STATE_WORDS], sent[OCB_STATE_WORDS], taken[OCB_STATE_WORDS];
+    if (ocb_fresh(fresh, call->nodes, call->node) != OCB_DONE) return;
+    memcpy(sent, fresh, sizeof sent);
+    memcpy(taken, fresh, sizeof taken);
+    if (ocb_send(sent, call->other) != OCB_DONE || ocb_take(taken, call->other, 0) != OCB_DONE) return;
+    memcpy(state, fresh, sizeof fresh);
+    put_where_changed(state, fresh, sent, SENT_LIMIT - 1 + below(3));
+    put_where_changed(state, fresh, taken, TAKEN_LIMIT - 1 + below(3));
+}
+
+static void damage_state(uint32_t *state)
+{
+    for (uint32_t i = below(3); i > 0; i--) {
+        uint32_t at = below(2) ? below(OCB_AT_TOTAL + 1) : below(OCB_STATE_WORDS);
+        state[at] = odd_number();
+    }
+}
+
+static void damage_frame(struct call *call)
+{
+    for (uint32_t i = below(3); i > 0; i--) {
+        uint32_t at = below(2) ? below(4) : below(OCB_FRAME_BYTES);
+        call->bytes[at] = (uint8_t)odd_number();
+    }
+    if (below(4) == 0) call->count = below(CALL_BYTES + 1);
+}
+
+/* The fields of the frame, as far as it has some, with one of them changed at times. */
+static void choose_fields(struct call *call)
+{
+    if (ocb_frame_read(call->nodes, call->bytes, call->count, call->fields) != OCB_DONE) call->fields[0] = below(4);
+    if (below(2) == 0) return;
+    uint32_t at = below(2) ? below(4) : below(OCB_FIELD_WORDS);
+    call->fields[at] = odd_number();
+}
+
+static void choose_numbers(struct call *call, const uint32_t *state)
+{
+    call->nodes = state[OCB_AT_NODES];
+    call->node = state[OCB_AT_NUMBER];
+    call->other = argument(call->nodes);
+    call->dimension = argument(8);
+    call->phase = (uint8_t)(state[OCB_AT_PHASE] + below(4) - 1);
+    if (below(4) == 0) call->node = argument(call->nodes);
+    if (below(4) == 0) call->nodes = argument(OCB_NODES);
+}
+
+static void choose_frame(struct call *call, const struct call *near)
+{
+    const struct call *from = below(4) == 0 ? near : &last_frame;
+    memcpy(call->bytes, from->bytes, sizeof call->bytes);
+    call->count = from->count;
+    if (call->kind == BARRIER || call->kind == FRAME_WRITE)
+        call->count = below(2) ? OCB_FRAME_BYTES : below(OCB_FRAME_BYTES);
+}
+
+void other_call(const uint32_t state[OCB_STATE_WORDS], const struct call *near)
+{
+    uint32_t words[OCB_STATE_WORDS];
+    struct call call = {.kind = (enum kind)below(KINDS), .state = words};
+    if (near->kind == FRAME_IN) last_frame = *near;
+    memcpy(words, state, sizeof words);
+    memset(call.found, 77, sizeof call.found);
+    choose_numbers(&call, state);
+    choose_frame(&call, near);
+    if (below(16) == 0) {
+        fill_up(words, &call);
+        call.phase = 0;
+    }
+    if (below(2) == 0) damage_state(words);
+    if (below(2) == 0) damage_frame(&call);
+    if (call.kind == FRAME_WRITE) choose_fields(&call);
+    perform(LIBRARY, &call);
+}

@@ -1,0 +1,13 @@
+/* Calls that no schedule makes, mostly refused: to every exported function, on damaged states and frames. */
+#ifndef OTHERS_H
+#define OTHERS_H
+
+#include "board.h"
+
+/* The same calls follow from the same seed. */
+void start_others(uint32_t seed);
+
+/* Makes one such call, near to a call of the schedule and to the state that it was made on. */
+void other_call(const uint32_t state[OCB_STATE_WORDS], const struct call *near);
+
+#endif

@@ -1,0 +1,95 @@
+"""What the targets' commands run: the kit's compiler, and Debian's packages for the emulated machines.
+
+python3 targets/tools.py install [TARGET...]    installs the packages whose programs are missing, and says so; where that
+                                                cannot be done, one line names them and the status is 1
+"""
+import os
+import pathlib
+import shutil
+import subprocess
+import sys
+
+sys.dont_write_bytecode = True
+from table import TARGETS
+
+HERE = pathlib.Path(__file__).resolve().parent
+ROOT = HERE.parent
+OUT = ROOT / "target" / "targets"
+
+
+class Trouble(Exception):
+    """Something is not as it should be; the text says what, in a line."""
+
+
+def run(words, **more):
+    """What a command writes; its own words where it fails."""
+    done = subprocess.run([str(word) for word in words], stdout=subprocess.PIPE, stderr=subprocess.PIPE, text=True, **more)
+    if done.returncode != 0:
+        sys.stderr.write(done.stdout + done.stderr)
+        raise Trouble(f"{pathlib.Path(words[0]).name} ended with status {done.returncode}")
+    return done.stdout
+
+
+def kit():
+    """The kit's folder."""
+    if not shutil.which("rt"):
+        raise Trouble("rt is missing: the Rattle kit is not installed")
+    if os.uname().machine != "x86_64":
+        raise Trouble("the archive of rt staticlib, to which the targets are held, runs on x86-64 alone")
+    return pathlib.Path(os.environ.get("RATTLE_HOME") or pathlib.Path(run(["rt", "doc"]).strip()).parent.parent)
+
+
+def toolchain(name):
+    return kit() / "on" / "x86_64" / "toolchain" / "bin" / name
+
+
+def chosen(words):
+    """The targets that are named, or all."""
+    for word in words:
+        if word not in TARGETS:
+            raise Trouble(f"no target is called {word}; there are {', '.join(TARGETS)}")
+    return list(words) or list(TARGETS)
+
+
+def missing(names):
+    """The Debian packages of programs that are not there."""
+    wanted = {program: package for name in names for program, package in TARGETS[name].packages.items()}
+    return sorted({package for program, package in wanted.items() if not shutil.which(program)})
+
+
+def need(names):
+    packages = missing(names)
+    if packages:
+        raise Trouble(f"the emulated machines' tools are missing: install the Debian packages {' '.join(packages)}")
+
+
+def install(names):
+    packages = missing(names)
+    if not packages:
+        return
+    OUT.mkdir(parents=True, exist_ok=True)
+    with open(OUT / "install.log", "w", encoding="utf-8") as log:
+        for words in (["update", "-qq"], ["install", "-qq", "-y", "--no-install-recommends", *packages]):
+            quiet = {**os.environ, "DEBIAN_FRONTEND": "noninteractive"}
+            try:
+                subprocess.run(["apt-get", *words], env=quiet, stdin=subprocess.DEVNULL, stdout=log, stderr=log)
+            except OSError:
+                break  # no apt-get here
+    if missing(names):
+        raise Trouble(f"cannot be had, and the emulated machines want them: the Debian packages {' '.join(missing(names))}"
+                      " (target/targets/install.log)")
+    print("targets: installed", *packages)
+
+
+def main(act, words):
+    """Runs a command's work on the targets that are named; a trouble that is expected is one line."""
+    try:
+        act(chosen(words))
+    except Trouble as trouble:
+        sys.exit(f"targets: {trouble}")
+
+
+if __name__ == "__main__":
+    if sys.argv[1:2] != ["install"]:
+        sys.exit("python3 targets/tools.py install [TARGET...]")
+    main(install, sys.argv[2:])
