@@ -239,26 +239,36 @@ def make():
     return "made"
 
 
+def hold(path, text):
+    """A file has the text that it should have."""
+    found = path.read_bytes().decode("utf-8") if path.exists() else ""
+    lines = itertools.zip_longest(found.split("\n"), text.split("\n"))
+    for at, (old, new) in enumerate(lines, start=1):
+        if old != new:
+            name = path.relative_to(played.ROOT)
+            raise played.Trouble(f"{name}, line {at}: stands\n  {old!r}\nbut the programs give\n  {new!r}")
+
+
 def check():
     files = wanted()
     for path in sorted(PICTURES.glob("*")):
         if path not in files:
             raise played.Trouble(f"{path.relative_to(played.ROOT)} is made by nothing")
     for path, text in sorted(files.items()):
-        name = path.relative_to(played.ROOT)
-        found = path.read_bytes().decode("utf-8") if path.exists() else ""
-        lines = itertools.zip_longest(found.split("\n"), text.split("\n"))
-        for at, (old, new) in enumerate(lines, start=1):
-            if old != new:
-                raise played.Trouble(f"{name}, line {at}: stands\n  {old!r}\nbut the programs give\n  {new!r}")
+        hold(path, text)
     return f"{len(files)} files are what the programs give"
 
 
-if __name__ == "__main__":
-    modes = {"make": make, "check": check}
+def main(name, modes):
+    """Makes or checks what a script of this folder makes."""
+    command = f"python3 docs/{name}.py"
     if len(sys.argv) != 2 or sys.argv[1] not in modes:
-        sys.exit("python3 docs/pages.py make | check")
+        sys.exit(f"{command} {' | '.join(modes)}")
     try:
-        print("pages:", modes[sys.argv[1]]())
+        print(f"{name}:", modes[sys.argv[1]]())
     except played.Trouble as trouble:
-        sys.exit(f"pages: {trouble}\nIf that is meant: python3 docs/pages.py make, and read the page again.")
+        sys.exit(f"{name}: {trouble}\nIf that is meant: {command} make, and read the page again.")
+
+
+if __name__ == "__main__":
+    main("pages", {"make": make, "check": check})

@@ -18,9 +18,10 @@ LEVELS = ["Os", "O2"]
 ARCHIVE = tools.ROOT / "target" / "staticlib" / f"lib{CRATE}.a"
 MODULE = tools.OUT / "module"
 
-# As the kit has them: sections that a linker can leave out, and a trap for what cannot be reached.
+# As the kit has them: sections that a linker can leave out, and a trap for what cannot be reached. Beside the object stands
+# how much stack each function takes, barrier_c.su.
 WORDS = ["-ffunction-sections", "-fdata-sections", "-mllvm", "-trap-unreachable", "-mllvm", "-no-trap-after-noreturn",
-         "--no-default-config", "-Werror"]
+         "--no-default-config", "-Werror", "-fstack-usage"]
 KEEPING = """#!/bin/sh
 for word in "$@"; do case $word in *.bc) cp "$word" "{kept}" ;; esac; done
 exec "{clang}" "$@"

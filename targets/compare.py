@@ -4,7 +4,8 @@ python3 targets/compare.py [long] [TARGET...]    all of table.py's targets by de
 
 Boards of 1, 2, 5, 16, 96 and 256 nodes over whole cycles past phase 255, with work and slow links, and between the calls
 of a board others, to every exported function, on damaged states and frames (play.c, others.c). Every answer of the
-header must have come at least once. The targets' memory functions are tested first.
+header must have come at least once. Before that the targets' memory functions are tested, and example.c runs as a ROM
+image of the size that rom.ld has.
 """
 import sys
 import time
@@ -14,6 +15,7 @@ import build
 import emulate
 import retarget
 import tools
+from table import TARGETS
 
 PLAYED = [tools.HERE / "play.c", tools.HERE / "others.c",
           *(emulate.BENCH / name for name in ("board.c", "sides.c", "inplace.c"))]
@@ -58,15 +60,28 @@ def on_target(name, level, words, wanted):
         raise tools.Trouble(f"{name}, -{level}: nodes of the board, calls, hash: {difference(wanted, printed)}")
 
 
+def test_memory(name):
+    program = emulate.link(name, tools.OUT / name / "memory_test.elf", [tools.HERE / "memory_test.c"])
+    print(f"{name}: memory functions, {emulate.run(name, program).strip()}")
+
+
+def run_example(name, level):
+    """The example in memory as small as rom.ld has it."""
+    library = tools.OUT / name / level / build.ARCHIVE.name
+    places = {symbol: value for symbol, value in TARGETS[name].memory.items() if symbol.endswith("_at")}
+    program = emulate.link(name, library.parent / "example.elf", [tools.HERE / "example.c", library], places)
+    print(f"{name}, -{level}: example, {emulate.run(name, program).strip()}")
+
+
 def compare(names, words):
     tools.need(names)
     build.build(names)
     wanted = on_x86_64(words)
     calls = check_reach(wanted)
     for name in names:
-        tested = emulate.link(name, tools.OUT / name / "memory_test.elf", [tools.HERE / "memory_test.c"])
-        print(f"{name}: memory functions, {emulate.run(name, tested).strip()}")
+        test_memory(name)
         for level in build.LEVELS:
+            run_example(name, level)
             start = time.monotonic()
             on_target(name, level, words, wanted)
             print(f"{name}, -{level}: {calls} calls, all as on x86-64 ({time.monotonic() - start:.0f} s)", flush=True)

@@ -246,10 +246,10 @@ class Module:
 
 
 def retarget(text, target, level):
-    check_slots(text)
     module = Module(target, level)
     for number, line in enumerate(text.split("\n"), 1):
         module.take(number, line)
+    check_slots(text)
     return module.whole()
 
 

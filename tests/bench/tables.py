@@ -1,13 +1,16 @@
-"""Prints docs/COST.md's tables from what callgrind and the two programs wrote: tables.py FOLDER."""
+"""Prints the tables for x86-64 from what callgrind and the programs wrote to target/bench: tables.py"""
 import collections
 import re
+import subprocess
 import sys
 
+sys.dont_write_bytecode = True
+import sheet
+
 BOARDS = [2, 5, 16, 96, 256]
-CALLS = ["send", "take", "idle", "frame_in", "barrier"]
-TITLES = ["send", "take", "idle", "frame in", "barrier"]
-SIDES = [("lib_call", "ocb_"), ("own_call", "inplace_")]
+CALLERS = [f"{side}_call" for side in sheet.SIDES]
 WAYS = ["O2", "O3", "words"]
+LIBRARY = sheet.ROOT / "target" / "staticlib" / "libbarrier_c.a"
 CASES = {
     "send_bare": "send, nothing stored",
     "send_full": "send, most stored",
@@ -31,7 +34,7 @@ def read_costs(path):
     names, edges, own = {}, collections.defaultdict(lambda: [0, 0]), collections.Counter()
     caller = callee = None
     calls = 0
-    for line in open(path):
+    for line in open(path, encoding="utf-8"):
         named = re.match(r"(c?fn)=\((\d+)\)(?: (.*))?", line)
         if named:
             kind, number, name = named.groups()
@@ -55,88 +58,93 @@ def average(edges, caller, callee):
     return cost / calls if calls else 0
 
 
-def both(edges, callers, call):
-    """Library and in-place instructions of a call."""
-    return [average(edges, at, side + call) for at, (_, side) in zip(callers, SIDES)]
-
-
-def ratio(edges, call):
-    library, in_place = both(edges, [side[0] for side in SIDES], call)
-    return f"{library / in_place:.1f}"
+def of_sides(edges, callers, call):
+    """The instructions of a call on each side."""
+    return [average(edges, at, prefix + call) for at, prefix in zip(callers, sheet.SIDES.values())]
 
 
 def compared(edges, callers, call):
-    library, in_place = both(edges, callers, call)
-    return f"{library:.0f} / {in_place:.0f} = {library / in_place:.1f}"
+    return sheet.compared(of_sides(edges, callers, call))
 
 
-def row(*cells):
-    print("| " + " | ".join(str(cell) for cell in cells) + " |")
-
-
-def head(*cells):
-    row(*cells)
-    row(*("---" for _ in cells))
+def ratio(edges, call):
+    library, *others = of_sides(edges, CALLERS, call)
+    return ", ".join(f"{library / other:.1f}" for other in others)
 
 
 def print_averages(costs):
-    print("\nInstructions per call, average: library / in place = ratio\n")
-    head("P", *TITLES, "calls")
+    rows = []
     for board in BOARDS:
         edges, _ = costs[board]
-        callers = [side[0] for side in SIDES]
-        calls = sum(edges["lib_call", "ocb_" + call][0] for call in CALLS)
-        row(board, *(compared(edges, callers, call) for call in CALLS), calls)
+        calls = sum(edges[CALLERS[0], "ocb_" + call][0] for call in sheet.CALLS)
+        rows.append([board, *(compared(edges, CALLERS, call) for call in sheet.CALLS), calls])
+    sheet.table("x86-instructions", f"x86-64: instructions per call, average: {sheet.COMPARED}", ["P", *sheet.TITLES, "calls"],
+                rows)
 
 
 def print_ratios(costs):
-    print("\nThe ratios with the in-place version at -O3; and at -O2 with a memcpy that moves a word at a time\n")
-    head("P", *TITLES)
+    rows = []
     for board in BOARDS:
         ways = [costs[way][board][0] for way in ("O3", "words")]
-        row(board, *("; ".join(ratio(edges, call) for edges in ways) for call in CALLS))
+        rows.append([board, *("; ".join(ratio(edges, call) for edges in ways) for call in sheet.CALLS)])
+    sheet.table("x86-ratios", "The ratios with the in-place version at -O3; and at -O2 with a memcpy that moves a word at a"
+                " time", ["P", *sheet.TITLES], rows)
 
 
 def print_cases(path, board, edges):
-    print(f"\nSingle calls at P = {board}: library / in place = ratio\n")
-    head("Call", "frames stored", "instructions")
-    for line in open(path):
+    rows = []
+    for line in open(path, encoding="utf-8"):
         name, stored = line.split()
         callee = next(to for at, to in edges if at == name and to.startswith("ocb_"))
-        row(CASES[name[5:]], stored, compared(edges, [name, name], callee[4:]))
+        rows.append([CASES[name[5:]], stored, compared(edges, [name] * len(CALLERS), callee[4:])])
+    sheet.table("x86-cases", f"x86-64: single calls at P = {board}: {sheet.COMPARED}", ["Call", "frames stored", "instructions"],
+                rows)
 
 
 def print_shares(costs):
     """Where the library's instructions go, as shares of all calls of the schedule."""
     parts = ["survey::survey_of", "words::unpack", "words::pack", "memcpy", "the rest"]
-    print("\nWhere the library's instructions go, in percent\n")
-    head("P", *parts)
+    rows = []
     for board in (2, 256):
         edges, own = costs[board]
-        total = sum(cost for (at, to), (_, cost) in edges.items() if to.startswith("ocb_") and at == "lib_call")
+        total = sum(cost for (at, to), (_, cost) in edges.items() if to.startswith("ocb_") and at == CALLERS[0])
         inside = [name for name in own if "::" in name or name.startswith("ocb_")]
         copied = sum(cost for (at, to), (_, cost) in edges.items() if at in inside and "memcpy" in to)
         shares = [own[part] for part in parts[:3]] + [copied]
-        row(board, *(f"{100 * share / total:.0f}" for share in shares + [total - sum(shares)]))
+        rows.append([board, *(f"{100 * share / total:.0f}" for share in shares + [total - sum(shares)])])
+    sheet.table("x86-shares", "x86-64: where the library's instructions go, in percent", ["P", *parts], rows)
 
 
 def print_depths(path):
-    lines = [line.split() for line in open(path)]
-    print("\nDeepest stack of a call, what the library has memcpy copy, and the state, in bytes\n")
-    head("", "library", "in place", "library copies, average", "most")
-    for call, depth, moved, most, other, *_ in lines[1:]:
-        row(call.replace("_", " "), depth, other, moved, most)
-    row(*lines[0], "", "")
+    state, *lines = [line.split() for line in open(path, encoding="utf-8")]
+    titles = ["", *(side.replace("_", " ") for side in sheet.SIDES), "library copies, average", "most"]
+    # by side: stack, copied on average, copied at most
+    rows = [[call.replace("_", " "), *figures[::3], figures[1], figures[2]] for call, *figures in lines]
+    sheet.table("x86-memory", "x86-64: deepest stack of a call, what the library has memcpy copy, and the state, in bytes",
+                titles, [*rows, [*state, "", ""]])
+
+
+def size(path):
+    lines = subprocess.run(["size", path], check=True, capture_output=True, text=True).stdout.splitlines()[1:]
+    return sum(int(line.split()[0]) for line in lines)
+
+
+def print_code():
+    rows = [["library, all eleven functions", size(LIBRARY)],
+            ["library, what the six calls on a state need", size(sheet.OUT / "six")]]
+    rows += [[f"in-place version, the same six calls, -{level}", size(sheet.OUT / f"inplace.{level}.o")]
+             for level in ("Os", "O2", "O3")]
+    sheet.table("x86-code", "x86-64: code and constants in bytes", ["Code", "text"], rows)
 
 
 def main():
-    folder = sys.argv[1]
-    costs = {way: {board: read_costs(f"{folder}/callgrind.{way}.{board}") for board in BOARDS} for way in WAYS}
+    costs = {way: {board: read_costs(sheet.OUT / f"callgrind.{way}.{board}") for board in BOARDS} for way in WAYS}
     print_averages(costs["O2"])
     print_ratios(costs)
-    print_cases(f"{folder}/cases.O2.256", 256, costs["O2"][256][0])
+    print_cases(sheet.OUT / "cases.O2.256", 256, costs["O2"][256][0])
     print_shares(costs["O2"])
-    print_depths(f"{folder}/depths")
+    print_depths(sheet.OUT / "depths")
+    print_code()
 
 
 main()

@@ -1,0 +1,102 @@
+"""Tests retarget.py on modules that it must refuse: the real one, each with a small edit, and the reason for the refusal.
+
+python3 targets/test_retarget.py    wants the module that build.py keeps in target/targets/module
+"""
+import re
+import sys
+
+sys.dont_write_bytecode = True
+import build
+import retarget
+import tools
+from table import TARGETS
+
+# The start of a function that is lent two places, %a0 and %a1.
+INSIDE = r"^(define internal void @\"[\w:]+\"\(ptr noundef %a0, ptr noundef %a1\) #0 \{\nstart:\n)"
+
+# An edit: what it makes, the pattern of the line that it changes (the first that is found), its new text, the reason.
+EDITS = [
+    ("another triple", r'^target triple = ".*"', 'target triple = "aarch64-unknown-linux-gnu"', "not the target that"),
+    ("another layout", r'^target datalayout = "e', 'target datalayout = "E', "not the target that"),
+    ("no triple", r"^target triple = .*\n", "", "not found: target triple"),
+    ("no attributes", r"^attributes #0 = .*\n", "", "not found: attributes #0"),
+    ("another attribute", r"^attributes #0 = \{ nounwind", 'attributes #0 = { nounwind "frame-pointer"="all"',
+     "not the attributes that"),
+    ("an attribute of an intrinsic", r"^attributes #1 = \{ nocallback", 'attributes #1 = { "target-cpu"="x86-64"',
+     "attributes that were not looked at"),
+    ("a global", r"^define ", "@table = internal constant [4 x i8] zeroinitializer\n\ndefine ", "a global"),
+    ("a named type", r"^define ", "%pair = type { i32, i32 }\n\ndefine ", "a global, a named type"),
+    ("assembly of the module", r"^define ", 'module asm "nop"\n\ndefine ', "a line that was not looked at"),
+    ("a function from outside", r"^declare ", "declare i32 @strlen(ptr)\n\ndeclare ", "a function from outside"),
+    ("another intrinsic", r"^declare ", "declare i64 @llvm.ctlz.i64(i64, i1)\n\ndeclare ", "an intrinsic that"),
+    ("another instruction", r"^  %(\w+) = xor ", r"  %\1 = ashr ", "an instruction that was not looked at"),
+    ("a pointer as a number", INSIDE, r"\1  %n = ptrtoint ptr %a0 to i64\n", "an instruction that was not looked at"),
+    ("a number as a pointer", INSIDE, r"\1  %n = inttoptr i64 8 to ptr\n", "an instruction that was not looked at"),
+    ("a pointer in a constant", INSIDE, r"\1  store i64 ptrtoint (ptr @ocb_send to i64), ptr %a0, align 8\n",
+     "a word that was not looked at"),
+    ("pointers compared", INSIDE, r"\1  %n = icmp eq ptr %a0, %a1\n", "pointers are compared"),
+    ("a wide number", r"^  %(\w+) = add i64 ", r"  %\1 = add i128 ", "a width that was not looked at"),
+    ("a real number", INSIDE, r"\1  %n = load double, ptr %a0, align 8\n", "a type or a word that"),
+    ("a struct", INSIDE, r"\1  %n = load { i32, i32 }, ptr %a0, align 8\n", "a type or a word that"),
+    ("a volatile load", INSIDE, r"\1  %n = load volatile i32, ptr %a0, align 4\n", "a type or a word that"),
+    ("a vector", INSIDE, r"\1  %n = load <4 x i32>, ptr %a0, align 16\n", "a type or a word that"),
+    ("a load of an array", INSIDE, r"\1  %n = load [4 x i8], ptr %a0, align 4\n", "a form of load"),
+    ("a store to a global", INSIDE, r"\1  store i32 1, ptr @ocb_send, align 4\n", "a form of store"),
+    ("a field by a type", INSIDE, r"\1  %n = getelementptr i32, ptr %a0, i64 1\n", "a form of getelementptr"),
+    ("a copy of a computed size", r"(@llvm\.memmove\.p0\.p0\.i64\(ptr %\w+, ptr %\w+, i64) \d+", r"\1 %size",
+     "a form of call"),
+    ("a call through a pointer", INSIDE, r"\1  call void %a0(i32 1)\n", "a form of call"),
+    ("an export that no header has", r"^define internal noundef i32 ", "define noundef i32 ", "a head of an exported"),
+    ("an export of another name", r"@ocb_send\((ptr noundef %a0, i32)", r"@ocb_forget(\1", "the header does not have"),
+    ("an unknown number of 64 bits", r"@ocb_send\(ptr noundef %a0, i32", "@ocb_send(ptr noundef %a0, i64",
+     "parameters that are not those"),
+    ("a count missing", r"(@ocb_frame_in\(ptr noundef %a0, ptr noundef %a1), i64 noundef %a2", r"\1",
+     "parameters that are not those"),
+    ("a count of 32 bits", r"(@ocb_frame_in\(.*) i64 noundef", r"\1 i32 noundef", "parameters that are not those"),
+    ("a narrow answer", r"^define noundef i32 @ocb_idle", "define noundef i8 @ocb_idle", "not of 32 bits"),
+    ("an answer by memory", r"^define noundef i32 @ocb_idle", "define void @ocb_idle", "a head of an exported"),
+    ("an export missing", r"^define noundef i32 @ocb_idle\(.*?^}\n", "", "not found: ocb_idle"),
+    ("a slot for both", INSIDE, r"\1  store ptr %a0, ptr %a1, align 8\n  %n = load i64, ptr %a1, align 8\n",
+     "used as a pointer and as a number"),
+    ("half a pointer", INSIDE, r"\1  store ptr %a0, ptr %a1, align 8\n  %f = getelementptr i8, ptr %a1, i64 4\n"
+     r"  %n = load i32, ptr %f, align 4\n", "used as a pointer and as a number"),
+    ("a pointer copied to a number", INSIDE, r"\1  %p = alloca [16 x i8], align 8\n  %q = alloca [16 x i8], align 8\n"
+     r"  store ptr %a0, ptr %p, align 8\n"
+     r"  call void @llvm.memmove.p0.p0.i64(ptr %q, ptr %p, i64 16, i1 false)\n  %n = load i64, ptr %q, align 8\n",
+     "used as a pointer and as a number"),
+    ("a pointer at a computed place", INSIDE, r"\1  %f = getelementptr i8, ptr %a0, i64 %i\n"
+     r"  store ptr %a0, ptr %f, align 8\n", "a pointer at a computed place"),
+    ("the place of a pointer copied", INSIDE, r"\1  %p = alloca ptr, align 8\n"
+     r"  call void @llvm.memmove.p0.p0.i64(ptr %a0, ptr %p, i64 8, i1 false)\n", "the place of a pointer is lent or copied"),
+    ("the place of a pointer lent", INSIDE, r"\1  %p = alloca ptr, align 8\n  store ptr %p, ptr %a0, align 8\n",
+     "the place of a pointer is lent or copied"),
+]
+
+
+def try_edit(text, target, name, pattern, new, reason):
+    edited, count = re.subn(pattern, new, text, count=1, flags=re.M | re.S if "?" in pattern else re.M)
+    if count != 1 or edited == text:
+        raise tools.Trouble(f"retarget: the module has no place for an edit: {name}")
+    try:
+        retarget.retarget(edited, target, "O2")
+    except retarget.Refused as refused:
+        if reason in str(refused):
+            return
+        raise tools.Trouble(f"retarget: {name}: refused for another reason: {refused}") from None
+    raise tools.Trouble(f"retarget: {name}: not refused")
+
+
+def test(names):
+    path = build.MODULE / "module.ll"
+    if not path.exists():
+        raise tools.Trouble("no module is kept: python3 targets/build.py keeps it")
+    text = path.read_text(encoding="utf-8")
+    for name in names:
+        retarget.retarget(text, TARGETS[name], "O2")
+    for edit in EDITS:
+        try_edit(text, TARGETS[names[0]], *edit)  # the same for all: a row has no say in what is refused
+    print(f"retarget: {len(EDITS)} wrong modules refused")
+
+
+if __name__ == "__main__":
+    tools.main(test, sys.argv[1:])

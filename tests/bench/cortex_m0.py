@@ -1,0 +1,193 @@
+"""Measures the library on an emulated Cortex-M0 and prints tables: python3 tests/bench/cortex_m0.py
+
+Each call of the schedule is counted by instructions, beside the in-place version that the same clang has compiled at the
+same level; each call's stack is looked at, also of the mostly refused calls of targets/others.c. Instructions become time
+by ARM's table of cycles. All numbers are the emulator's and the same at each run.
+"""
+import collections
+import difflib
+import sys
+
+sys.dont_write_bytecode = True
+import cycles
+import sheet
+import stack
+
+sys.path.insert(0, str(sheet.ROOT / "targets"))
+import build
+import emulate
+import tools
+from table import TARGETS
+
+NAME = "cortex-m0"
+OUT = sheet.OUT / NAME
+MHZ = 48
+FUNCTIONS = ["send", "take", "idle", "frame_in", "barrier", "fresh", "dimension", "place", "distance", "frame_write",
+             "frame_read"]
+STATE_CALLS = FUNCTIONS[:6]
+EXACT = ["-icount", "shift=10"]  # as measure.c has it
+TRACE = ["-singlestep", "-d", "exec,nochain", "-D"]
+
+
+def library(level):
+    return tools.OUT / NAME / level / build.ARCHIVE.name
+
+
+def compile_in_place(level):
+    """The in-place version, by the kit's clang as the library."""
+    headers = tools.run([TARGETS[NAME].gcc[0], "-print-file-name=include"]).strip()
+    made = OUT / f"inplace.{level}.o"
+    tools.run([tools.toolchain("clang"), *TARGETS[NAME].clang, *build.WORDS, *emulate.STRICT, "-nostdinc", "-isystem",
+               tools.HERE / "freestanding", "-isystem", headers, f"-{level}", "-c", emulate.BENCH / "inplace.c", "-o", made])
+    return made
+
+
+def measure(level, in_place):
+    """What measure.c prints: {(what, board, side, function): [calls, average, most, deepest]}."""
+    bench = ["measure.c", "timed.S", "board.c", "sides.c"]
+    files = [*(emulate.BENCH / name for name in bench), tools.HERE / "others.c", in_place, library(level)]
+    program = emulate.link(NAME, OUT / f"measure.{level}.elf", files)
+    figures = {}
+    for line in emulate.run(NAME, program, EXACT).splitlines():
+        what, board, side, function, *numbers = line.split()
+        figures[what, int(board), side, function] = [int(number) for number in numbers]
+    return figures
+
+
+def trace(level, in_place):
+    """A call of each function, instruction by instruction."""
+    program = emulate.link(NAME, OUT / f"sample.{level}.elf", [emulate.BENCH / "sample.c", in_place, library(level)])
+    traced = OUT / f"sample.{level}.trace"
+    emulate.run(NAME, program, [*TRACE, traced])
+    return cycles.Traced(program, traced, tuple(sheet.SIDES.values()))
+
+
+# ---- Tables
+
+def boards(figures):
+    return sorted({board for what, board, _, _ in figures if what == "scheduled"})
+
+
+def print_instructions(level, figures):
+    for words, short, at in (("average", "", 1), ("most", "-most", 2)):
+        rows = [[board, *(sheet.compared([figures["scheduled", board, side, call][at] for side in sheet.SIDES])
+                          for call in sheet.CALLS)] for board in boards(figures)]
+        sheet.table(f"m0-instructions{short}-{level}", f"Cortex-M0, -{level}: instructions per call, {words}: {sheet.COMPARED}",
+                    ["P", *sheet.TITLES], rows)
+
+
+def deepest(figures, side, function):
+    return max((numbers[3] for (_, _, its, name), numbers in figures.items() if (its, name) == (side, function)), default="")
+
+
+def bounds(level):
+    try:
+        return stack.bounds(library(level).parent / f"{build.CRATE}.o")
+    except stack.Unbounded as trouble:
+        raise tools.Trouble(f"-{level}: {trouble}") from None
+
+
+def print_stack(measured):
+    bound = {level: bounds(level) for level in measured}
+    titles = ["Function", *(f"{side.replace('_', ' ')}, -{level}" for side in sheet.SIDES for level in measured),
+              *(f"library's bound, -{level}" for level in measured)]
+    rows = [[f"`ocb_{name}`", *(deepest(figures, side, name) for side in sheet.SIDES for figures in measured.values()),
+             *(bound[level][f"ocb_{name}"] for level in measured)] for name in FUNCTIONS]
+    sheet.table("m0-stack", "Cortex-M0: deepest stack of a call in bytes, refused calls included", titles, rows)
+    most = [f"{max(bound[level].values())} bytes at -{level}" for level in measured]
+    sheet.save("m0-stack-most", "Cortex-M0: stack that is enough for any call", " and ".join(most) + ".\n")
+
+
+def print_time(level, traced, figures):
+    rows = []
+    for call, title in zip(sheet.CALLS, sheet.TITLES):
+        both = [(traced.counts[name].total(), traced.cycles[name]) for name in (its + call for its in sheet.SIDES.values())]
+        most = max([both[0][0], *(figures["scheduled", board, "library", call][2] for board in boards(figures))])
+        each = both[0][1] / both[0][0]
+        rows.append([title, *(f"{count}, {taken}, {taken / MHZ:.0f}" for count, taken in both),
+                     f"{both[0][1] / both[1][1]:.1f}", f"{each:.2f}", f"{most}, {most * each / MHZ:.0f}"])
+    sides = [f"{side.replace('_', ' ')}: instructions, cycles, µs" for side in sheet.SIDES]
+    sheet.table(f"m0-time-{level}", f"Cortex-M0, -{level}: time of a call at {MHZ} MHz",
+                ["Call", *sides, "ratio of cycles", "cycles per instruction", "dearest call: instructions, µs"], rows)
+
+
+def print_shares(traces):
+    """Where the instructions of the library's traced calls go."""
+    parts = ["survey::survey_of", "words::unpack", "words::pack"]
+    memory = [name for name in cycles.code(OUT / "memory.o")[1].values()]
+    rows = []
+    for level, traced in traces.items():
+        counts = sum((traced.counts["ocb_" + call] for call in sheet.CALLS), collections.Counter())
+        shares = [counts[part] for part in parts] + [sum(counts[name] for name in memory)]
+        shares.append(counts.total() - sum(shares))
+        rows.append([f"-{level}", *(f"{100 * share / counts.total():.0f}" for share in shares)])
+    sheet.table("m0-shares", "Cortex-M0: where the instructions of the traced calls go, in percent",
+                ["Level", *parts, "memory functions", "the rest"], rows)
+
+
+def size(path):
+    """Bytes of code and constants."""
+    lines = tools.run(["arm-none-eabi-size", path]).splitlines()[1:]
+    return sum(int(line.split()[0]) for line in lines)
+
+
+def needed(level):
+    """The library without what the calls on a state do not need."""
+    made = OUT / f"six.{level}"
+    entries = [word for name in STATE_CALLS for word in ("-u", f"ocb_{name}")]
+    tools.run(["arm-none-eabi-ld", "--gc-sections", "-e", "ocb_barrier", *entries, "--unresolved-symbols=ignore-all",
+               library(level), "-o", made])
+    return made
+
+
+def print_code(in_place):
+    memory = OUT / "memory.o"
+    tools.run([*TARGETS[NAME].gcc, "-c", tools.HERE / NAME / "memory.S", "-o", memory])
+    rows = [["library, all eleven functions", *(size(library(level)) for level in in_place)],
+            ["library, what the six calls on a state need", *(size(needed(level)) for level in in_place)],
+            ["in-place version, the same six calls", *(size(made) for made in in_place.values())],
+            ["memory functions, `memory.S`, beside either", *[size(memory)] * len(in_place)]]
+    sheet.table("m0-code", "Cortex-M0: code and constants in bytes", ["Code", *(f"-{level}" for level in in_place)], rows)
+
+
+def print_needs():
+    names = sorted({line.split()[-1] for level in build.LEVELS
+                    for line in tools.run(["arm-none-eabi-nm", "-u", library(level)]).splitlines() if " U " in line})
+    sheet.save("m0-needs", "Cortex-M0: functions that the library calls", ", ".join(f"`{name}`" for name in names) + "\n")
+
+
+def print_lines():
+    """The lines of the module that are changed for the target, as a difference."""
+    old, new = ((folder / name).read_text(encoding="utf-8").splitlines()
+                for folder, name in ((build.MODULE, "module.ll"), (library("Os").parent, f"{build.CRATE}.ll")))
+    lines = [line for line in difflib.unified_diff(old, new, n=0, lineterm="")
+             if not line.startswith(("---", "+++", "@@")) and line[1:] != "start:"]
+    sheet.save("m0-lines", "Cortex-M0: lines of the module that differ", "```diff\n" + "\n".join(lines) + "\n```\n")
+
+
+def print_tools():
+    clang = tools.run([tools.toolchain("clang"), "--version"]).splitlines()[0]
+    emulator = tools.run([TARGETS[NAME].emulator[0], "--version"]).splitlines()[0]
+    sheet.save("m0-tools", "Measured with", f"{clang}; {emulator}; kit {tools.run(['rt', 'version']).strip()}\n")
+
+
+def bench(names):
+    tools.need(names)
+    build.build(names)
+    OUT.mkdir(parents=True, exist_ok=True)
+    in_place = {level: compile_in_place(level) for level in build.LEVELS}
+    measured = {level: measure(level, in_place[level]) for level in build.LEVELS}
+    print_tools()
+    traces = {level: trace(level, in_place[level]) for level in build.LEVELS}
+    for level, figures in measured.items():
+        print_instructions(level, figures)
+        print_time(level, traces[level], figures)
+    print_stack(measured)
+    print_code(in_place)
+    print_shares(traces)
+    print_needs()
+    print_lines()
+
+
+if __name__ == "__main__":
+    tools.main(lambda _: bench([NAME]), [])
