@@ -6,6 +6,7 @@ time with a clang that keeps what it is given, and the archive of that run must 
 """
 import collections
 import os
+import shutil
 import sys
 
 sys.dont_write_bytecode = True
@@ -39,6 +40,8 @@ def link_all(source, to, apart):
 def keeping_kit(folder, kept):
     """A folder that is the kit, with a clang that keeps the module it is given."""
     source, to = tools.kit(), folder
+    shutil.rmtree(folder, ignore_errors=True)
+    kept.unlink(missing_ok=True)
     for name in ("on", "x86_64", "toolchain", "bin", "clang"):
         link_all(source, to, name)
         source, to = source / name, to / name
@@ -54,7 +57,6 @@ def archive(**more):
 
 def capture():
     """The module's text, from the run that gives the archive in use."""
-    tools.run(["rm", "-rf", MODULE])
     kept = MODULE / "module.bc"
     in_use = ARCHIVE.read_bytes() if ARCHIVE.exists() else None
     again = archive(env={**os.environ, "RATTLE_HOME": str(keeping_kit(MODULE / "kit", kept))})

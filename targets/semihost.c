@@ -5,7 +5,7 @@
 #define SYS_EXIT_EXTENDED 0x20
 #define APPLICATION_EXIT 0x20026
 
-void semihost_exit(uint32_t status);
+void finish(uint32_t status);
 
 static void semihost(uint32_t operation, const void *argument)
 {
@@ -56,8 +56,8 @@ void print_hex(uint32_t number)
     print_in(number, 16, 8);
 }
 
-/* Called at a fault, and when main is done. */
-void semihost_exit(uint32_t status)
+/* The start-up's: called at a fault, and where main comes back. */
+void finish(uint32_t status)
 {
     const uint32_t why[2] = {APPLICATION_EXIT, status};
     for (;;) semihost(SYS_EXIT_EXTENDED, why);
@@ -67,7 +67,7 @@ void stop(const char *why)
 {
     print(why);
     print("\n");
-    semihost_exit(1);
+    finish(1);
     for (;;) {
     }
 }

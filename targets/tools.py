@@ -15,6 +15,7 @@ from table import TARGETS
 HERE = pathlib.Path(__file__).resolve().parent
 ROOT = HERE.parent
 OUT = ROOT / "target" / "targets"
+APT = ["-qq", "-o", "DPkg::Lock::Timeout=120"]
 
 
 class Trouble(Exception):
@@ -23,7 +24,11 @@ class Trouble(Exception):
 
 def run(words, **more):
     """What a command writes; its own words where it fails."""
-    done = subprocess.run([str(word) for word in words], stdout=subprocess.PIPE, stderr=subprocess.PIPE, text=True, **more)
+    words = [str(word) for word in words]
+    try:
+        done = subprocess.run(words, stdout=subprocess.PIPE, stderr=subprocess.PIPE, text=True, **more)
+    except FileNotFoundError:
+        raise Trouble(f"{words[0]} is missing") from None
     if done.returncode != 0:
         sys.stderr.write(done.stdout + done.stderr)
         raise Trouble(f"{pathlib.Path(words[0]).name} ended with status {done.returncode}")
@@ -68,16 +73,16 @@ def install(names):
     if not packages:
         return
     OUT.mkdir(parents=True, exist_ok=True)
+    quiet = {**os.environ, "DEBIAN_FRONTEND": "noninteractive"}
     with open(OUT / "install.log", "w", encoding="utf-8") as log:
-        for words in (["update", "-qq"], ["install", "-qq", "-y", "--no-install-recommends", *packages]):
-            quiet = {**os.environ, "DEBIAN_FRONTEND": "noninteractive"}
+        for words in (["update"], ["install", "-y", "--no-install-recommends", *packages]):
             try:
-                subprocess.run(["apt-get", *words], env=quiet, stdin=subprocess.DEVNULL, stdout=log, stderr=log)
-            except OSError:
-                break  # no apt-get here
+                subprocess.run(["apt-get", *APT, *words], env=quiet, stdin=subprocess.DEVNULL, stdout=log, stderr=log)
+            except FileNotFoundError:
+                break
     if missing(names):
-        raise Trouble(f"cannot be had, and the emulated machines want them: the Debian packages {' '.join(missing(names))}"
-                      " (target/targets/install.log)")
+        raise Trouble(f"the emulated machines' tools cannot be had: apt-get does not install {' '.join(missing(names))}"
+                      " (target/targets/install.log says why)")
     print("targets: installed", *packages)
 
 

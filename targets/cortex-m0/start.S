@@ -33,11 +33,11 @@ start:
     stmia r0!, {r3}
     b 3b
 4:  bl main
-    bl semihost_exit        @ a product does not come back from main
+    bl finish        @ a product does not come back from main
 
 @ A fault ends the run with a status that is not 0; a product stops or starts again.
     .type fault, %function
     .thumb_func
 fault:
     movs r0, #99
-    bl semihost_exit
+    bl finish

@@ -22,10 +22,10 @@ start:
     addi a0, a0, 4
     j 3b
 4:  call main
-    call semihost_exit
+    call finish
 
 # A fault ends the run with a status that is not 0; a product stops or starts again.
     .balign 4
 fault:
     li a0, 99
-    call semihost_exit
+    call finish
