@@ -11,7 +11,8 @@ module hardly depends on the data layout, and what does is changed:
 - a count that an exported function is given, 64 bits in the module, comes in as C's size_t of 32 bits and is widened.
 
 A pointer keeps its slot of 8 bytes and fills 4 of them. That is sound while no pointer is looked at as a number: none is
-converted or compared, and no slot holds both. Offsets of 64 bits are cut to 32 where an address is computed; they are
+converted or compared, and no slot holds both. Slots are followed within a function, through its copies; that what one
+function leaves in memory as a pointer is not a number to another is by Rattle's types, which convert neither. Offsets of 64 bits are cut to 32 where an address is computed; they are
 below the size of an object, hence below 2^32. A target must be little-endian, with pointers of 32 bits, and its C
 compiler must hand over numbers of 32 bits as they are.
 
@@ -45,13 +46,17 @@ SIZES = {"i1": 1, "i8": 1, "i16": 2, "i32": 4, "i64": 8, "ptr": 8}  # bytes of a
 LOOSE = re.compile(r"[{<]|\b(?:asm|float|double|half|bfloat|fp128|addrspace|volatile|atomic|inttoptr|ptrtoint|bitcast)\b")
 KIND = "(?:i1|i8|i16|i32|i64|ptr)"
 FORMS = {
-    "load": re.compile(rf"= load {KIND}, ptr %[\w.]+, align \d+"),
+    "alloca": re.compile(rf"= alloca (?:{KIND}|\[\d+ x i8\]), align \d+$"),
+    "load": re.compile(rf"= load {KIND}, ptr %[\w.]+, align \d+(?:, !(?:noundef|range) !\d+)*$"),
     "store": re.compile(rf"  store {KIND} [^ ,]+, ptr %[\w.]+, align \d+$"),
     "getelementptr": re.compile(r"= getelementptr (?:inbounds nuw )?i8, ptr %[\w.]+, i64 (?:\d+|%[\w.]+)$"),
     "call": re.compile(rf'call (?:noundef )?(?:zeroext )?(?:void|{KIND}) @(?!llvm\.memmove)["\w]'
                        r"|@llvm\.memmove\.p0\.p0\.i64\(ptr %[\w.]+, ptr %[\w.]+, i64 \d+, i1 false\)$"),
 }
-OUTER = re.compile(r"$|;|source_filename = |}$|define |declare |attributes #|target |!|[\w.]+:")
+PARAMETER = rf"{KIND} noundef(?: zeroext)? %a\d+"
+INTERNAL = re.compile(rf'define internal (?:noundef (?:zeroext )?{KIND}|void) @"[^"]+"'
+                      rf"\((?:{PARAMETER}(?:, {PARAMETER})*)?\) #0 \{{$")
+OUTER = re.compile(r"$|;|source_filename = |}$|define |declare |attributes #|target |!llvm\.ident = |!\d+ = !\{|[\w.]+:")
 
 
 class Refused(Exception):
@@ -66,7 +71,10 @@ def kind_of(parameter):
     """A parameter of the header as x86-64's module has it."""
     if "*" in parameter or "[" in parameter:
         return "ptr"
-    return {"uint8_t": "i8", "uint32_t": "i32", "size_t": "i64"}[parameter.split()[0]]
+    kind = {"uint8_t": "i8", "uint32_t": "i32", "size_t": "i64"}.get(parameter.split()[0])
+    if kind is None:
+        raise Refused(f"a parameter of the header that was not looked at: {parameter.strip()}")
+    return kind
 
 
 def exports():
@@ -108,6 +116,8 @@ def check(number, line):
             check_instruction(number, line)
     elif not OUTER.match(line):
         refuse(number, line, "a global, a named type or a line that was not looked at")
+    elif line.startswith("define internal") and not INTERNAL.match(line):
+        refuse(number, line, "a head of a function that was not looked at")
 
 
 class Slots:
@@ -205,8 +215,8 @@ class Module:
         self.lines = []
 
     def fact(self, number, line):
-        name, value = re.match(r'([\w ]+) = "(.*)"$', line).groups()
-        if FACTS.get(name) != value:
+        name = re.match(r"[\w ]*\w", line)[0]
+        if name not in FACTS or line != f'{name} = "{FACTS[name]}"':
             refuse(number, line, "not the target that this was written for")
         self.missing.discard(name)
         return f'{name} = "{self.made[name]}"'

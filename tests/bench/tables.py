@@ -97,8 +97,8 @@ def print_cases(path, board, edges):
         name, stored = line.split()
         callee = next(to for at, to in edges if at == name and to.startswith("ocb_"))
         rows.append([CASES[name[5:]], stored, compared(edges, [name] * len(CALLERS), callee[4:])])
-    sheet.table("x86-cases", f"x86-64: single calls at P = {board}: {sheet.COMPARED}", ["Call", "frames stored", "instructions"],
-                rows)
+    sheet.table("x86-cases", f"x86-64: single calls at P = {board}: {sheet.COMPARED}",
+                ["Call", "frames stored", "instructions"], rows)
 
 
 def print_shares(costs):
