@@ -12,9 +12,10 @@ module hardly depends on the data layout, and what does is changed:
 
 A pointer keeps its slot of 8 bytes and fills 4 of them. That is sound while no pointer is looked at as a number: none is
 converted or compared, and no slot holds both. Slots are followed within a function, through its copies; that what one
-function leaves in memory as a pointer is not a number to another is by Rattle's types, which convert neither. Offsets of 64 bits are cut to 32 where an address is computed; they are
-below the size of an object, hence below 2^32. A target must be little-endian, with pointers of 32 bits, and its C
-compiler must hand over numbers of 32 bits as they are.
+function leaves in memory as a pointer is no number to another is by Rattle's types. A place for a pointer alone has 4
+bytes on the target, so nothing but a load or a store may touch it. Offsets of 64 bits are cut to 32 where an address is
+computed; they are below the size of an object, hence below 2^32. A target must be little-endian, with pointers of 32
+bits, and its C compiler must hand over numbers of 32 bits as they are.
 
 Whatever this does not cover is refused, with its line: the lists below name all that a module may have.
 """
