@@ -3,10 +3,11 @@
 python3 targets/compare.py [long] [TARGET...]    all of table.py's targets by default
 
 Boards of 1, 2, 5, 16, 96 and 256 nodes over whole cycles past phase 255, with work and slow links, and between the calls
-of a board others, to every exported function, on damaged states and frames (play.c, others.c). Every answer of the
-header must have come at least once. Before that the targets' memory functions are tested, and example.c runs as a ROM
-image of the size that rom.ld has.
+of a board others, to every exported function, on damaged states and frames (play.c, others.c). Each function must have
+been refused for every reason that the header gives, and for no other. Before that the targets' memory functions are
+tested, and example.c runs as a ROM image of the size that rom.ld has.
 """
+import re
 import sys
 import time
 
@@ -19,7 +20,7 @@ from table import TARGETS
 
 PLAYED = [tools.HERE / "play.c", tools.HERE / "others.c",
           *(emulate.BENCH / name for name in ("board.c", "sides.c", "inplace.c"))]
-ANSWERS = [*range(0, 15), *range(20, 25)]
+REFUSALS = range(1, 18)
 
 
 def on_x86_64(words):
@@ -29,21 +30,22 @@ def on_x86_64(words):
     return tools.run([program])
 
 
-def counts(text, what):
-    """How often each function or answer came."""
-    lines = [line.split() for line in text.splitlines() if line.startswith(what)]
-    return {name: int(count) for _, name, count in lines}
+def refusals():
+    """The refusals of each function by the header."""
+    parts = re.findall(r"/\*((?:(?!/\*).)*?)\*/\s*uint32_t ocb_(\w+)\(", retarget.HEADER.read_text(encoding="utf-8"), re.S)
+    lists = {name: re.search(r"Refusals: ([^.]*)\.", words)[1] for words, name in parts}
+    return {name: {int(number) for number in re.findall(r"\d+", re.sub(r"\(.*?\)", "", words, flags=re.S))}
+            for name, words in lists.items()}
 
 
 def check_reach(text):
-    """What is compared reaches every exported function and every answer; how many calls there are."""
-    functions, answers = counts(text, "function"), counts(text, "answer")
-    if {f"ocb_{name}" for name, count in functions.items() if count} != set(retarget.exports()):
-        raise tools.Trouble("not every exported function is called")
-    missed = [number for number in ANSWERS if not answers[str(number)]]
-    if missed:
-        raise tools.Trouble(f"no call was answered {', '.join(map(str, missed))}")
-    return sum(functions.values())
+    """Every exported function was refused for each of the header's reasons, and for no other; how many calls there are."""
+    answers = [line.split()[1:] for line in text.splitlines() if line.startswith("answered ")]
+    found = {(name, int(number)) for name, number, _ in answers if int(number) in REFUSALS}
+    wanted = {(name, number) for name, numbers in refusals().items() for number in numbers}
+    for name, number in sorted(found ^ wanted):
+        raise tools.Trouble(f"the header and what is played differ: ocb_{name} and refusal {number}")
+    return sum(int(count) for _, _, count in answers)
 
 
 def difference(ours, theirs):

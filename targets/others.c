@@ -104,8 +104,12 @@ static void choose_frame(struct call *call, const struct call *near)
     const struct call *from = below(4) == 0 ? near : &last_frame;
     memcpy(call->bytes, from->bytes, sizeof call->bytes);
     call->count = from->count;
-    if (call->kind == BARRIER || call->kind == FRAME_WRITE)
-        call->count = below(2) ? OCB_FRAME_BYTES : below(OCB_FRAME_BYTES);
+}
+
+/* A buffer that is long enough, half of the time. */
+static void choose_buffer(struct call *call)
+{
+    call->count = below(2) ? OCB_FRAME_BYTES : below(OCB_FRAME_BYTES);
 }
 
 void other_call(const uint32_t state[OCB_STATE_WORDS], const struct call *near)
@@ -124,5 +128,6 @@ void other_call(const uint32_t state[OCB_STATE_WORDS], const struct call *near)
     if (below(2) == 0) damage_state(words);
     if (below(2) == 0) damage_frame(&call);
     if (call.kind == FRAME_WRITE) choose_fields(&call);
+    if (call.kind == FRAME_WRITE || call.kind == BARRIER) choose_buffer(&call);
     perform(LIBRARY, &call);
 }

@@ -3,7 +3,8 @@
  * answer, frame, word found and state. The same file is compiled for this machine, with the archive of rt staticlib, and
  * for each target with its own; what is printed must be the same. -DLONG plays more.
  *
- * A line has a board's nodes, how many calls were made on it, and the hash of the calls since the line before.
+ * A line has a board's nodes, how many calls were made on it, and the hash of the calls since the line before. At the end
+ * stands how often each function gave which answer.
  */
 #include "machine.h"
 #include "others.h"
@@ -26,7 +27,7 @@ static const struct {
 
 /* Two hashes of 32 bits side by side, since a small core multiplies no more at once. */
 static uint32_t first_hash, second_hash;
-static uint32_t nodes_now, calls, kinds[KINDS], answers[ANSWERS];
+static uint32_t nodes_now, calls, answers[KINDS][ANSWERS];
 
 static void add(uint32_t number)
 {
@@ -62,8 +63,7 @@ void perform(enum side side, struct call *call)
     add_words(call->found, OCB_DETAIL_WORDS);
     add_words(call->fields, OCB_FIELD_WORDS);
     add_words(call->state, OCB_STATE_WORDS);
-    kinds[call->kind]++;
-    answers[call->answer < ANSWERS ? call->answer : ANSWERS - 1]++;
+    answers[call->kind][call->answer < ANSWERS ? call->answer : ANSWERS - 1]++;
     if (++calls % BLOCK == 0) end_block();
 }
 
@@ -73,15 +73,19 @@ void saw(const struct states *before, const struct call *call, uint32_t answer)
     other_call(before->words, call);
 }
 
-/* A line of a name or a number, and how often it came. */
-static void print_count(const char *what, const char *name, uint32_t number, uint32_t count)
+/* How often a function gave an answer. */
+static void print_answers(enum kind kind)
 {
-    print(what);
-    if (name) print(name);
-    if (!name) print_number(number);
-    print(" ");
-    print_number(count);
-    print("\n");
+    for (uint32_t i = 0; i < ANSWERS; i++) {
+        if (answers[kind][i] == 0) continue;
+        print("answered ");
+        print(kind_names[kind]);
+        print(" ");
+        print_number(i);
+        print(" ");
+        print_number(answers[kind][i]);
+        print("\n");
+    }
 }
 
 int main(void)
@@ -93,7 +97,6 @@ int main(void)
         play_board(nodes_now, boards[i].phase, boards[i].cycles);
         end_block();
     }
-    for (uint32_t i = 0; i < KINDS; i++) print_count("function ", kind_names[i], 0, kinds[i]);
-    for (uint32_t i = 0; i < ANSWERS; i++) print_count("answer ", 0, i, answers[i]);
+    for (enum kind kind = 0; kind < KINDS; kind++) print_answers(kind);
     return 0;
 }
