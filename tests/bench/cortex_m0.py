@@ -76,8 +76,9 @@ def print_instructions(level, figures):
                     ["P", *sheet.TITLES], rows)
 
 
-def deepest(figures, side, function):
-    return max((numbers[3] for (_, _, its, name), numbers in figures.items() if (its, name) == (side, function)), default="")
+def most(figures, side, function, at):
+    """The largest of a function's figures over all boards and the other calls."""
+    return max((numbers[at] for (_, _, its, name), numbers in figures.items() if (its, name) == (side, function)), default="")
 
 
 def bounds(level):
@@ -91,21 +92,22 @@ def print_stack(measured):
     bound = {level: bounds(level) for level in measured}
     titles = ["Function", *(f"{side.replace('_', ' ')}, -{level}" for side in sheet.SIDES for level in measured),
               *(f"library's bound, -{level}" for level in measured)]
-    rows = [[f"`ocb_{name}`", *(deepest(figures, side, name) for side in sheet.SIDES for figures in measured.values()),
+    rows = [[f"`ocb_{name}`", *(most(figures, side, name, 3) for side in sheet.SIDES for figures in measured.values()),
              *(bound[level][f"ocb_{name}"] for level in measured)] for name in FUNCTIONS]
     sheet.table("m0-stack", "Cortex-M0: deepest stack of a call in bytes, refused calls included", titles, rows)
-    most = [f"{max(bound[level].values())} bytes at -{level}" for level in measured]
-    sheet.save("m0-stack-most", "Cortex-M0: stack that is enough for any call", " and ".join(most) + ".\n")
+    enough = [f"{max(bound[level].values())} bytes at -{level}" for level in measured]
+    sheet.save("m0-stack-most", "Cortex-M0: stack that is enough for any call", " and ".join(enough) + ".\n")
 
 
 def print_time(level, traced, figures):
     rows = []
     for call, title in zip(sheet.CALLS, sheet.TITLES):
-        both = [(traced.counts[name].total(), traced.cycles[name]) for name in (its + call for its in sheet.SIDES.values())]
-        most = max([both[0][0], *(figures["scheduled", board, "library", call][2] for board in boards(figures))])
-        each = both[0][1] / both[0][0]
-        rows.append([title, *(f"{count}, {taken}, {taken / MHZ:.0f}" for count, taken in both),
-                     f"{both[0][1] / both[1][1]:.1f}", f"{each:.2f}", f"{most}, {most * each / MHZ:.0f}"])
+        names = [prefix + call for prefix in sheet.SIDES.values()]
+        counts, taken = [traced.counts[name].total() for name in names], [traced.cycles[name] for name in names]
+        dearest, each = max(counts[0], most(figures, "library", call, 2)), taken[0] / counts[0]
+        rows.append([title, *(f"{count}, {cycle}, {cycle / MHZ:.0f}" for count, cycle in zip(counts, taken)),
+                     ", ".join(f"{taken[0] / other:.1f}" for other in taken[1:]), f"{each:.2f}",
+                     f"{dearest}, {dearest * each / MHZ:.0f}"])
     sides = [f"{side.replace('_', ' ')}: instructions, cycles, µs" for side in sheet.SIDES]
     sheet.table(f"m0-time-{level}", f"Cortex-M0, -{level}: time of a call at {MHZ} MHz",
                 ["Call", *sides, "ratio of cycles", "cycles per instruction", "dearest call: instructions, µs"], rows)

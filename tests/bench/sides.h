@@ -1,6 +1,7 @@
 /*
- * A call, and the sides that can make it. A further side is its name in `enum side`, its state in `struct states`, its
- * calls beside in_place_inside, and a row in each table of sides.c.
+ * A call, and the sides that can make it: the library, and versions that it is measured beside. A further one is added
+ * here (`enum side`, `struct states`, its calls beside in_place_inside) and in sides.c, to what count.c replays, to
+ * measure.c's table of functions, to sample.c and to sheet.py's SIDES.
  */
 #ifndef SIDES_H
 #define SIDES_H
