@@ -39,7 +39,7 @@ static _Noreturn void fail(const struct call *call, const char *what)
     print("P = ");
     print_number(board.nodes);
     print(": ");
-    print(call->kind < KINDS ? kind_names[call->kind] : "");
+    print(kind_names[call->kind]);
     print(" answers ");
     print_number(call->answer);
     print(": ");
@@ -76,10 +76,9 @@ static uint32_t call_all(uint32_t at, struct call *call)
     return call->answer;
 }
 
-static uint32_t must(uint32_t at, struct call *call, uint32_t wanted)
+static void must(uint32_t at, struct call *call, uint32_t wanted)
 {
     if (call_all(at, call) != wanted) fail(call, "not the answer that the schedule has");
-    return wanted;
 }
 
 /* ---- The schedule */

@@ -21,6 +21,7 @@ from table import TARGETS
 
 NAME = "cortex-m0"
 OUT = sheet.OUT / NAME
+MEMORY = OUT / "memory.o"
 MHZ = 48
 FUNCTIONS = ["send", "take", "idle", "frame_in", "barrier", "fresh", "dimension", "place", "distance", "frame_write",
              "frame_read"]
@@ -83,7 +84,7 @@ def most(figures, side, function, at):
 
 def bounds(level):
     try:
-        return stack.bounds(library(level).parent / f"{build.CRATE}.o")
+        return stack.bounds(library(level).parent / f"{build.CRATE}.o", stack.pushed(MEMORY))
     except stack.Unbounded as trouble:
         raise tools.Trouble(f"-{level}: {trouble}") from None
 
@@ -109,14 +110,14 @@ def print_time(level, traced, figures):
                      ", ".join(f"{taken[0] / other:.1f}" for other in taken[1:]), f"{each:.2f}",
                      f"{dearest}, {dearest * each / MHZ:.0f}"])
     sides = [f"{side.replace('_', ' ')}: instructions, cycles, µs" for side in sheet.SIDES]
-    sheet.table(f"m0-time-{level}", f"Cortex-M0, -{level}: time of a call at {MHZ} MHz",
+    sheet.table(f"m0-time-{level}", f"Cortex-M0, -{level}: time of a call at {MHZ} MHz, by {cycles.SOURCE}",
                 ["Call", *sides, "ratio of cycles", "cycles per instruction", "dearest call: instructions, µs"], rows)
 
 
 def print_shares(traces):
     """Where the instructions of the library's traced calls go."""
     parts = ["survey::survey_of", "words::unpack", "words::pack"]
-    memory = [name for name in cycles.code(OUT / "memory.o")[1].values()]
+    memory = cycles.code(MEMORY)[1].values()
     rows = []
     for level, traced in traces.items():
         counts = sum((traced.counts["ocb_" + call] for call in sheet.CALLS), collections.Counter())
@@ -143,12 +144,10 @@ def needed(level):
 
 
 def print_code(in_place):
-    memory = OUT / "memory.o"
-    tools.run([*TARGETS[NAME].gcc, "-c", tools.HERE / NAME / "memory.S", "-o", memory])
     rows = [["library, all eleven functions", *(size(library(level)) for level in in_place)],
             ["library, what the six calls on a state need", *(size(needed(level)) for level in in_place)],
             ["in-place version, the same six calls", *(size(made) for made in in_place.values())],
-            ["memory functions, `memory.S`, beside either", *[size(memory)] * len(in_place)]]
+            ["memory functions, `memory.S`, beside either", *[size(MEMORY)] * len(in_place)]]
     sheet.table("m0-code", "Cortex-M0: code and constants in bytes", ["Code", *(f"-{level}" for level in in_place)], rows)
 
 
@@ -177,6 +176,7 @@ def bench(names):
     tools.need(names)
     build.build(names)
     OUT.mkdir(parents=True, exist_ok=True)
+    tools.run([*TARGETS[NAME].gcc, "-c", tools.HERE / NAME / "memory.S", "-o", MEMORY])
     in_place = {level: compile_in_place(level) for level in build.LEVELS}
     measured = {level: measure(level, in_place[level]) for level in build.LEVELS}
     print_tools()

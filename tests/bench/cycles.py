@@ -8,6 +8,7 @@ import collections
 import re
 import subprocess
 
+SOURCE = "the cycles of ARM's Cortex-M0 Technical Reference Manual (r0p0, table 3-1), memory that answers at once"
 TRACED = re.compile(r"^Trace .*?\[[0-9a-f]+/([0-9a-f]+)/", re.M)
 CONDITIONAL = re.compile(r"b(eq|ne|cs|cc|hs|lo|mi|pl|vs|vc|hi|ls|ge|lt|gt|le)\.n")
 

@@ -6,12 +6,21 @@ through others, and none is called through a pointer. Both are checked.
 import re
 import subprocess
 
-# Takes of the functions from outside that cortex-m0/memory.S has: six registers at most.
-OUTSIDE = 24
-
 
 class Unbounded(Exception):
     """No bound can be told; the text says why."""
+
+
+def listing(path):
+    return subprocess.run(["arm-none-eabi-objdump", "-dr", path], check=True, capture_output=True, text=True).stdout
+
+
+def pushed(path):
+    """Bytes that a function of an object takes at most, where none calls another: cortex-m0/memory.S is so."""
+    text = listing(path)
+    if re.search(r"\tblx?\t|\tsub\tsp", text):
+        raise Unbounded("a memory function calls another, or takes more than it pushes")
+    return max(4 * (registers.count(",") + 1) for registers in re.findall(r"\tpush\t\{(.*)\}", text))
 
 
 def frames(path):
@@ -27,9 +36,8 @@ def frames(path):
 
 def calls(path):
     """The functions that each function calls. A bl to a place inside the function itself is only a far jump."""
-    listing = subprocess.run(["arm-none-eabi-objdump", "-dr", path], check=True, capture_output=True, text=True).stdout
     found, name, unnamed = {}, None, []
-    for line in listing.splitlines():
+    for line in listing(path).splitlines():
         if head := re.match(r"[0-9a-f]+ <(.*)>:", line):
             name = head[1]
             found[name] = set()
@@ -44,15 +52,15 @@ def calls(path):
     return found
 
 
-def bounds(compiled):
-    """A bound for each function of an object, by name."""
+def bounds(compiled, outside):
+    """A bound for each function of an object, by name; outside: what a function takes that it has not."""
     own, called, known = frames(compiled.with_suffix(".su")), calls(compiled), {}
 
     def bound(name, above):
         if name in above:
             raise Unbounded(f"{name} calls itself")
         if name not in own:
-            return OUTSIDE
+            return outside
         if name not in known:
             known[name] = own[name] + max((bound(other, (*above, name)) for other in called[name]), default=0)
         return known[name]
