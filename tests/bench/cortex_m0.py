@@ -6,6 +6,7 @@ by ARM's table of cycles. All numbers are the emulator's and the same at each ru
 """
 import collections
 import difflib
+import re
 import sys
 
 sys.dont_write_bytecode = True
@@ -16,6 +17,7 @@ import stack
 sys.path.insert(0, str(sheet.ROOT / "targets"))
 import build
 import emulate
+import retarget
 import tools
 from table import TARGETS
 
@@ -23,6 +25,7 @@ NAME = "cortex-m0"
 OUT = sheet.OUT / NAME
 MEMORY = OUT / "memory.o"
 MHZ = 48
+RAM = 64 * 1024
 FUNCTIONS = ["send", "take", "idle", "frame_in", "barrier", "fresh", "dimension", "place", "distance", "frame_write",
              "frame_read"]
 STATE_CALLS = FUNCTIONS[:6]
@@ -98,6 +101,24 @@ def print_stack(measured):
     sheet.table("m0-stack", "Cortex-M0: deepest stack of a call in bytes, refused calls included", titles, rows)
     enough = [f"{max(bound[level].values())} bytes at -{level}" for level in measured]
     sheet.save("m0-stack-most", "Cortex-M0: stack that is enough for any call", " and ".join(enough) + ".\n")
+
+
+def limits():
+    """The numbers that the header defines, by name."""
+    found = re.findall(r"#define (OCB_\w+) (\d+)", retarget.HEADER.read_text(encoding="utf-8"))
+    return {name: int(number) for name, number in found}
+
+
+def print_node():
+    """What a node needs of RAM while it makes a barrier call."""
+    header = limits()
+    lent = [4 * header["OCB_STATE_WORDS"], header["OCB_FRAME_BYTES"], 4 * header["OCB_DETAIL_WORDS"]]
+    rows = []
+    for level in build.LEVELS:
+        needs = [*lent, max(bounds(level).values())]
+        rows.append([f"-{level}", *needs, sum(needs), f"{100 * sum(needs) / RAM:.0f}"])
+    sheet.table("m0-node", "Cortex-M0: RAM of a node in bytes",
+                ["Level", "state", "frame", "details", "stack of a call", "together", f"in 100 of {RAM // 1024} KB"], rows)
 
 
 def print_time(level, traced, figures):
@@ -185,6 +206,7 @@ def bench(names):
         print_instructions(level, figures)
         print_time(level, traces[level], figures)
     print_stack(measured)
+    print_node()
     print_code(in_place)
     print_shares(traces)
     print_needs()
