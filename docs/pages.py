@@ -12,8 +12,11 @@ import re
 import sys
 
 sys.dont_write_bytecode = True
-import charts
 import played
+import wording
+from chart import chart
+from partners import partners as partners_picture
+from partners import tree
 
 PAGE = played.ROOT / "docs" / "BARRIER.md"
 PICTURES = played.ROOT / "docs" / "pictures"
@@ -30,55 +33,14 @@ def table(titles, rows):
 
 # ---- The made parts
 
-def step_words(step):
-    return f"pass {step[0]}, dimension {step[1]}"
-
-
-def joined(numbers):
-    words = [str(n) for n in numbers]
-    return " and ".join(([", ".join(words[:-1])] if words[1:] else []) + words[-1:])
-
-
-def delivery_words(events, at):
-    """A delivery in words: what came, and what it did to the receiver."""
-    event = events[at]
-    kind = "work" if event.item.frame is None else "frame"
-    words = f"the {kind} of line {event.item.line} reaches {event.node}"
-    if event.answer in (7, 24):
-        return words + (": early, it stays" if event.answer == 7 else ": late, dropped")
-    if event.answer != 0:
-        return words + f": refused with {event.answer}"
-    back = f"falls back to {step_words(event.step)}" if played.fell_back(events, at) else ""
-    busy = "is busy" if kind == "work" else ""
-    effect = " and ".join(x for x in (busy, back) if x)
-    return words + (f", which {effect}" if effect else "")
-
-
-def event_words(events, at):
-    """An event in words, from what was printed."""
-    event = events[at]
-    if event.frame is not None:
-        step = f"pass {event.frame.data[0]}, dimension {event.frame.data[2]}"
-        again = " **again**" if event.frame.before else ""
-        return f"{event.node} sends its frame of {step} to {joined(event.frame.receivers)}{again}"
-    if event.item is not None:
-        return delivery_words(events, at)
-    if event.answer == 0:
-        to = event.text.split()[-1]
-        return f"{event.node} is out of work: idle" if event.text[0] == "i" else f"{event.node} sends work to {to}"
-    if event.answer == 21:
-        return f"{event.node} waits in {step_words(event.step)}"
-    if event.answer == 22:
-        return f"{event.node} moves on to {step_words(event.step)}"
-    if event.answer == 23:
-        return f"{event.node} leaves: phase {event.phase} begins for it"
-    return f"refused with {event.answer}"
+def events_of(name):
+    return played.play(played.SCRIPTS / name).events
 
 
 def trace(name, first="1", last="999999", node=""):
     """The lines of a script with what they print and the same in words; of one node only where it is named."""
-    events, _ = played.events(name)
-    rows = [(event.line, f"`{event.text}`", f"`{event.printed}`", event_words(events, at))
+    events = events_of(name)
+    rows = [(event.line, f"`{event.text}`", f"`{event.printed}`", wording.event(events, at))
             for at, event in enumerate(events)
             if int(first) <= event.line <= int(last) and node in ("", str(event.node))]
     return table(["Line", "Script", "Printed", "In words"], rows)
@@ -100,7 +62,7 @@ def shells(nodes):
 
     def shell(node, k):
         awaited = board[node, k].awaited
-        return "none" if awaited is None else joined(next(run for run in rows[k] if awaited in run))
+        return "none" if awaited is None else wording.joined(next(run for run in rows[k] if awaited in run))
 
     cells = [[node] + [shell(node, k) for k in range(count)] for node in range(int(nodes))]
     return table(["Node"] + [f"Shell {k}" for k in range(count)], cells)
@@ -108,7 +70,7 @@ def shells(nodes):
 
 def frame(name, line):
     """The frame that a line of a script sends, byte by byte."""
-    sent = {e.line: e.frame.data for e in played.events(name)[0] if e.frame is not None}
+    sent = {e.line: e.frame.data for e in events_of(name) if e.frame is not None}
     if int(line) not in sent:
         raise played.Trouble(f"docs/BARRIER.md: line {line} of scripts/{name} sends no frame")
     data = sent[int(line)]
@@ -121,34 +83,34 @@ def frame(name, line):
 
 def lengths(name):
     """How many bytes the frames of each step have."""
-    frames = [e.frame.data for e in played.events(name)[0] if e.frame is not None]
+    frames = [e.frame.data for e in events_of(name) if e.frame is not None]
     found = sorted({(data[0], data[2], len(data)) for data in frames})
-    return table(["Step", "Bytes"], [(step_words(step), size) for *step, size in found])
+    return table(["Step", "Bytes"], [(wording.step(step), size) for *step, size in found])
 
 
 def again(name):
     """The frames of a script that repeat a step, with the fields that have changed since the frame before."""
-    events, _ = played.events(name)
+    events = events_of(name)
     sent = {e.line: e for e in events if e.frame is not None}
     rows = []
     for line, event in sorted(sent.items()):
         if event.frame.before:
             old, new = (played.fields(e.frame.data) for e in (sent[event.frame.before], event))
             changes = [f"{words}: {was} → {now}" for (words, _, was), (_, _, now) in zip(old, new) if was != now]
-            ends = f"{event.node} to {joined(event.frame.receivers)}"
-            rows.append((event.frame.before, line, ends, step_words(event.step), ", ".join(changes)))
+            ends = f"{event.node} to {wording.joined(event.frame.receivers)}"
+            rows.append((event.frame.before, line, ends, wording.step(event.step), ", ".join(changes)))
     return table(["Sent first in line", "Again in line", "From, to", "Step", "What has changed in it"], rows)
 
 
 def phases():
     """The program boards' lines about phase bytes."""
-    lines = [line for line in played.output("target/bin/boards", "") if line.startswith("node in phase")]
+    lines = [line for line in played.output("target/bin/boards") if line.startswith("node in phase")]
     return "\n\n```\n" + "".join(line + "\n" for line in lines) + "```\n\n"
 
 
 def frames_of(name):
     """How many frames a script puts on links, and their bytes; a frame to two receivers counts twice."""
-    frames = [e.frame for e in played.events(name)[0] if e.frame is not None]
+    frames = [e.frame for e in events_of(name) if e.frame is not None]
     return (sum(len(f.receivers) for f in frames), sum(len(f.receivers) * len(f.data) for f in frames))
 
 
@@ -165,7 +127,7 @@ def costs():
               ("rollback_of_five", "with one piece of work, which comes late")]
     for name, words in cycles:
         count, size = frames_of(name)
-        rows.append((f"a cycle {words}, on a board of {played.size(name)} (`scripts/{name}`)",
+        rows.append((f"a cycle {words}, on a board of {played.play(played.SCRIPTS / name).size} (`scripts/{name}`)",
                      f"{count} frames on links, {size} bytes"))
     for nodes in (5, 6):
         awaiting = sum(place.awaited is not None for place in played.places(nodes).values())
@@ -221,13 +183,27 @@ def check_paths(text, pictures):
         raise played.Trouble(f"docs/BARRIER.md: made and shown pictures differ: {sorted(shown ^ set(pictures))}")
 
 
+def pictures():
+    """Every picture by its name."""
+    rollback = played.SCRIPTS / "rollback_of_five"
+    return {
+        "tree_of_five": tree(5),
+        "partners_of_five": partners_picture(5),
+        "partners_of_six": partners_picture(6),
+        "worked": chart(played.SCRIPTS / "worked", "Two nodes end a cycle"),
+        "rollback_of_five": chart(rollback, "Five nodes: work reaches node 0 after it has signed in"),
+        "rollback_of_five_again": chart(rollback, "Five nodes: what node 0 sends again", 40, 61),
+        "trap_of_four": chart(played.SCRIPTS / "trap_of_four", "Four nodes: why there is a second pass"),
+    }
+
+
 def wanted():
     """Every made file with the text it should have."""
     text = page(PAGE.read_text(encoding="utf-8"))
-    pictures = charts.pictures()
+    made = pictures()
     check_names(text)
-    check_paths(text, pictures)
-    files = {PICTURES / f"{name}.svg": picture for name, picture in pictures.items()}
+    check_paths(text, made)
+    files = {PICTURES / f"{name}.svg": picture for name, picture in made.items()}
     files[PAGE] = text
     return files
 

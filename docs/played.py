@@ -1,14 +1,23 @@
 """What the programs of the repository print, as plain data: partners, and scripts as they were played.
 
-The programs are target/bin/boards (rt check boards), target/bin/rehearse (rt check rehearse) and target/c/play
-(tests/c/run). Nothing here knows the rules of the barrier save how the links' lists go and how a frame's bytes lie.
+Nothing here knows the rules of the barrier save how the links' lists go and how a frame's bytes lie.
 """
+import functools
 import pathlib
 import re
 import subprocess
 from collections import namedtuple
 
 ROOT = pathlib.Path(__file__).resolve().parent.parent
+SCRIPTS = ROOT / "scripts"
+
+# The programs, each with the command that builds it.
+BUILDERS = {
+    "target/bin/boards": "rt check boards",
+    "target/bin/rehearse": "rt check rehearse",
+    "target/c/places": "bash tests/c/run",
+    "target/c/play": "bash tests/c/run",
+}
 
 # A node's place in a dimension; awaited and hermit are None where it has none.
 Place = namedtuple("Place", "kind awaited hermit words")
@@ -22,6 +31,10 @@ Item = namedtuple("Item", "line source target frame")
 # A line of a script with what it printed. frame: what was sent. item: what was delivered, or stayed for being early.
 Event = namedtuple("Event", "line text printed node answer phase step flag busy frame item")
 
+# A script that was played: how many nodes its board has, its events, and the items under way at its end.
+Play = namedtuple("Play", "size events under_way")
+
+STOP = re.compile(r"stop (\d+) at line (\d+)")
 PLACE = re.compile(r"(\d+) (\d+) (\d+) (alone|hermit, awaits (\d+)|neighbour of (\d+)(?: and messenger to (\d+))?)")
 
 
@@ -29,11 +42,14 @@ class Trouble(Exception):
     """Something is not as it should be; the text says what."""
 
 
-def output(program, text, *words):
+def output(program, data=b"", *words):
+    """The lines that a program prints when it is handed bytes on its standard input."""
     path = ROOT / program
     if not path.exists():
-        raise Trouble(f"{program} is not built; tests/scripts/run and tests/c/run build what is needed")
-    done = subprocess.run([str(path), *words], input=text.encode(), stdout=subprocess.PIPE, check=True)
+        raise Trouble(f"{program} is not built yet: {BUILDERS[program]} builds it")
+    done = subprocess.run([str(path), *words], input=data, stdout=subprocess.PIPE, check=False)
+    if done.returncode != 0:
+        raise Trouble(f"{program} ends with status {done.returncode}")
     return done.stdout.decode().splitlines()
 
 
@@ -41,23 +57,26 @@ def whole(text):
     return None if text is None else int(text)
 
 
-def places(nodes):
-    """The places of a board's nodes by (node, dimension), as the program boards prints them."""
+def places_in(lines, nodes):
+    """The places of a board's nodes by (node, dimension), out of lines of the form that boards and places print."""
     found = {}
-    for line in output("target/bin/boards", ""):
+    for line in lines:
         match = PLACE.fullmatch(line)
         if match is None or int(match[1]) != nodes:
             continue
         kind = "messenger" if match[7] else match[4].split(",")[0].split()[0]
         awaited = whole(match[5] or match[6])
         found[int(match[2]), int(match[3])] = Place(kind, awaited, whole(match[7]), match[4])
-    if not found:
-        raise Trouble(f"boards prints no board of {nodes}")
     return found
 
 
+def places(nodes):
+    """The places of a board's nodes by (node, dimension), as the library gives them; a board of one has none."""
+    return places_in(output("target/c/places", b"", str(nodes)), nodes)
+
+
 def dimensions(board):
-    return 1 + max(k for _, k in board)
+    return 1 + max((k for _, k in board), default=-1)
 
 
 def runs(board):
@@ -72,20 +91,45 @@ def runs(board):
     return rows
 
 
-def printed_with_frames(name):
-    """The lines that a script prints, each with its frame's receivers and bytes, or None."""
-    text = (ROOT / "scripts" / name).read_text(encoding="utf-8")
-    lines = output("target/bin/rehearse", text)
+def read(path):
+    try:
+        return pathlib.Path(path).read_bytes()
+    except OSError as error:
+        raise Trouble(f"{path}: {error.strerror}") from None
+
+
+def stop_words(data, number, line):
+    """What a script is stopped for, in words; line 0 is the script as a whole."""
+    why = f"{number}, {names()[number]}"
+    if line == 0:
+        return f"is too long ({why}: 4,096 bytes are the most)"
+    lines = data.decode("utf-8", "replace").split("\n")
+    found = ascii(lines[line - 1][:40]) if line <= len(lines) else "nothing"
+    return f"stops at line {line} ({why}): {found}"
+
+
+def printed(path, data):
+    """The lines that the program rehearse prints for a script."""
+    lines = output("target/bin/rehearse", data)
+    stop = STOP.fullmatch(lines[-1])
+    if stop is not None:
+        raise Trouble(f"{path} {stop_words(data, int(stop[1]), int(stop[2]))}")
+    return lines
+
+
+def printed_with_frames(path, data):
+    """The lines of a script, and what each prints with its frame's receivers and bytes, or None."""
+    lines = printed(path, data)
     pairs = []
-    for line in output("target/c/play", text, "frames"):
+    for line in output("target/c/play", data, "frames"):
         if line.startswith("frame to "):
-            to, data = line[len("frame to "):].split(":")
-            pairs[-1] = (pairs[-1][0], [int(x) for x in to.split()], bytes.fromhex(data))
+            to, sent = line[len("frame to "):].split(":")
+            pairs[-1] = (pairs[-1][0], [int(x) for x in to.split()], bytes.fromhex(sent))
         else:
             pairs.append((line, None, None))
     if [pair[0] for pair in pairs] != lines:
-        raise Trouble(f"scripts/{name}: rehearse and play print different lines")
-    return text.splitlines()[1:], pairs[1:]
+        raise Trouble(f"{path}: rehearse and play print different lines")
+    return data.decode().splitlines(), pairs
 
 
 def delivered(items, parts, answer):
@@ -97,13 +141,13 @@ def delivered(items, parts, answer):
     return item
 
 
-def events(name):
-    """A script of the folder scripts, played: its events, and what is under way at its end."""
-    script, pairs = printed_with_frames(name)
-    items, played, sent = [], [], {}
-    for line, (text, (printed, to, data)) in enumerate(zip(script, pairs), start=2):
+def play(path):
+    """A script, played."""
+    script, pairs = printed_with_frames(path, read(path))
+    items, events, sent = [], [], {}
+    for line, (text, (said, to, data)) in enumerate(zip(script[1:], pairs[1:]), start=2):
         parts = text.split()
-        node, answer, phase, turn, dimension, flag, busy = (int(x) for x in printed.split())
+        node, answer, phase, turn, dimension, flag, busy = (int(x) for x in said.split())
         frame = item = None
         if to is not None:
             key = (node, phase, data[0], data[2])
@@ -114,13 +158,8 @@ def events(name):
             items.append(Item(line, node, int(parts[2]), None))
         elif parts[0] == "d":
             item = delivered(items, parts, answer)
-        played.append(Event(line, text, printed, node, answer, phase, (turn, dimension), flag, busy, frame, item))
-    return played, items
-
-
-def size(name):
-    """How many nodes a script's board has."""
-    return int((ROOT / "scripts" / name).read_text(encoding="utf-8").split()[1])
+        events.append(Event(line, text, said, node, answer, phase, (turn, dimension), flag, busy, frame, item))
+    return Play(int(script[0].split()[1]), events, items)
 
 
 def before(played, at):
@@ -153,13 +192,23 @@ def code_size():
     """The bytes of code and constants in the C library."""
     path = ROOT / "target" / "staticlib" / "libbarrier_c.a"
     if not path.exists():
-        raise Trouble("the C library is not built; tests/c/run builds it")
+        raise Trouble("the C library is not built yet: bash tests/c/run builds it")
     totals = subprocess.run(["size", "-t", str(path)], stdout=subprocess.PIPE, check=True).stdout.decode()
     return int(totals.splitlines()[-1].split()[0])
 
 
+def header_text():
+    text = (ROOT / "include" / "ocb.h").read_text(encoding="utf-8")
+    return text[text.index("#ifndef OCB_H"):]
+
+
 def header():
     """The numbers that include/ocb.h gives to its names."""
-    text = (ROOT / "include" / "ocb.h").read_text(encoding="utf-8")
-    text = text[text.index("#ifndef OCB_H"):]
-    return {name: int(value) for name, value in re.findall(r"\b(OCB_\w+)(?: =)? (\d+)", text)}
+    return {name: int(value) for name, value in re.findall(r"\b(OCB_\w+)(?: =)? (\d+)", header_text())}
+
+
+@functools.cache
+def names():
+    """The words of answers and refusals by their numbers, from the names that include/ocb.h gives them."""
+    found = re.findall(r"\bOCB_(?!AT_)(\w+) = (\d+)", header_text())
+    return {int(value): name.lower().replace("_", " ") for name, value in found}
