@@ -1,5 +1,6 @@
 -- The limits of a build: how many nodes a board may have, and how many messages a node may send in a phase.
-use Prim.Native.Nat.{ℕ, _-_, _*_}
+use Prim.Native.Nat.{ℕ, suc, _-_, _*_, _≤_}
+use Rattle.base.specs.declared.Bounds.{Bounds}
 
 pub record Limits : Type 0 where
   pub nodes : ℕ
@@ -20,3 +21,12 @@ base = record { nodes = 256; sends = 65535 }
 -- How many shells a state or a frame has room for: the dimension of the largest board.
 abbrev pub width : ℕ
 width = 8
+
+-- a pair that the largest build has room for
+pub record Fits (L : Limits) : Type 0 where
+  pub nodes : L .nodes ≤ base .nodes
+  pub sends : L .sends ≤ base .sends
+
+-- the pair that a call is handed
+abbrev pub limitsOf : Bounds → Limits
+limitsOf b = record { nodes = suc (b .last); sends = b .sends }

@@ -2,7 +2,7 @@
 // Any number may be handed to any of the three; what document 01 does not allow is refused with its number.
 ghost use mathlib.Core.Path.{_≡_};
 ghost use Prim.Native.Nat.{_+_, _≤_, _<_};
-ghost use Rattle.base.specs.Limits.{base};
+ghost use Rattle.base.specs.Limits.{base, limitsOf};
 ghost use Rattle.base.specs.Refusal.{found};
 ghost use Rattle.tree.specs.Tree.{
   dimension,
@@ -15,6 +15,7 @@ ghost use Rattle.tree.specs.Tree.{
   distanceBelow,
 };
 ghost use Rattle.tree.specs.Lookups.{dimensionLookup, placeLookup, distanceLookup, foundAnswer, placedAnswer};
+use base::Bounds;
 
 // A number, or the number of a refusal.
 pub enum Found {
@@ -42,13 +43,14 @@ pub struct Run {
 }
 
 // The smallest p with nodes <= 2^p. Refuses 1.
-pub fn dimension_of(nodes: u32) -> Found
-    ensures { λ r. ⌜ foundAnswer r ≡ dimensionLookup base nodes ⌝ }
+pub fn dimension_for(b: Bounds, nodes: u32) -> Found
+    ensures { λ r. ⌜ foundAnswer r ≡ dimensionLookup (limitsOf b) nodes ⌝ }
 {
+    let most = b.last as u32 + 1;
     if nodes == 0 {
         return Found::Refused(1);
     }
-    if 256 < nodes {
+    if most < nodes {
         return Found::Refused(1);
     }
     if nodes == 1 {
@@ -137,10 +139,10 @@ fn place_in(r: Run, node: u32) -> Placed
 }
 
 // The place of a node in a dimension. Refuses 1, 2, 10.
-pub fn place_of(nodes: u32, dimension: u32, node: u32) -> Placed
-    ensures { λ r. ⌜ placedAnswer r ≡ placeLookup base nodes dimension node ⌝ }
+pub fn place_for(b: Bounds, nodes: u32, dimension: u32, node: u32) -> Placed
+    ensures { λ r. ⌜ placedAnswer r ≡ placeLookup (limitsOf b) nodes dimension node ⌝ }
 {
-    let Found::Is(p) = dimension_of(nodes) else {
+    let Found::Is(p) = dimension_for(b, nodes) else {
         return Placed::Refused(1);
     };
     if nodes <= node {
@@ -180,10 +182,10 @@ fn parted_below(nodes: u32, p: u32, a: u32, b: u32) -> u32
 }
 
 // The distance of two nodes. Refuses 1, 2, 3.
-pub fn distance_of(nodes: u32, a: u32, b: u32) -> Found
-    ensures { λ r. ⌜ foundAnswer r ≡ distanceLookup base nodes a b ⌝ }
+pub fn distance_for(limits: Bounds, nodes: u32, a: u32, b: u32) -> Found
+    ensures { λ r. ⌜ foundAnswer r ≡ distanceLookup (limitsOf limits) nodes a b ⌝ }
 {
-    let Found::Is(p) = dimension_of(nodes) else {
+    let Found::Is(p) = dimension_for(limits, nodes) else {
         return Found::Refused(1);
     };
     if nodes <= a {
@@ -196,4 +198,33 @@ pub fn distance_of(nodes: u32, a: u32, b: u32) -> Found
         return Found::Refused(3);
     }
     Found::Is(parted_below(nodes, p, a, b))
+}
+
+// ---- The same with the limits of the largest build
+
+fn largest() -> Bounds
+    ensures { λ r. ⌜ limitsOf r ≡ base ⌝ }
+{
+    Bounds {
+        last: 255,
+        sends: 65535,
+    }
+}
+
+pub fn dimension_of(nodes: u32) -> Found
+    ensures { λ r. ⌜ foundAnswer r ≡ dimensionLookup base nodes ⌝ }
+{
+    dimension_for(largest(), nodes)
+}
+
+pub fn place_of(nodes: u32, dimension: u32, node: u32) -> Placed
+    ensures { λ r. ⌜ placedAnswer r ≡ placeLookup base nodes dimension node ⌝ }
+{
+    place_for(largest(), nodes, dimension, node)
+}
+
+pub fn distance_of(nodes: u32, a: u32, b: u32) -> Found
+    ensures { λ r. ⌜ foundAnswer r ≡ distanceLookup base nodes a b ⌝ }
+{
+    distance_for(largest(), nodes, a, b)
 }

@@ -1,68 +1,14 @@
--- `distance_of` answers `distanceLookup`.
+-- `distance_of` answers `distanceLookup` with the limits of the largest build.
 use borrow.Author.Needs.{needs}
-use borrow.Author.Tests.{le-leb, lt-leb, eq-eqb, ne-eqb}
-use mathlib.Core.Path.{_≡_, sym, ap, _∙_}
-use mathlib.Core.Bool.{false}
-use Rattle.base.specs.Limits.{base}
-use Rattle.base.specs.Refusal.{found}
-use Rattle.tree.specs.Tree.{dimension, distance, distanceBelow}
-use Rattle.tree.specs.Lookups.{badBoard, foundAnswer, distanceLookup}
-use Rattle.tree.proofs.Lookups.{board-good, dimension-refused, dimension-found}
+use mathlib.Core.Path.{ap, _∙_}
+use Rattle.tree.specs.Lookups.{distanceLookup}
 use Rattle.tree.proofs.distance_of.Statement.{statement}
 use Rattle.tree.proofs.distance_of.Tie as tie
 
 returns : tie.Need-returns
-unfolding distanceLookup
 returns c =
-    let d = c .before .before .dimension-of in
-    rw (dimension-refused base _ _ (sym (d .ensures) ∙ ap foundAnswer (c .enum-told .given .1)))
-
--- the board is good, and p is its dimension
-known : (c : tie.After-known-told)
-    → let nodes = c .before .before .before .before .args .nodes in
-    (badBoard base nodes ≡ false) × (c .before .p .given .0 .0 ≡ dimension nodes)
-known c =
-    let d = c .before .before .before .dimension-of in
-    dimension-found base _ _ (sym (d .ensures) ∙ ap foundAnswer (c .before .p .given .1))
-
-returns-2 : tie.Need-returns-2
-unfolding distanceLookup
-returns-2 c = rw (known (c .before) .0, le-leb _ _ (c .if1 .taken))
-
-returns-3 : tie.Need-returns-3
-unfolding distanceLookup
-returns-3 c = rw (known (c .before .before) .0, lt-leb _ _ (c .before .if1 .left), le-leb _ _ (c .if2 .taken))
-
-returns-4 : tie.Need-returns-4
-unfolding distanceLookup
-returns-4 c =
-    rw (
-      known (c .before .before .before) .0,
-      lt-leb _ _ (c .before .before .if1 .left),
-      lt-leb _ _ (c .before .if2 .left),
-      eq-eqb _ _ (c .if3 .taken),
-    )
-
-parted-below-requires : tie.Need-parted-below-requires
-parted-below-requires c κs =
-    let k = known (c .before .before .before) in
-    let g = board-good base _ (k .0) in
-    (g .0, g .1, k .1)
-
-returns-5 : tie.Need-returns-5
-unfolding distanceLookup distance
-returns-5 c =
-    let k = known (c .before .before .before .before) in
-    rw (
-      k .0,
-      lt-leb _ _ (c .before .before .before .if1 .left),
-      lt-leb _ _ (c .before .before .if2 .left),
-      ne-eqb _ _ (c .before .if3 .left),
-    )
-    (ap found (c .parted-below .ensures ∙ ap (distanceBelow _ _ _) (k .1)))
+    let a = c .before .before .args in
+    c .distance-for .ensures ∙ ap (λ L. distanceLookup L (a .nodes) (a .a) (a .b)) (c .before .largest .ensures)
 
 pub distance-of-spec : {M : Type 1} → statement M
-distance-of-spec =
-    tie.close
-    (tie.spec (λ c κs. search needs) (λ c. search needs) (λ c. search needs) returns returns-2 returns-3 returns-4
-    parted-below-requires returns-5)
+distance-of-spec = tie.close (tie.spec (λ c κs. search needs) (λ c κs. search needs) returns)
