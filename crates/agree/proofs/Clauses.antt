@@ -7,7 +7,7 @@ use lib.Dec.{eqb}
 use lib.ListN.{getD}
 use borrow.Author.Tests.{le-leb, lt-leb, eq-eqb, ne-eqb, not-true}
 use Rattle.base.specs.Choice.{choose, both}
-use Rattle.base.specs.Limits.{base}
+use Rattle.base.specs.Limits.{Limits, fieldLimit}
 use Rattle.base.proofs.Laws.{clash}
 use Rattle.node.specs.Sums.{Field, sentIn, takenIn, allSent, allTaken, number}
 use Rattle.node.specs.Agree.{isWithin, firstClauses, secondClauses, allHold, mayName}
@@ -41,9 +41,9 @@ named-fails cs c e = go (getD cs 0 true) refl e
     go true f g = one cs c (not-true (getD cs c true) g)
     go false f g = one cs 0 f
 
-module _ (p k : ℕ) (own : Field → ℕ) (x : Stored) where
+module _ (L : Limits) (p k : ℕ) (own : Field → ℕ) (x : Stored) where
   abbrev first : List Bool
-  first = firstClauses base p k own x
+  first = firstClauses L p k own x
 
   pub first-0 : x .present ≡ false → mayName first 0 ≡ true
   unfolding firstClauses
@@ -58,14 +58,14 @@ module _ (p k : ℕ) (own : Field → ℕ) (x : Stored) where
     unfolding firstClauses
     first-2 e = failing first 2 here (ne-eqb _ _ e)
 
-    pub first-3 : shellsWithin base p k own x ≡ false → mayName first 3 ≡ true
+    pub first-3 : shellsWithin L p k own x ≡ false → mayName first 3 ≡ true
     unfolding firstClauses shellWithin
     first-3 e = failing first 3 here (rw e)
 
     module _ (issued received : ℕ) (a : issued ≡ own allSent + number x allSent)
         (b : received ≡ own allTaken + number x allTaken) where
-      pub first-totals : shellsWithin base p k own x ≡ true
-          → both (isWithin base issued) (isWithin base received) ≡ false → mayName first 3 ≡ true
+      pub first-totals : shellsWithin L p k own x ≡ true
+          → both (isWithin L issued) (isWithin L received) ≡ false → mayName first 3 ≡ true
       unfolding firstClauses shellWithin
       first-totals e f = failing first 3 here (rw (e, sym a, sym b) f)
 
@@ -74,22 +74,22 @@ module _ (p k : ℕ) (own : Field → ℕ) (x : Stored) where
       first-4 e = failing first 4 here (rw (sym a, sym b) e)
 
       pub first-agrees : own (sentIn k) ≡ number x (takenIn k) → own (takenIn k) ≡ number x (sentIn k)
-          → shellsWithin base p k own x ≡ true
-          → both (isWithin base issued) (isWithin base received) ≡ true
+          → shellsWithin L p k own x ≡ true
+          → both (isWithin L issued) (isWithin L received) ≡ true
           → choose (eqb (suc k) p) (eqb issued received) true ≡ true → allHold first ≡ true
       unfolding firstClauses shellWithin
       first-agrees c d e f g = rw (here, eq-eqb _ _ c, eq-eqb _ _ d, e, sym a, sym b, f, g)
 
-module _ (p k issued agreed : ℕ) (x : Confirm) where
+module _ (L : Limits) (p k issued agreed : ℕ) (x : Confirm) where
   abbrev second : List Bool
-  second = secondClauses base p k issued agreed x
+  second = secondClauses L p k issued agreed x
 
   pub second-0 : x .present ≡ false → mayName second 0 ≡ true
   unfolding secondClauses
   second-0 e = none-stored second e
 
   module _ (here : x .present ≡ true) (sum : ℕ) (a : sum ≡ issued + x .issued .0) where
-    pub second-3 : 16776960 < sum → mayName second 3 ≡ true
+    pub second-3 : fieldLimit L < sum → mayName second 3 ≡ true
     unfolding secondClauses
     second-3 e = failing second 3 here (rw (sym a) (lt-leb _ _ e))
 
@@ -101,7 +101,7 @@ module _ (p k issued agreed : ℕ) (x : Confirm) where
     unfolding secondClauses
     second-6 e = failing second 6 here (rw (sym a) e)
 
-    pub second-agrees : sum ≤ 16776960 → x .agreed ≡ agreed → choose (eqb (suc k) p) (eqb sum agreed) true ≡ true
+    pub second-agrees : sum ≤ fieldLimit L → x .agreed ≡ agreed → choose (eqb (suc k) p) (eqb sum agreed) true ≡ true
         → allHold second ≡ true
     unfolding secondClauses
     second-agrees c d e = rw (here, sym a, le-leb _ _ c, eq-eqb _ _ d, e)

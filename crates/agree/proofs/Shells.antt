@@ -8,7 +8,7 @@ use native.Mathlib.Omega.{arith}
 use lib.ListN.{length, List·getD-eq-default}
 use borrow.Author.Tests.{le-leb}
 use Rattle.base.specs.Choice.{both, every}
-use Rattle.base.specs.Limits.{base}
+use Rattle.base.specs.Limits.{Limits, fieldLimit}
 use Rattle.base.proofs.Laws.{every-at, every-make}
 use Rattle.frame.specs.Frame.{sentAt, takenAt}
 use Rattle.frame.specs.declared.Sent.{Sent}
@@ -38,20 +38,20 @@ every-short start n f h =
     go e i a b (yes z) = h i z
     go e i a b (no z) = every-at start (min n 8 - start) f e i a (omega arith)
 
-zeros : (a b c d : ℕ) → a ≡ 0 → b ≡ 0 → c ≡ 0 → d ≡ 0 → both (isWithin base (a + b)) (isWithin base (c + d)) ≡ true
-zeros a b c d p q r s = rw (le-leb (a + b) 16776960 (omega arith), le-leb (c + d) 16776960 (omega arith))
+zeros : (L : Limits) (a b c d : ℕ) → a ≡ 0 → b ≡ 0 → c ≡ 0 → d ≡ 0 → both (isWithin L (a + b)) (isWithin L (c + d)) ≡ true
+zeros L a b c d p q r s = rw (le-leb (a + b) (fieldLimit L) (omega arith), le-leb (c + d) (fieldLimit L) (omega arith))
 
-module _ (s : Sums) (x : Stored) (a : length (s .sent) ≡ 8) (b : length (s .taken) ≡ 8) (c : length (x .sent) ≡ 8)
+module _ (L : Limits) (s : Sums) (x : Stored) (a : length (s .sent) ≡ 8) (b : length (s .taken) ≡ 8) (c : length (x .sent) ≡ 8)
     (d : length (x .taken) ≡ 8) where
-  past : (m : ℕ) → 8 ≤ m → shellWithin base (sumAt s) x m ≡ true
+  past : (m : ℕ) → 8 ≤ m → shellWithin L (sumAt s) x m ≡ true
   unfolding shellWithin
   past m l =
-      zeros (sentAt (s .sent) m) (sentAt (x .sent) m) (takenAt (s .taken) m) (takenAt (x .taken) m)
+      zeros L (sentAt (s .sent) m) (sentAt (x .sent) m) (takenAt (s .taken) m) (takenAt (x .taken) m)
       (ap (λ (y : Sent). y .0) (List·getD-eq-default (s .sent) _ {n = m} (omega arith)))
       (ap (λ (y : Sent). y .0) (List·getD-eq-default (x .sent) _ {n = m} (omega arith)))
       (ap (λ (y : Taken). y .0) (List·getD-eq-default (s .taken) _ {n = m} (omega arith)))
       (ap (λ (y : Taken). y .0) (List·getD-eq-default (x .taken) _ {n = m} (omega arith)))
 
   pub shells-short : (p k : ℕ)
-      → shellsWithin base p k (sumAt s) x ≡ every (k + 1) (min p 8 - (k + 1)) (shellWithin base (sumAt s) x)
-  shells-short p k = rw add-one (every-short (suc k) p (shellWithin base (sumAt s) x) past)
+      → shellsWithin L p k (sumAt s) x ≡ every (k + 1) (min p 8 - (k + 1)) (shellWithin L (sumAt s) x)
+  shells-short p k = rw add-one (every-short (suc k) p (shellWithin L (sumAt s) x) past)

@@ -3,11 +3,10 @@ use mathlib.Core.Path.{_≡_, refl, ap}
 use mathlib.Core.Bool.{Bool, true, false}
 use mathlib.Core.List.{[]}
 use Prim.Native.Nat.{ℕ, _≤_, _<_}
-use native.Mathlib.Omega.{arith}
 use lib.Dec.{eqb}
 use Rattle.base.specs.Choice.{choose}
 use Rattle.base.specs.Limits.{base}
-use Rattle.node.specs.Sums.{dims, firstAt, secondAt, Field, sentIn, takenIn, allSent, allTaken, own, ownIssued}
+use Rattle.node.specs.Sums.{dims, firstAt, secondAt, own, ownIssued}
 use Rattle.node.specs.Agree.{firstClauses, secondClauses, clauses}
 use Rattle.node.specs.Barrier.{frameDue}
 use Rattle.node.specs.declared.Node.{Node}
@@ -16,20 +15,15 @@ use Rattle.agree.specs.Verdict.{sumAt}
 use Rattle.survey.specs.Survey.{sumsOf}
 use Rattle.survey.proofs.Known.{Known}
 use Rattle.survey.proofs.Walks.{sum-at}
-use Rattle.survey.proofs.Steps.{Below, clauses-same}
+use Rattle.survey.proofs.Steps.{below-has, clauses-same}
 use Rattle.survey.specs.declared.Survey.{Survey}
 use Rattle.barrier.specs.Pieces.{within, frameOf, clausesOf}
 
 -- the clauses read the sums of the shells that there are, and the survey holds these
 sums-first : (n : Node) (p k : ℕ) (x : Stored) → k < p → p ≤ 8
     → firstClauses base p k (sumAt (sumsOf n k)) x ≡ firstClauses base p k (own n k) x
-sums-first n p k x a b = clauses-same p k (sumAt (sumsOf n k)) (own n k) x a same
-  where
-    same : (f : Field) → Below p f → sumAt (sumsOf n k) f ≡ own n k f
-    same (sentIn m) h = sum-at n k (sentIn m) (omega arith)
-    same (takenIn m) h = sum-at n k (takenIn m) (omega arith)
-    same allSent h = sum-at n k allSent tt
-    same allTaken h = sum-at n k allTaken tt
+sums-first n p k x a b =
+    clauses-same base p k (sumAt (sumsOf n k)) (own n k) x a (λ f h. sum-at n k f (below-has p b f h))
 
 module _ (n : Node) (s : Survey) (t : Known base n s) (few : dims n ≤ 8) where
   -- ---- the frame due

@@ -1,4 +1,4 @@
--- What the code's tests say of the state: where one fails there is no survey, where all hold it is the one found.
+-- What the code's tests say of the state: where one fails it does not pass the test, where all hold it does.
 use mathlib.Core.Path.{_≡_, sym, ap, _∙_}
 use mathlib.Core.Bool.{Bool, true, false, not}
 use Prim.Native.Nat.{ℕ, suc, _+_, _-_, _≤_, _<_}
@@ -8,37 +8,37 @@ use lib.Dec.{ltb, leb, eqb}
 use lib.ListN.{length}
 use borrow.Author.Tests.{leb-true, eq-eqb, ne-eqb, not-true}
 use Rattle.base.specs.Choice.{choose, both, every}
-use Rattle.base.specs.Limits.{base}
+use Rattle.base.specs.Limits.{Limits, Fits, takenLimit}
 use Rattle.base.proofs.Laws.{choose-yes, choose-no, both-true, both-make}
 use Rattle.tree.specs.Lookups.{badBoard}
 use Rattle.frame.specs.Frame.{sentAt, takenAt}
 use Rattle.node.specs.Sums.{dims, firstAt, secondAt, allTaken, total, own, ownIssued}
-use Rattle.node.specs.State.{boardOk, positionOk, talliesOk, totalOk, firstOk, secondOk, busyOk}
+use Rattle.node.specs.State.{boardOk, positionOk, talliesOk, totalOk, firstOk, secondOk, busyOk, valid}
 use Rattle.node.specs.declared.Node.{Node}
 use Rattle.agree.specs.Verdict.{sumAt}
 use Rattle.steps.specs.Step.{stepTest}
 use Rattle.steps.specs.declared.Spot.{Spot}
-use Rattle.survey.specs.Survey.{sumsOf, noSurvey, surveyed}
+use Rattle.survey.specs.Survey.{sumsOf, surveyed}
 use Rattle.survey.specs.Walk.{positionTest, busyTest, headTest, spareZero, talliesTest, totalTest, surveyWith}
 use Rattle.survey.specs.Walk.{walkOf, addWalk, startOf, RoomFor, fits}
 use Rattle.survey.specs.declared.Walk.{Walk}
-use Rattle.survey.proofs.Valid.{not-both, refused, passed}
-use Rattle.survey.proofs.Sums.{own-end}
-use Rattle.survey.proofs.Walks.{walk-start, room, issued-room, walk-more}
-use Rattle.survey.proofs.Steps.{spotOf, few}
+use Rattle.survey.proofs.Valid.{whole-valid, not-both, invalid, passed}
+use Rattle.survey.proofs.Sums.{own-end, issued-room}
+use Rattle.survey.proofs.Walks.{sum-at, walk-start, room, walk-more}
+use Rattle.survey.proofs.Steps.{spotOf, below-has, step-same, few}
 use Rattle.survey.proofs.Tested.{stepAt, whole-step, step-first, steps-whole}
 
 -- ---- the head of the state
 
-pub bad-board : (n : Node) → badBoard base (n .nodes) ≡ true → noSurvey ≡ surveyed base n
+pub bad-board : (L : Limits) (n : Node) → badBoard L (n .nodes) ≡ true → valid L n ≡ false
 unfolding boardOk
-bad-board n e =
-    refused n
+bad-board L n e =
+    invalid L n
     (λ w.
-    let q = both-true (not (badBoard base (n .nodes))) (ltb (n .number) (n .nodes)) (w .board) in
+    let q = both-true (not (badBoard L (n .nodes))) (ltb (n .number) (n .nodes)) (w .board) in
     not-both e (not-true _ (q .0)))
 
-module _ (n : Node) (p : ℕ) (good : badBoard base (n .nodes) ≡ false) (e : p ≡ dims n) where
+module _ (L : Limits) (n : Node) (p : ℕ) (good : badBoard L (n .nodes) ≡ false) (e : p ≡ dims n) where
   abbrev position : Bool
   position = positionTest p (n .pass) (n .dim)
 
@@ -52,15 +52,15 @@ module _ (n : Node) (p : ℕ) (good : badBoard base (n .nodes) ≡ false) (e : p
   unfolding positionOk
   position-is = rw e
 
-  pub bad-head : head ≡ false → noSurvey ≡ surveyed base n
+  pub bad-head : head ≡ false → valid L n ≡ false
   unfolding boardOk busyOk
   bad-head f =
-      refused n
+      invalid L n
       (λ w.
-      let q = both-true (not (badBoard base (n .nodes))) (ltb (n .number) (n .nodes)) (w .board) in
+      let q = both-true (not (badBoard L (n .nodes))) (ltb (n .number) (n .nodes)) (w .board) in
       not-both (both-make (q .1) (both-make (position-is ∙ w .position) (w .busy))) f)
 
-  pub good-head : head ≡ true → (boardOk base n ≡ true) × (positionOk n ≡ true) × (busyOk n ≡ true)
+  pub good-head : head ≡ true → (boardOk L n ≡ true) × (positionOk n ≡ true) × (busyOk n ≡ true)
   unfolding boardOk busyOk
   good-head f =
       let q = both-true (ltb (n .number) (n .nodes)) (both position busy) f in
@@ -71,23 +71,23 @@ module _ (n : Node) (p : ℕ) (good : badBoard base (n .nodes) ≡ false) (e : p
 
   module _ (sends takes : ℕ) (a : sends ≡ total (sentAt (n .sent)) p) (b : takes ≡ total (takenAt (n .taken)) p) where
     abbrev tallies : Bool
-    tallies = talliesTest base p sends takes (n .sent) (n .taken)
+    tallies = talliesTest L p sends takes (n .sent) (n .taken)
 
-    tallies-is : tallies ≡ talliesOk base n
+    tallies-is : tallies ≡ talliesOk L n
     unfolding talliesOk
     tallies-is = rw (a, b, e)
 
-    pub bad-tallies : tallies ≡ false → noSurvey ≡ surveyed base n
-    bad-tallies f = refused n (λ w. not-both (tallies-is ∙ w .tallies) f)
+    pub bad-tallies : tallies ≡ false → valid L n ≡ false
+    bad-tallies f = invalid L n (λ w. not-both (tallies-is ∙ w .tallies) f)
 
-    pub good-tallies : tallies ≡ true → talliesOk base n ≡ true
+    pub good-tallies : tallies ≡ true → talliesOk L n ≡ true
     good-tallies f = sym tallies-is ∙ f
 
-    pub small : tallies ≡ true → (sends ≤ 65535) × (takes ≤ 16711425)
+    pub small : tallies ≡ true → (sends ≤ L .sends) × (takes ≤ takenLimit L)
     small f =
         let z = every p (8 - p) (spareZero (n .sent) (n .taken)) in
-        let q = both-true (both (leb sends 65535) (leb takes 16711425)) z f in
-        let r = both-true (leb sends 65535) (leb takes 16711425) (q .0) in
+        let q = both-true (both (leb sends (L .sends)) (leb takes (takenLimit L))) z f in
+        let r = both-true (leb sends (L .sends)) (leb takes (takenLimit L)) (q .0) in
         (leb-true _ _ (r .0), leb-true _ _ (r .1))
 
 -- ---- the walk
@@ -98,15 +98,16 @@ pub start-is : (n : Node) (p sends takes : ℕ) (w : Walk) → p ≡ dims n → 
 start-is n p sends takes w e a b f c d = f ∙ rw (a, b, e) (walk-start n c d)
 
 -- the walk has room for dimension k
-pub room-is : (n : Node) (k : ℕ) → k < 8 → talliesOk base n ≡ true → ((j : ℕ) → j < suc k → firstOk base n j ≡ true)
-    → ((j : ℕ) → j < suc k → secondOk base n j ≡ true) → (w : Walk) → w ≡ walkOf n k
-    → (RoomFor (w .sums) (firstAt n k)) × (fits (w .issued .0 + secondAt n k .issued .0))
-room-is n k l ok first second w e = rw e (room n k l ok first, issued-room n k l ok second)
+pub room-is : (L : Limits) → Fits L → (n : Node) (k : ℕ) → k < 8 → talliesOk L n ≡ true
+    → ((j : ℕ) → j < suc k → firstOk L n j ≡ true) → ((j : ℕ) → j < suc k → secondOk L n j ≡ true) → (w : Walk)
+    → w ≡ walkOf n k → (RoomFor (w .sums) (firstAt n k)) × (fits (w .issued .0 + secondAt n k .issued .0))
+room-is L fit n k l ok first second w e =
+    rw e (room L fit n k l ok first, issued-room L fit n ok k l second)
 
 -- and goes on with it
-pub more-is : (n : Node) (k : ℕ) → firstOk base n k ≡ true → secondOk base n k ≡ true → (w v : Walk) → w ≡ walkOf n k
+pub more-is : (L : Limits) (n : Node) (k : ℕ) → firstOk L n k ≡ true → secondOk L n k ≡ true → (w v : Walk) → w ≡ walkOf n k
     → v ≡ addWalk w (firstAt n k) (secondAt n k) → v ≡ walkOf n (k + 1)
-more-is n k a b w v e f = f ∙ rw e (walk-more n k a b)
+more-is L n k a b w v e f = f ∙ rw e (walk-more L n k a b)
 
 -- the sums for the position, once the walk has passed it
 pub held-is : (n : Node) (k : ℕ) (w here v : Walk) → w ≡ walkOf n k → (n .dim < k → here ≡ walkOf n (n .dim))
@@ -119,35 +120,48 @@ held-is n k w here v e f g l = g ∙ go (ℕ-discrete k (n .dim))
 
 -- ---- the steps
 
-pub step-by : (n : Node) (k : ℕ) (s : Spot) (w : Walk) → s ≡ spotOf n → w ≡ walkOf n k
-    → stepTest base s k (sumAt (w .sums)) (w .issued .0) (firstAt n k) (secondAt n k) ≡ stepAt n k
-step-by n k s w a b =
-    ap (λ (v : Walk). stepTest base s k (sumAt (v .sums)) (v .issued .0) (firstAt n k) (secondAt n k)) b
-    ∙ ap (λ (t : Spot). stepTest base t k (sumAt (sumsOf n k)) (ownIssued n k) (firstAt n k) (secondAt n k)) a
+pub step-by : (L : Limits) → Fits L → (n : Node) → boardOk L n ≡ true → (k : ℕ) (s : Spot) (w : Walk) → s ≡ spotOf L n
+    → w ≡ walkOf n k
+    → stepTest L s k (sumAt (w .sums)) (w .issued .0) (firstAt n k) (secondAt n k) ≡ stepAt L n k
+step-by L fit n board k s w a b =
+    ap (λ (v : Walk). stepTest L s k (sumAt (v .sums)) (v .issued .0) (firstAt n k) (secondAt n k)) b
+    ∙ ap (λ (t : Spot). stepTest L t k (sumAt (sumsOf n k)) (ownIssued n k) (firstAt n k) (secondAt n k)) a
+    ∙ step-same L (spotOf L n) k (sumAt (sumsOf n k)) (own n k) (ownIssued n k) (firstAt n k) (secondAt n k)
+    (λ h c. sum-at n k h (below-has (dims n) (few L fit n board) h c))
 
-module _ (n : Node) (board : boardOk base n ≡ true) (position : positionOk n ≡ true) where
-  pub bad-step : (k : ℕ) → k < 8 → stepAt n k ≡ false → noSurvey ≡ surveyed base n
-  bad-step k l f = refused n (λ w. not-both (whole-step n board position k l w) f)
+pub bad-step : (L : Limits) (n : Node) → boardOk L n ≡ true → (k : ℕ) → k < 8 → stepAt L n k ≡ false
+    → valid L n ≡ false
+bad-step L n board k l f = invalid L n (λ w. not-both (whole-step L n board k l w) f)
 
-  -- ---- T
+-- ---- T
 
-  module _ (steps : (k : ℕ) → k < 8 → stepAt n k ≡ true) (w : Walk) (e : w ≡ walkOf n 8) where
-    all : w .sums .received .0 ≡ own n (dims n) allTaken
-    unfolding sumsOf
-    all =
-        ap (λ (v : Walk). v .sums .received .0) e
-        ∙ own-end n 8 (λ j l. step-first n board position j (steps j l)) (few n board position) allTaken
+module _ (L : Limits) (n : Node) (received : ℕ) (e : received ≡ own n (dims n) allTaken) where
+  abbrev agreed : Bool
+  agreed = totalTest L (n .pass) (n .agreed) received
 
-    total-is : totalTest base (n .pass) (n .agreed) (w .sums .received .0) ≡ totalOk base n
-    unfolding totalOk
-    total-is = ap (totalTest base (n .pass) (n .agreed)) all
+  total-is : agreed ≡ totalOk L n
+  unfolding totalOk
+  total-is = ap (totalTest L (n .pass) (n .agreed)) e
 
-    pub bad-total : totalTest base (n .pass) (n .agreed) (w .sums .received .0) ≡ false → noSurvey ≡ surveyed base n
-    bad-total f = refused n (λ v. not-both (total-is ∙ v .total) f)
+  pub bad-total : agreed ≡ false → valid L n ≡ false
+  bad-total f = invalid L n (λ v. not-both (total-is ∙ v .total) f)
 
-    pub found : (tallies : talliesOk base n ≡ true) (busy : busyOk n ≡ true)
-        → totalTest base (n .pass) (n .agreed) (w .sums .received .0) ≡ true → (p : ℕ) (start here : Walk) → p ≡ dims n
-        → start ≡ walkOf n 0 → here ≡ walkOf n (n .dim)
-        → surveyWith p start here (w .sums .received .0) ≡ surveyed base n
-    found tallies busy f p start here a b c =
-        rw (a, b, c, all) (passed n (steps-whole n board position tallies (sym total-is ∙ f) busy steps))
+  pub good-total : agreed ≡ true → totalOk L n ≡ true
+  good-total f = sym total-is ∙ f
+
+module _ (L : Limits) (fit : Fits L) (n : Node) (board : boardOk L n ≡ true)
+    (steps : (k : ℕ) → k < 8 → stepAt L n k ≡ true) where
+  -- the sum of all dimensions
+  pub all-taken : own n 8 allTaken ≡ own n (dims n) allTaken
+  all-taken = own-end L n 8 (λ j l. step-first L n board j (steps j l)) (few L fit n board) allTaken
+
+  pub found : positionOk n ≡ true → talliesOk L n ≡ true → totalOk L n ≡ true → busyOk n ≡ true → valid L n ≡ true
+  found position tallies total busy =
+      whole-valid L n (steps-whole L fit n board position tallies total busy steps)
+
+-- ---- the survey of a state that passes
+
+pub found-survey : (L : Limits) (n : Node) → valid L n ≡ true → (p : ℕ) (start here : Walk) (received : ℕ) → p ≡ dims n
+    → start ≡ walkOf n 0 → here ≡ walkOf n (n .dim) → received ≡ own n (dims n) allTaken
+    → surveyWith p start here received ≡ surveyed L n
+found-survey L n v p start here received a b c d = rw (a, b, c, d) (passed L n v)

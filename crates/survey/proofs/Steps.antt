@@ -9,7 +9,7 @@ use native.Mathlib.Omega.{arith}
 use lib.Dec.{ltb, eqb}
 use borrow.Author.Tests.{lt-ltb, le-ltb, lt-leb, eq-eqb, ne-eqb, ltb-true, eqb-true, not-true}
 use Rattle.base.specs.Choice.{choose, both, either, every}
-use Rattle.base.specs.Limits.{base}
+use Rattle.base.specs.Limits.{Limits, Fits}
 use Rattle.base.proofs.Laws.{clash, both-true, both-make, every-at, every-make}
 use Rattle.tree.specs.Tree.{dimension, Place, alone, hermit, neighbour, messenger, awaits, place, awaited}
 use Rattle.tree.specs.Lookups.{badBoard, placeLookup}
@@ -18,17 +18,19 @@ use Rattle.tree.proofs.Lookups.{board-good}
 use Rattle.tree.proofs.Halves.{alone-lowest}
 use Rattle.node.specs.Sums.{dims, Field, sentIn, takenIn, allSent, allTaken, number}
 use Rattle.node.specs.declared.Stored.{Stored}
+use Rattle.node.specs.declared.Confirm.{Confirm}
 use Rattle.node.specs.Agree.{isNone, isAlone, firstClauses, agrees}
 use Rattle.node.specs.State.{boardOk, positionOk, passedOk, awaitsFrame}
 use Rattle.node.specs.declared.Node.{Node}
 use Rattle.agree.specs.Parts.{shellWithin, shellsWithin}
-use Rattle.steps.specs.Step.{awaitsAt, firstPast, secondPast}
+use Rattle.steps.specs.Step.{firstTest, secondTest, awaitsAt, firstPast, secondPast, firstHeld, secondHeld, stepTest}
 use Rattle.steps.specs.declared.Spot.{Spot}
+use Rattle.steps.proofs.Stored.{Has}
 use Rattle.survey.specs.Walk.{loneAnswer, lone, spotAt}
 use Rattle.survey.proofs.Lists.{every-same}
 
-abbrev pub spotOf : Node → Spot
-spotOf n = spotAt (dims n) (n .nodes) (n .number) (n .pass) (n .dim) (n .agreed)
+abbrev pub spotOf : Limits → Node → Spot
+spotOf L n = spotAt L (dims n) (n .nodes) (n .number) (n .pass) (n .dim) (n .agreed)
 
 -- the fields of a board of so many dimensions
 abbrev pub Below : ℕ → Field → Type 0
@@ -36,6 +38,13 @@ Below p (sentIn m) = m < p
 Below p (takenIn m) = m < p
 Below p allSent = Unit
 Below p allTaken = Unit
+
+-- such a board's fields have room in a state
+pub below-has : (p : ℕ) → p ≤ 8 → (f : Field) → Below p f → Has f
+below-has p l (sentIn m) h = omega arith
+below-has p l (takenIn m) h = omega arith
+below-has p l allSent h = tt
+below-has p l allTaken h = tt
 
 -- ---- whom a node awaits
 
@@ -45,7 +54,7 @@ lone-place (hermit next) = refl
 lone-place (neighbour b) = refl
 lone-place (messenger b h) = refl
 
-module _ (P a : ℕ) (good : badBoard base P ≡ false) (on : a < P) where
+module _ (L : Limits) (P a : ℕ) (good : badBoard L P ≡ false) (on : a < P) where
   some-dimension : 0 < dimension P → 2 ≤ P
   some-dimension h = go (decLe P 1)
     where
@@ -53,58 +62,78 @@ module _ (P a : ℕ) (good : badBoard base P ≡ false) (on : a < P) where
       go (yes l) = absurd (omega (arith, smallest P 0 l))
       go (no l) = omega arith
 
-  lone-first : 0 < dimension P → lone P a ≡ isNone (awaited P 0 a)
+  lone-first : 0 < dimension P → lone L P a ≡ isNone (awaited P 0 a)
   unfolding lone placeLookup awaited
   lone-first h = rw (good, lt-leb P a on, lt-leb (dimension P) 0 h) (lone-place (place P 0 a))
 
-  alone-by : (k : ℕ) → k < dimension P → both (eqb k 0) (lone P a) ≡ isNone (awaited P k a)
+  alone-by : (k : ℕ) → k < dimension P → both (eqb k 0) (lone L P a) ≡ isNone (awaited P k a)
   alone-by k l = go (ℕ-discrete k 0)
     where
       some-one : (w : Option ℕ) → awaited P k a ≡ w → (k ≡ 0 → ⊥) → false ≡ isNone w
       some-one none e n = absurd (n (alone-lowest P k a l on (some-dimension (omega arith)) e))
       some-one (some w) e n = refl
 
-      go : Dec (k ≡ 0) → both (eqb k 0) (lone P a) ≡ isNone (awaited P k a)
+      go : Dec (k ≡ 0) → both (eqb k 0) (lone L P a) ≡ isNone (awaited P k a)
       go (yes e) = rw (eq-eqb k 0 e) (lone-first (omega arith) ∙ ap (λ j. isNone (awaited P j a)) (sym e))
       go (no e) = rw (ne-eqb k 0 e) (some-one (awaited P k a) refl e)
 
-pub awaits-same : (n : Node) (k : ℕ) → boardOk base n ≡ true → awaitsAt (spotOf n) k ≡ awaitsFrame n k
+pub awaits-same : (L : Limits) (n : Node) (k : ℕ) → boardOk L n ≡ true → awaitsAt (spotOf L n) k ≡ awaitsFrame n k
 unfolding awaitsAt boardOk
-awaits-same n k ok = go (decLe (dims n) k)
+awaits-same L n k ok = go (decLe (dims n) k)
   where
     go : Dec (dims n ≤ k)
-        → both (ltb k (dims n)) (not (both (eqb k 0) (lone (n .nodes) (n .number))))
+        → both (ltb k (dims n)) (not (both (eqb k 0) (lone L (n .nodes) (n .number))))
         ≡ both (ltb k (dims n)) (not (isAlone n k))
     go (yes l) = rw (le-ltb k (dims n) l)
     go (no l) =
-        let q = both-true (not (badBoard base (n .nodes))) (ltb (n .number) (n .nodes)) ok in
+        let q = both-true (not (badBoard L (n .nodes))) (ltb (n .number) (n .nodes)) ok in
         rw (lt-ltb k (dims n) (omega arith))
         (ap not
-        (alone-by (n .nodes) (n .number) (not-true _ (q .0)) (ltb-true _ _ (q .1)) k (omega arith)))
+        (alone-by L (n .nodes) (n .number) (not-true _ (q .0)) (ltb-true _ _ (q .1)) k (omega arith)))
 
--- ---- the clauses read the sums of shells that there are
+-- ---- the clauses and the test read the sums of shells that there are
 
-module _ (p k : ℕ) (f g : Field → ℕ) (x : Stored) (l : k < p) (same : (h : Field) → Below p h → f h ≡ g h) where
-  shells-same : shellsWithin base p k f x ≡ shellsWithin base p k g x
+module _ (L : Limits) (p k : ℕ) (f g : Field → ℕ) (x : Stored) (l : k < p)
+    (same : (h : Field) → Below p h → f h ≡ g h) where
+  shells-same : shellsWithin L p k f x ≡ shellsWithin L p k g x
   unfolding shellWithin
   shells-same =
-      every-same (suc k) (p - suc k) (shellWithin base f x) (shellWithin base g x)
+      every-same (suc k) (p - suc k) (shellWithin L f x) (shellWithin L g x)
       (λ m a b. rw (same (sentIn m) (omega arith), same (takenIn m) (omega arith)))
 
-  pub clauses-same : firstClauses base p k f x ≡ firstClauses base p k g x
+  pub clauses-same : firstClauses L p k f x ≡ firstClauses L p k g x
   unfolding firstClauses shellWithin
   clauses-same =
       rw (same (sentIn k) l, same (takenIn k) l, same allSent tt, same allTaken tt, shells-same)
 
--- ---- what the state test says of a step, and what the steps say of it
+module _ (L : Limits) (s : Spot) (k : ℕ) (f g : Field → ℕ) (issued : ℕ) (x : Stored) (y : Confirm)
+    (same : (h : Field) → Below (s .dims) h → f h ≡ g h) where
+  abbrev held : (Field → ℕ) → Bool
+  held own = either (not (awaitsAt s k)) (both (firstHeld L s k own x) (secondHeld L s k issued y))
 
-module _ (n : Node) (board : boardOk base n ≡ true) (position : positionOk n ≡ true) where
-  pub few : dims n ≤ 8
-  unfolding boardOk
-  few =
-      let q = both-true (not (badBoard base (n .nodes))) (ltb (n .number) (n .nodes)) board in
-      smallest (n .nodes) 8 (board-good base (n .nodes) (not-true _ (q .0)) .1)
+  held-same : held f ≡ held g
+  unfolding awaitsAt firstHeld
+  held-same = go (decLe (s .dims) k)
+    where
+      go : Dec (s .dims ≤ k) → held f ≡ held g
+      go (yes l) = rw (le-ltb k (s .dims) l)
+      go (no l) = rw (clauses-same L (s .dims) k f g x (omega arith) same)
 
+  pub step-same : stepTest L s k f issued x y ≡ stepTest L s k g issued x y
+  unfolding stepTest
+  step-same =
+      ap (λ t. both (firstTest L (awaitsAt s k) (s .dims) k x) (both (secondTest L (awaitsAt s k) y) t)) held-same
+
+-- ---- the board and the position
+
+pub few : (L : Limits) → Fits L → (n : Node) → boardOk L n ≡ true → dims n ≤ 8
+unfolding boardOk
+few L fit n board =
+    let q = both-true (not (badBoard L (n .nodes))) (ltb (n .number) (n .nodes)) board in
+    let b = board-good L (n .nodes) (not-true _ (q .0)) in
+    smallest (n .nodes) 8 (omega (arith, b .1, fit .nodes))
+
+module _ (n : Node) (position : positionOk n ≡ true) where
   -- the position is below p, or 0
   here : (n .dim < dims n) ⊎ (n .dim ≡ 0)
   unfolding positionOk
@@ -119,58 +148,63 @@ module _ (n : Node) (board : boardOk base n ≡ true) (position : positionOk n �
       go false e =
           inl (ltb-true _ _ (both-true (either (eqb (n .pass) 1) (eqb (n .pass) 2)) (ltb (n .dim) (dims n)) e .1))
 
-  pub low : n .dim < 8
-  low = ⊎-elim (λ l. omega (arith, few)) (λ e. omega arith) here
-
   before : (k : ℕ) → k < n .dim → k < dims n
   before k h = ⊎-elim (λ l. omega arith) (λ e. absurd (omega arith)) here
 
+pub low : (L : Limits) → Fits L → (n : Node) → boardOk L n ≡ true → positionOk n ≡ true → n .dim < 8
+low L fit n board position =
+    ⊎-elim (λ l. omega (arith, few L fit n board)) (λ e. omega arith) (here n position)
+
+-- ---- what the state test says of a step, and what the steps say of it
+
+module _ (L : Limits) (n : Node) where
   -- a step before the position, in either pass
-  pub passed-first : (k : ℕ) → k < dims n → passedOk base n ≡ true → firstPast (spotOf n) k ≡ true
-      → agrees base n 1 k ≡ true
+  pub passed-first : (k : ℕ) → k < dims n → passedOk L n ≡ true → firstPast (spotOf L n) k ≡ true
+      → agrees L n 1 k ≡ true
   unfolding passedOk
   passed-first k l ok = go (eqb (n .pass) 1) ok
     where
       go : (t : Bool)
-          → choose t (every 0 (n .dim) (agrees base n 1))
-          (both (every 0 (dims n) (agrees base n 1)) (every 0 (n .dim) (agrees base n 2)))
+          → choose t (every 0 (n .dim) (agrees L n 1))
+          (both (every 0 (dims n) (agrees L n 1)) (every 0 (n .dim) (agrees L n 2)))
           ≡ true
-          → either (not t) (ltb k (n .dim)) ≡ true → agrees base n 1 k ≡ true
-      go true e h = every-at 0 (n .dim) (agrees base n 1) e k (omega arith) (omega (arith, ltb-true k (n .dim) h))
+          → either (not t) (ltb k (n .dim)) ≡ true → agrees L n 1 k ≡ true
+      go true e h = every-at 0 (n .dim) (agrees L n 1) e k (omega arith) (omega (arith, ltb-true k (n .dim) h))
       go false e h =
-          every-at 0 (dims n) (agrees base n 1)
-          (both-true (every 0 (dims n) (agrees base n 1)) (every 0 (n .dim) (agrees base n 2)) e .0) k (omega arith)
+          every-at 0 (dims n) (agrees L n 1)
+          (both-true (every 0 (dims n) (agrees L n 1)) (every 0 (n .dim) (agrees L n 2)) e .0) k (omega arith)
           (omega arith)
 
-  pub passed-second : (k : ℕ) → passedOk base n ≡ true → secondPast (spotOf n) k ≡ true → agrees base n 2 k ≡ true
+  pub passed-second : (k : ℕ) → passedOk L n ≡ true → secondPast (spotOf L n) k ≡ true → agrees L n 2 k ≡ true
   unfolding passedOk
   passed-second k ok = go (eqb (n .pass) 1) ok
     where
       go : (t : Bool)
-          → choose t (every 0 (n .dim) (agrees base n 1))
-          (both (every 0 (dims n) (agrees base n 1)) (every 0 (n .dim) (agrees base n 2)))
+          → choose t (every 0 (n .dim) (agrees L n 1))
+          (both (every 0 (dims n) (agrees L n 1)) (every 0 (n .dim) (agrees L n 2)))
           ≡ true
-          → both (not t) (ltb k (n .dim)) ≡ true → agrees base n 2 k ≡ true
+          → both (not t) (ltb k (n .dim)) ≡ true → agrees L n 2 k ≡ true
       go true e h = clash (sym h)
       go false e h =
-          every-at 0 (n .dim) (agrees base n 2)
-          (both-true (every 0 (dims n) (agrees base n 1)) (every 0 (n .dim) (agrees base n 2)) e .1) k (omega arith)
+          every-at 0 (n .dim) (agrees L n 2)
+          (both-true (every 0 (dims n) (agrees L n 1)) (every 0 (n .dim) (agrees L n 2)) e .1) k (omega arith)
           (omega (arith, ltb-true k (n .dim) h))
 
-  pub all-passed : ((k : ℕ) → k < dims n → firstPast (spotOf n) k ≡ true → agrees base n 1 k ≡ true)
-      → ((k : ℕ) → k < dims n → secondPast (spotOf n) k ≡ true → agrees base n 2 k ≡ true) → passedOk base n ≡ true
+  pub all-passed : positionOk n ≡ true
+      → ((k : ℕ) → k < dims n → firstPast (spotOf L n) k ≡ true → agrees L n 1 k ≡ true)
+      → ((k : ℕ) → k < dims n → secondPast (spotOf L n) k ≡ true → agrees L n 2 k ≡ true) → passedOk L n ≡ true
   unfolding passedOk
-  all-passed = go (eqb (n .pass) 1)
+  all-passed position = go (eqb (n .pass) 1)
     where
-      go : (t : Bool) → ((k : ℕ) → k < dims n → either (not t) (ltb k (n .dim)) ≡ true → agrees base n 1 k ≡ true)
-          → ((k : ℕ) → k < dims n → both (not t) (ltb k (n .dim)) ≡ true → agrees base n 2 k ≡ true)
-          → choose t (every 0 (n .dim) (agrees base n 1))
-          (both (every 0 (dims n) (agrees base n 1)) (every 0 (n .dim) (agrees base n 2)))
+      go : (t : Bool) → ((k : ℕ) → k < dims n → either (not t) (ltb k (n .dim)) ≡ true → agrees L n 1 k ≡ true)
+          → ((k : ℕ) → k < dims n → both (not t) (ltb k (n .dim)) ≡ true → agrees L n 2 k ≡ true)
+          → choose t (every 0 (n .dim) (agrees L n 1))
+          (both (every 0 (dims n) (agrees L n 1)) (every 0 (n .dim) (agrees L n 2)))
           ≡ true
       go true a b =
-          every-make 0 (n .dim) (agrees base n 1)
-          (λ k i j. a k (before k (omega arith)) (lt-ltb k (n .dim) (omega arith)))
+          every-make 0 (n .dim) (agrees L n 1)
+          (λ k i j. a k (before n position k (omega arith)) (lt-ltb k (n .dim) (omega arith)))
       go false a b =
-          both-make (every-make 0 (dims n) (agrees base n 1) (λ k i j. a k (omega arith) refl))
-          (every-make 0 (n .dim) (agrees base n 2)
-          (λ k i j. b k (before k (omega arith)) (lt-ltb k (n .dim) (omega arith))))
+          both-make (every-make 0 (dims n) (agrees L n 1) (λ k i j. a k (omega arith) refl))
+          (every-make 0 (n .dim) (agrees L n 2)
+          (λ k i j. b k (before n position k (omega arith)) (lt-ltb k (n .dim) (omega arith))))

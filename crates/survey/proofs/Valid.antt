@@ -2,7 +2,7 @@
 use mathlib.Core.Path.{_≡_, refl, sym, _∙_}
 use mathlib.Core.Bool.{Bool, true, false}
 use Rattle.base.specs.Choice.{every}
-use Rattle.base.specs.Limits.{Limits, base, width}
+use Rattle.base.specs.Limits.{Limits, width}
 use Rattle.base.proofs.Laws.{clash, choose-yes, choose-no, both-true, both-make}
 use Rattle.node.specs.State.{boardOk, positionOk, talliesOk, totalOk, firstOk, secondOk, passedOk, busyOk, valid}
 use Rattle.node.specs.Sums.{dims, allTaken, own, ownIssued}
@@ -60,11 +60,14 @@ fails false f = refl
 pub not-both : {A : Type 0} {t : Bool} → t ≡ true → t ≡ false → A
 not-both e f = clash (sym e ∙ f)
 
-pub refused : (n : Node) → (Whole base n → ⊥) → noSurvey ≡ surveyed base n
-unfolding surveyed
-refused n f = sym (choose-no _ _ (fails _ (λ e. f (whole base n e))))
+pub invalid : (L : Limits) (n : Node) → (Whole L n → ⊥) → valid L n ≡ false
+invalid L n f = fails _ (λ e. f (whole L n e))
 
-pub passed : (n : Node) → Whole base n
-    → surveyWith (dims n) (walkOf n 0) (walkOf n (n .dim)) (own n (dims n) allTaken) ≡ surveyed base n
+pub refused : (L : Limits) (n : Node) → valid L n ≡ false → noSurvey ≡ surveyed L n
+unfolding surveyed
+refused L n e = sym (choose-no _ _ e)
+
+pub passed : (L : Limits) (n : Node) → valid L n ≡ true
+    → surveyWith (dims n) (walkOf n 0) (walkOf n (n .dim)) (own n (dims n) allTaken) ≡ surveyed L n
 unfolding surveyed sumsOf own ownIssued
-passed n w = sym (choose-yes _ _ (whole-valid base n w))
+passed L n e = sym (choose-yes _ _ e)

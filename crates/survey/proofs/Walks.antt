@@ -6,7 +6,7 @@ use native.Mathlib.Nat.{zero-add}
 use native.Mathlib.Numerals.{add-one}
 use native.Mathlib.Omega.{arith}
 use lib.ListN.{length, getD}
-use Rattle.base.specs.Limits.{base}
+use Rattle.base.specs.Limits.{Limits, Fits}
 use Rattle.base.proofs.Laws.{list-same}
 use Rattle.frame.specs.Frame.{sentNumber, takenNumber, sentAt, takenAt}
 use Rattle.frame.specs.declared.Sent.{Sent}
@@ -19,7 +19,7 @@ use Rattle.steps.proofs.Stored.{Has}
 use Rattle.survey.specs.Survey.{sumsOf}
 use Rattle.survey.specs.Walk.{walkOf, addSent, addTaken, addWalk, startOf, RoomFor, fits}
 use Rattle.survey.proofs.Lists.{list-at, list-whole}
-use Rattle.survey.proofs.Sums.{stored-low, own-more, own-low, issued-low, issued-more, confirm-low}
+use Rattle.survey.proofs.Sums.{own-more, issued-more, own-room}
 
 -- a sum that the walk holds
 pub sum-at : (n : Node) (k : ℕ) (f : Field) → Has f → sumAt (sumsOf n k) f ≡ own n k f
@@ -33,16 +33,16 @@ sum-at n k (takenIn m) h =
 sum-at n k allSent h = refl
 sum-at n k allTaken h = refl
 
-module _ (n : Node) (k : ℕ) (one : firstOk base n k ≡ true) (two : secondOk base n k ≡ true) where
+module _ (L : Limits) (n : Node) (k : ℕ) (one : firstOk L n k ≡ true) (two : secondOk L n k ≡ true) where
   -- a sum with the frame's number added
   more : (f : Field) → Has f → sumAt (sumsOf n k) f + number (firstAt n k) f ≡ own n (k + 1) f
   more f h =
       ap (λ x. x + number (firstAt n k) f) (sum-at n k f h)
-      ∙ sym (own-more n k one f h)
+      ∙ sym (own-more L n k one f h)
       ∙ ap (λ j. own n j f) (sym (add-one k))
 
   confirmed : ownIssued n k + secondAt n k .issued .0 ≡ ownIssued n (k + 1)
-  confirmed = sym (issued-more n k two) ∙ ap (ownIssued n) (sym (add-one k))
+  confirmed = sym (issued-more L n k two) ∙ ap (ownIssued n) (sym (add-one k))
 
   sent-more : addSent (sumsOf n k .sent) (firstAt n k .sent) ≡ sumsOf n (k + 1) .sent
   unfolding sumsOf
@@ -68,16 +68,10 @@ module _ (n : Node) (k : ℕ) (one : firstOk base n k ≡ true) (two : secondOk 
       }
 
 -- the frames of one dimension more have room
-module _ (n : Node) (k : ℕ) (l : k < 8) (ok : talliesOk base n ≡ true)
-    (first : (j : ℕ) → j < suc k → firstOk base n j ≡ true) where
+module _ (L : Limits) (fit : Fits L) (n : Node) (k : ℕ) (l : k < 8) (ok : talliesOk L n ≡ true)
+    (first : (j : ℕ) → j < suc k → firstOk L n j ≡ true) where
   room-for : (f : Field) → Has f → fits (sumAt (sumsOf n k) f + number (firstAt n k) f)
-  room-for f h =
-      omega (
-        arith,
-        sum-at n k f h,
-        own-low n ok k (λ j i. first j (omega arith)) f h,
-        stored-low n k (first k (omega arith)) f h,
-      )
+  room-for f h = omega (arith, sum-at n k f h, own-room L fit n ok k l first f h)
 
   pub room : RoomFor (sumsOf n k) (firstAt n k)
   unfolding sumsOf
@@ -88,11 +82,6 @@ module _ (n : Node) (k : ℕ) (l : k < 8) (ok : talliesOk base n ≡ true)
         issued = room-for allSent tt;
         received = room-for allTaken tt;
       }
-
-pub issued-room : (n : Node) (k : ℕ) → k < 8 → talliesOk base n ≡ true
-    → ((j : ℕ) → j < suc k → secondOk base n j ≡ true) → fits (ownIssued n k + secondAt n k .issued .0)
-issued-room n k l ok second =
-    omega (arith, issued-low n ok k (λ j i. second j (omega arith)), confirm-low n k (second k (omega arith)))
 
 -- before the first dimension
 pub walk-start : (n : Node) → length (n .sent) ≡ 8 → length (n .taken) ≡ 8

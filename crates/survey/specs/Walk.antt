@@ -5,7 +5,7 @@ use mathlib.Core.List.{List}
 use Prim.Native.Nat.{ℕ, _+_, _-_, _<_, _^_}
 use lib.Dec.{ltb, leb, eqb}
 use Rattle.base.specs.Choice.{choose, both, either, every, list}
-use Rattle.base.specs.Limits.{Limits, base, fieldLimit, takenLimit, width}
+use Rattle.base.specs.Limits.{Limits, fieldLimit, takenLimit, width}
 use Rattle.base.specs.Refusal.{Answered, refused, found}
 use Rattle.tree.specs.Tree.{Place, alone, hermit, neighbour, messenger}
 use Rattle.tree.specs.Lookups.{placeLookup}
@@ -43,13 +43,13 @@ loneAnswer (found (hermit next)) = false
 loneAnswer (found (neighbour b)) = false
 loneAnswer (found (messenger b h)) = false
 
-unfoldable pub lone : ℕ → ℕ → Bool
-lone P a = loneAnswer (placeLookup base P 0 a)
+unfoldable pub lone : Limits → ℕ → ℕ → Bool
+lone L P a = loneAnswer (placeLookup L P 0 a)
 
 -- what the test of a step knows of the node
-abbrev pub spotAt : ℕ → ℕ → ℕ → ℕ → ℕ → ℕ → Spot
-spotAt p nodes number pass dim agreed =
-    record { dims = p; alone = lone nodes number; pass = pass; dim = dim; agreed = agreed }
+abbrev pub spotAt : Limits → ℕ → ℕ → ℕ → ℕ → ℕ → ℕ → Spot
+spotAt L p nodes number pass dim agreed =
+    record { dims = p; alone = lone L nodes number; pass = pass; dim = dim; agreed = agreed }
 
 -- ---- The tallies
 

@@ -98,7 +98,7 @@ fn busy_ok(busy: bool, pass: u8, dim: u32, flag: bool) -> bool
 
 // The node awaits nobody in dimension 0.
 fn is_alone(nodes: u32, number: u32) -> bool
-    ensures { λ r. ⌜ r ≡ lone nodes number ⌝ }
+    ensures { λ r. ⌜ r ≡ lone base nodes number ⌝ }
 {
     let place = tree::place_of(nodes, 0, number);
     match place {
@@ -121,7 +121,7 @@ fn head_ok(p: u32, nodes: u32, number: u32, pass: u8, dim: u32, busy: bool, flag
 }
 
 fn spot_at(p: u32, nodes: u32, number: u32, pass: u8, dim: u32, agreed: u32) -> Spot
-    ensures { λ r. ⌜ r ≡ spotAt p nodes number pass dim agreed ⌝ }
+    ensures { λ r. ⌜ r ≡ spotAt base p nodes number pass dim agreed ⌝ }
 {
     Spot {
         dims: p,

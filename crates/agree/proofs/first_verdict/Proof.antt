@@ -17,7 +17,7 @@ use Rattle.agree.proofs.first_verdict.Statement.{statement}
 use Rattle.agree.proofs.first_verdict.Tie as tie
 
 returns : tie.Need-returns
-returns c = first-0 _ _ (sumAt (c .before .args .own)) _ (not-true _ (c .if1 .taken))
+returns c = first-0 base _ _ (sumAt (c .before .args .own)) _ (not-true _ (c .if1 .taken))
 
 -- what is handed
 module _ (c : tie.After-taken-at2) where
@@ -54,12 +54,12 @@ module _ (c : tie.After-taken-at2) where
 returns-2 : tie.Need-returns-2
 returns-2 c =
     let t = c .before .before .before in
-    first-1 _ _ (sumAt (own t)) _ (here t) (λ e. c .if2 .taken (own-sent t ∙ e ∙ sym (taken t)))
+    first-1 base _ _ (sumAt (own t)) _ (here t) (λ e. c .if2 .taken (own-sent t ∙ e ∙ sym (taken t)))
 
 returns-3 : tie.Need-returns-3
 returns-3 c =
     let t = c .before .before .before .before .before .before in
-    first-2 _ _ (sumAt (own t)) _ (here t) (λ e. c .if3 .taken (own-taken t ∙ e ∙ sym (sent t)))
+    first-2 base _ _ (sumAt (own t)) _ (here t) (λ e. c .if3 .taken (own-taken t ∙ e ∙ sym (sent t)))
 
 abbrev tallied : tie.After-shells-within → tie.After-taken-at2
 tallied c = c .before .before .before .before .before .before .before
@@ -67,7 +67,7 @@ tallied c = c .before .before .before .before .before .before .before
 returns-4 : tie.Need-returns-4
 returns-4 c =
     let t = tallied (c .before) in
-    first-3 _ _ (sumAt (own t)) _ (here t) (sym (c .before .shells-within .ensures) ∙ not-true _ (c .if4 .taken))
+    first-3 base _ _ (sumAt (own t)) _ (here t) (sym (c .before .shells-within .ensures) ∙ not-true _ (c .if4 .taken))
 
 -- clause 3 holds of the shells
 three : (c : tie.Else4)
@@ -80,14 +80,14 @@ returns-5 c =
     let s = c .before .before in
     let w = s .before .before in
     let t = tallied (w .before) in
-    first-totals _ _ (sumAt (own t)) _ (here t) _ _ (s .before .sent-sum .ensures) (s .taken-sum .ensures) (three w)
+    first-totals base _ _ (sumAt (own t)) _ (here t) _ _ (s .before .sent-sum .ensures) (s .taken-sum .ensures) (three w)
     (sym (c .before .both-within .ensures) ∙ not-true _ (c .if5 .taken))
 
 returns-6 : tie.Need-returns-6
 returns-6 c =
     let s = c .before .before .before .before in
     let t = tallied (s .before .before .before) in
-    first-4 _ _ (sumAt (own t)) _ (here t) _ _ (s .before .sent-sum .ensures) (s .taken-sum .ensures)
+    first-4 base _ _ (sumAt (own t)) _ (here t) _ _ (s .before .sent-sum .ensures) (s .taken-sum .ensures)
     (sym (c .before .last-equal .ensures) ∙ not-true _ (c .if6 .taken))
 
 returns-7 : tie.Need-returns-7
@@ -97,7 +97,7 @@ returns-7 c =
     let w = s .before .before in
     let e = w .before .before in
     let t = tallied (w .before) in
-    first-agrees _ _ (sumAt (own t)) _ (here t) _ _ (s .before .sent-sum .ensures) (s .taken-sum .ensures)
+    first-agrees base _ _ (sumAt (own t)) _ (here t) _ _ (s .before .sent-sum .ensures) (s .taken-sum .ensures)
     (sym (own-sent t) ∙ e .before .before .before .if2 .left ∙ taken t) (sym (own-taken t) ∙ e .if3 .left ∙ sent t)
     (three w)
     (sym (b .both-within .ensures) ∙ not-false _ (c .before .before .if5 .left))

@@ -30,7 +30,7 @@ short : (c : tie.After-shell-end Inv-loop μ-loop)
 short c =
     let x = c .before .args in
     let g = c .before .good .1 .1 in
-    shells-short (x .t3) (x .t4) (sym (length-map (x .t3 .sent) _) ∙ g .0 .1 .1 .0 .1 .0 .1)
+    shells-short base (x .t3) (x .t4) (sym (length-map (x .t3 .sent) _) ∙ g .0 .1 .1 .0 .1 .0 .1)
     (sym (length-map (x .t3 .taken) _) ∙ g .0 .1 .1 .1 .0 .1 .0 .1)
     (sym (length-map (x .t4 .sent) _) ∙ g .1 .0 .1 .1 .1 .0 .1 .0 .1)
     (sym (length-map (x .t4 .taken) _) ∙ g .1 .0 .1 .1 .1 .1 .0 .1 .0 .1)

@@ -8,22 +8,27 @@ use mathlib.Core.Bool.{true, false}
 use Prim.Native.Nat.{ℕ, suc, _+_, _-_, _≤_, _<_}
 use lib.ListN.{length-map}
 use Rattle.base.specs.Limits.{base}
+use Rattle.base.proofs.Limits.{fits-base}
 use Rattle.tree.specs.Lookups.{badBoard, foundAnswer}
 use Rattle.tree.proofs.Lookups.{dimension-refused, dimension-found}
-use Rattle.node.specs.Sums.{dims}
+use Rattle.node.specs.Sums.{dims, allTaken, own}
 use Rattle.node.specs.State.{boardOk, positionOk, talliesOk, firstOk, secondOk, busyOk}
 use Rattle.node.specs.declared.Node.{Node}
+use Rattle.survey.specs.Survey.{sumsOf}
 use Rattle.survey.specs.Walk.{spotAt, walkOf}
+use Rattle.survey.specs.declared.Walk.{Walk}
+use Rattle.survey.proofs.Valid.{refused}
 use Rattle.survey.proofs.Steps.{spotOf, few, low}
 use Rattle.survey.proofs.Tested.{stepAt, step-first, step-second}
 use Rattle.survey.proofs.Exits.{bad-board, bad-head, good-head, bad-tallies, good-tallies, small, start-is}
-use Rattle.survey.proofs.Exits.{room-is, more-is, held-is, step-by, bad-step, bad-total, found}
+use Rattle.survey.proofs.Exits.{room-is, more-is, held-is, step-by, bad-step, bad-total, good-total, all-taken, found}
+use Rattle.survey.proofs.Exits.{found-survey}
 use Rattle.survey.proofs.survey_of.Statement.{statement}
 use Rattle.survey.proofs.survey_of.Tie as tie
 
 abbrev Inv-loop : tie.InvT-loop
 Inv-loop n nodes number dim p sends takes spot start w₀ here₀ k₀ w here k =
-    (k ≤ 8) × (w ≡ walkOf n k) × (dim < k → here ≡ walkOf n dim) × ((j : ℕ) → j < k → stepAt n j ≡ true)
+    (k ≤ 8) × (w ≡ walkOf n k) × (dim < k → here ≡ walkOf n dim) × ((j : ℕ) → j < k → stepAt base n j ≡ true)
 
 abbrev μ-loop : tie.MeasureT-loop
 μ-loop n nodes number dim p sends takes spot start w₀ here₀ k₀ w here k = 8 - k
@@ -32,7 +37,8 @@ returns : tie.Need-returns Inv-loop μ-loop
 returns c =
     let d = c .before .before .before .dimension-of in
     c .no-survey .ensures
-    ∙ bad-board _ (dimension-refused base _ _ (sym (d .ensures) ∙ ap foundAnswer (c .before .enum-told .given .1)))
+    ∙ refused base _
+    (bad-board base _ (dimension-refused base _ _ (sym (d .ensures) ∙ ap foundAnswer (c .before .enum-told .given .1))))
 
 -- ---- the head: the dimension that was found, and the tests
 
@@ -52,17 +58,19 @@ returns-2 : tie.Need-returns-2 Inv-loop μ-loop
 returns-2 c =
     let h = c .before .before in
     let k = known (h .before) in
-    c .no-survey2 .ensures ∙ bad-head _ _ (k .0) (k .1) (sym (h .head-ok .ensures) ∙ not-true _ (c .before .if1 .taken))
+    c .no-survey2 .ensures
+    ∙ refused base _
+    (bad-head base _ _ (k .0) (k .1) (sym (h .head-ok .ensures) ∙ not-true _ (c .before .if1 .taken)))
 
 head : (e : tie.Else1 Inv-loop μ-loop)
     → let m = n (e .before .before) in
     (boardOk base m ≡ true) × (positionOk m ≡ true) × (busyOk m ≡ true)
 head e =
     let k = known (e .before .before) in
-    good-head _ _ (k .0) (k .1) (sym (e .before .head-ok .ensures) ∙ not-false _ (e .if1 .left))
+    good-head base _ _ (k .0) (k .1) (sym (e .before .head-ok .ensures) ∙ not-false _ (e .if1 .left))
 
 few-dims : (e : tie.Else1 Inv-loop μ-loop) → p (e .before .before) ≤ 8
-few-dims e = omega (arith, known (e .before .before) .1, few _ (head e .0) (head e .1))
+few-dims e = omega (arith, known (e .before .before) .1, few base fits-base _ (head e .0))
 
 -- ---- the tallies
 
@@ -72,8 +80,9 @@ returns-3 c =
     let t = a .before in
     let k = known (t .before .before .before .before .before .before) in
     c .no-survey3 .ensures
-    ∙ bad-tallies _ _ (k .0) (k .1) _ _ (t .before .total-sent .ensures) (t .total-taken .ensures)
-    (sym (a .tallies-ok .ensures) ∙ not-true _ (c .before .if2 .taken))
+    ∙ refused base _
+    (bad-tallies base _ _ (k .0) (k .1) _ _ (t .before .total-sent .ensures) (t .total-taken .ensures)
+    (sym (a .tallies-ok .ensures) ∙ not-true _ (c .before .if2 .taken)))
 
 module _ (c : tie.Else2 Inv-loop μ-loop) where
   abbrev t : tie.After-total-taken Inv-loop μ-loop
@@ -85,13 +94,13 @@ module _ (c : tie.Else2 Inv-loop μ-loop) where
   tallied : talliesOk base (n (e .before .before)) ≡ true
   tallied =
       let k = known (e .before .before) in
-      good-tallies _ _ (k .0) (k .1) _ _ (t .before .total-sent .ensures) (t .total-taken .ensures)
+      good-tallies base _ _ (k .0) (k .1) _ _ (t .before .total-sent .ensures) (t .total-taken .ensures)
       (sym (c .before .tallies-ok .ensures) ∙ not-false _ (c .if2 .left))
 
   fit : (t .before .total-sent .result ≤ 65535) × (t .total-taken .result ≤ 16711425)
   fit =
       let k = known (e .before .before) in
-      small (n (e .before .before)) _ (k .0) (k .1) _ _ (t .before .total-sent .ensures) (t .total-taken .ensures)
+      small base (n (e .before .before)) _ (k .0) (k .1) _ _ (t .before .total-sent .ensures) (t .total-taken .ensures)
       (sym (c .before .tallies-ok .ensures) ∙ not-false _ (c .if2 .left))
 
 -- ---- the walk
@@ -108,11 +117,11 @@ module _ (c : tie.After-start-of Inv-loop μ-loop) where
       (c .start-of .ensures) (sym (length-map (n told .sent) _) ∙ g .0 .1 .0 .1)
       (sym (length-map (n told .taken) _) ∙ g .1 .0 .1 .0 .1)
 
-  spot : c .before .spot-at .result ≡ spotOf (n told)
+  spot : c .before .spot-at .result ≡ spotOf base (n told)
   spot =
       c .before .spot-at .ensures
       ∙ ap
-      (λ q. spotAt q (n told .nodes) (n told .number) (n told .pass) (n told .dim) (n told .agreed))
+      (λ q. spotAt base q (n told .nodes) (n told .number) (n told .pass) (n told .dim) (n told .agreed))
       (known told .1)
 
 loop-holds : tie.Need-loop-holds Inv-loop μ-loop
@@ -126,18 +135,19 @@ module _ (c : tie.After-step-ok Inv-loop μ-loop) where
   abbrev state : Node
   state = n (told (l .before))
 
-  step : c .step-ok .result ≡ stepAt state (l .loop .k)
-  step = c .step-ok .ensures ∙ step-by state (l .loop .k) _ _ (spot (l .before)) (l .loop .inv .1)
-
   tests : (boardOk base state ≡ true) × (positionOk state ≡ true) × (busyOk state ≡ true)
   tests = head (e (l .before .before .before))
+
+  step : c .step-ok .result ≡ stepAt base state (l .loop .k)
+  step = c .step-ok .ensures ∙ step-by base fits-base state (tests .0) (l .loop .k) _ _ (spot (l .before)) (l .loop .inv .1)
 
 returns-4 : tie.Need-returns-4 Inv-loop μ-loop
 returns-4 c =
     let s = c .before .before in
     c .no-survey4 .ensures
-    ∙ bad-step (state s) (tests s .0) (tests s .1) (l s .loop .k) (s .before .before .before .before .loop-test .taken)
-    (sym (step s) ∙ not-true _ (c .before .if3 .taken))
+    ∙ refused base _
+    (bad-step base (state s) (tests s .0) (l s .loop .k) (s .before .before .before .before .loop-test .taken)
+    (sym (step s) ∙ not-true _ (c .before .if3 .taken)))
 
 module _ (c : tie.Else3 Inv-loop μ-loop) where
   abbrev s : tie.After-step-ok Inv-loop μ-loop
@@ -146,19 +156,19 @@ module _ (c : tie.Else3 Inv-loop μ-loop) where
   abbrev k : ℕ
   k = l s .loop .k
 
-  passes : (j : ℕ) → j < k + 1 → stepAt (state s) j ≡ true
-  passes = below-more (λ j. stepAt (state s) j ≡ true) k (l s .loop .inv .3) (sym (step s) ∙ not-false _ (c .if3 .left))
+  passes : (j : ℕ) → j < k + 1 → stepAt base (state s) j ≡ true
+  passes = below-more (λ j. stepAt base (state s) j ≡ true) k (l s .loop .inv .3) (sym (step s) ∙ not-false _ (c .if3 .left))
 
   first : (j : ℕ) → j < suc k → firstOk base (state s) j ≡ true
-  first j i = step-first (state s) (tests s .0) (tests s .1) j (passes j (omega arith))
+  first j i = step-first base (state s) (tests s .0) j (passes j (omega arith))
 
   second : (j : ℕ) → j < suc k → secondOk base (state s) j ≡ true
-  second j i = step-second (state s) (tests s .0) (tests s .1) j (passes j (omega arith))
+  second j i = step-second base (state s) (tests s .0) j (passes j (omega arith))
 
 added-requires : tie.Need-added-requires Inv-loop μ-loop
 added-requires c κs =
     let b = c .before in
-    room-is (state (s b)) (k b) (s b .before .before .before .before .loop-test .taken)
+    room-is base fits-base (state (s b)) (k b) (s b .before .before .before .before .loop-test .taken)
     (tallied (l (s b) .before .before .before)) (first b) (second b) _ (l (s b) .loop .inv .1)
 
 loop-again : tie.Need-loop-again Inv-loop μ-loop
@@ -166,7 +176,7 @@ loop-again c =
     let b = c .before .before in
     let i = l (s b) .loop .inv in (
       search needs,
-      more-is (state (s b)) (k b) (first b (k b) (omega arith)) (second b (k b) (omega arith)) _ _ (i .1)
+      more-is base (state (s b)) (k b) (first b (k b) (omega arith)) (second b (k b) (omega arith)) _ _ (i .1)
           (c .added .ensures),
       held-is (state (s b)) (k b) _ _ _ (i .1) (i .2) (c .before .held .ensures),
       passes b,
@@ -183,7 +193,7 @@ module _ (c : tie.After-loop Inv-loop μ-loop) where
   end : at .loop .k ≡ 8
   end = omega arith
 
-  all : (k : ℕ) → k < 8 → stepAt whole k ≡ true
+  all : (k : ℕ) → k < 8 → stepAt base whole k ≡ true
   all k i = at .loop .inv .3 k (omega (arith, end))
 
   walked : at .loop .w ≡ walkOf whole 8
@@ -192,23 +202,31 @@ module _ (c : tie.After-loop Inv-loop μ-loop) where
   passed : (boardOk base whole ≡ true) × (positionOk whole ≡ true) × (busyOk whole ≡ true)
   passed = head (e (at .before .before .before))
 
+  received : at .loop .w .sums .received .0 ≡ own whole (dims whole) allTaken
+  unfolding sumsOf
+  received =
+      ap (λ (v : Walk). v .sums .received .0) walked ∙ all-taken base fits-base whole (passed .0) all
+
 returns-5 : tie.Need-returns-5 Inv-loop μ-loop
 returns-5 c =
     let v = c .before .before in
     let o = v .before .before in
     c .no-survey5 .ensures
-    ∙ bad-total (whole o) (passed o .0) (passed o .1) (all o) _ (walked o)
-    (sym (v .total-ok .ensures) ∙ not-true _ (c .before .if4 .taken))
+    ∙ refused base _
+    (bad-total base (whole o) _ (received o) (sym (v .total-ok .ensures) ∙ not-true _ (c .before .if4 .taken)))
 
 returns-6 : tie.Need-returns-6 Inv-loop μ-loop
 returns-6 c =
     let v = c .before .before in
     let o = v .before .before in
     let b = o .before .before in
+    let t = good-total base (whole o) _ (received o) (sym (v .total-ok .ensures) ∙ not-false _ (c .before .if4 .left)) in
     c .survey-with .ensures
-    ∙ found (whole o) (passed o .0) (passed o .1) (all o) _ (walked o) (tallied (b .before .before)) (passed o .2)
-    (sym (v .total-ok .ensures) ∙ not-false _ (c .before .if4 .left)) _ _ _ (known (told b) .1) (start b)
-    (o .before .loop .inv .2 (omega (arith, end o, low (whole o) (passed o .0) (passed o .1))))
+    ∙ found-survey base (whole o)
+    (found base fits-base (whole o) (passed o .0) (all o) (passed o .1) (tallied (b .before .before)) t (passed o .2))
+    _ _ _ _ (known (told b) .1) (start b)
+    (o .before .loop .inv .2 (omega (arith, end o, low base fits-base (whole o) (passed o .0) (passed o .1))))
+    (received o)
 
 pub survey-of-spec : {M : Type 1} → statement M
 survey-of-spec =
