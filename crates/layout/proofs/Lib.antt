@@ -1,0 +1,11 @@
+pub mod Offsets
+pub mod Whole
+pub mod Reading
+pub mod Slices
+pub mod Repack
+pub mod Written
+pub mod Becomes
+pub mod Parts
+pub mod Writes
+pub mod Stores
+pub mod Answers

@@ -1,0 +1,64 @@
+-- Laws of the offsets: what each dimension takes, the closed forms, and that the words of one dimension are apart from
+-- those of another and inside the state.
+use mathlib.Core.Path.{_≡_, refl}
+use Prim.Native.Nat.{ℕ, zero, suc, _+_, _*_, _-_, _≤_, _<_}
+use native.Mathlib.Nat.{mul-suc, suc-mul}
+use native.Mathlib.Decide.{decLe}
+use native.Mathlib.Omega.{arith}
+use Rattle.layout.specs.Places.{atFirst, stateWords}
+
+pub first-none : (p : ℕ) → atFirst p 0 ≡ 8 + 2 * p
+unfolding atFirst
+first-none p = refl
+
+pub first-more : (p k : ℕ) → atFirst p (suc k) ≡ atFirst p k + (2 * (p - k) + 6)
+unfolding atFirst
+first-more p k = omega arith
+
+-- with r dimensions from dimension k on
+closed : (k r : ℕ) → atFirst (k + r) k ≡ 8 + 2 * (k + r) + k * (k + 2 * r + 7)
+unfolding atFirst
+closed zero r = omega arith
+closed (suc k) r =
+    let e : suc k + r ≡ k + suc r = omega arith in
+    let x : k + 2 * suc r + 7 ≡ suc (suc (k + 2 * r + 7)) = omega arith in
+    let y : suc k + 2 * r + 7 ≡ suc (k + 2 * r + 7) = omega arith in
+    let h : atFirst (k + suc r) k ≡ 8 + 2 * (k + suc r) + k * suc (suc (k + 2 * r + 7)) = rw x at (closed k (suc r)) in
+    rw (e, y) (omega (arith, h, mul-suc k (suc (k + 2 * r + 7)), suc-mul k (suc (k + 2 * r + 7))))
+
+pub first-closed : (p k : ℕ) → k ≤ p → atFirst p k ≡ 8 + 2 * p + k * (2 * p + 7 - k)
+first-closed p k h =
+    let e : k + (p - k) ≡ p = omega arith in
+    let x : k + 2 * (p - k) + 7 ≡ 2 * p + 7 - k = omega arith in
+    rw (e, x) at (closed k (p - k))
+
+pub words-closed : (p : ℕ) → stateWords p ≡ 8 + p * (p + 9)
+words-closed p =
+    let x : 2 * p + 7 - p ≡ p + 7 = omega arith in
+    let y : p + 9 ≡ suc (suc (p + 7)) = omega arith in
+    let h : atFirst p p ≡ 8 + 2 * p + p * (p + 7) = rw x at (first-closed p p (omega arith)) in
+    rw y (omega (arith, h, mul-suc p (suc (p + 7)), mul-suc p (p + 7)))
+
+pub first-above : (p k : ℕ) → 8 + 2 * p ≤ atFirst p k
+unfolding atFirst
+first-above p zero = omega arith
+first-above p (suc k) = omega (arith, first-above p k)
+
+pub first-apart : (p j k : ℕ) → j < k → atFirst p j + (2 * (p - j) + 6) ≤ atFirst p k
+first-apart p j zero h = absurd (omega arith)
+first-apart p j (suc k) h = rw first-more (go (λ l. first-apart p j k l) (decLe (suc j) k))
+  where
+    go : (j < k → atFirst p j + (2 * (p - j) + 6) ≤ atFirst p k) → Dec (j < k)
+        → atFirst p j + (2 * (p - j) + 6) ≤ atFirst p k + (2 * (p - k) + 6)
+    go r (yes l) = omega (arith, r l)
+    go r (no l) = let e : j ≡ k = omega arith in rw e (omega arith)
+
+pub first-up : (p j k : ℕ) → j ≤ k → atFirst p j ≤ atFirst p k
+first-up p j k h = go (decLe (suc j) k)
+  where
+    go : Dec (j < k) → atFirst p j ≤ atFirst p k
+    go (yes l) = omega (arith, first-apart p j k l)
+    go (no l) = let e : j ≡ k = omega arith in rw e (omega arith)
+
+pub first-inside : (p k : ℕ) → k < p → atFirst p k + (2 * (p - k) + 6) ≤ stateWords p
+first-inside p k h = first-apart p k p h
