@@ -1,0 +1,14 @@
+-- `first_past` is `firstPast`.
+use borrow.Author.Tests.{eq-eqb, ne-eqb}
+use Rattle.scan.proofs.first_past.Statement.{statement}
+use Rattle.scan.proofs.first_past.Tie as tie
+
+returns : tie.Need-returns
+returns c = rw (ne-eqb _ _ (c .if1 .taken))
+
+returns-2 : tie.Need-returns-2
+returns-2 c = rw (eq-eqb _ _ (c .before .if1 .left))
+
+pub first-past-spec : {M : Type 1} → statement M
+first-past-spec =
+    tie.close (tie.spec returns returns-2)
