@@ -1,0 +1,5 @@
+pub mod Lookups
+pub mod Placing
+pub mod Storing
+pub mod Intake
+pub mod OnWords
