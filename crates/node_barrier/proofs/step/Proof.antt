@@ -1,0 +1,170 @@
+-- `step` answers `barrier` on the words.
+use borrow.Author.Needs.{needs}
+use borrow.Author.Tests.{eq-eqb, ne-eqb, leb-true}
+use denote.Ref.{now}
+use native.Mathlib.Omega.{arith}
+use mathlib.Core.Path.{_≡_, ap, _∙_}
+use mathlib.Core.Logic.{_⊎_, inl, inr}
+use mathlib.Core.Bool.{true, false, not}
+use mathlib.Core.List.{List}
+use Prim.Native.Nat.{ℕ, _≤_}
+use lib.Dec.{leb}
+use lib.ListN.{length}
+use Rattle.base.specs.Limits.{Limits, Fits, limitsOf}
+use Rattle.base.proofs.Laws.{both-true}
+use Rattle.base.proofs.Limits.{fits-of}
+use Rattle.node.specs.State.{valid}
+use Rattle.node.specs.declared.Node.{Node}
+use Rattle.node.specs.declared.BarrierAnswer.the-variants.{Refused}
+use Rattle.layout.specs.Places.{sumWords}
+use Rattle.layout.specs.Held.{word, dimsOf, unpacked, isWhole, isReady}
+use Rattle.layout.proofs.Whole.{whole}
+use Rattle.scan.specs.declared.Scan.{Scan}
+use Rattle.scan.proofs.Known.{Known, failed, passed}
+use Rattle.node_barrier.specs.Pieces.{Lent, wordsAfter}
+use Rattle.node_barrier.specs.declared.Turn.the-variants.{Refuses}
+use Rattle.node_barrier.proofs.Handed.{head-room, low-dims}
+use Rattle.node_barrier.proofs.Acting.{acted}
+use Rattle.node_barrier.proofs.Turning.{refuses-state, refuses-busy}
+use Rattle.node_barrier.proofs.Answering.{On, on-same, no-state, on-turn}
+use Rattle.node_barrier.proofs.step.Statement.{statement}
+use Rattle.node_barrier.proofs.step.Tie as tie
+
+-- what is handed, and its scan
+module _ (c : tie.After-struct-known) where
+  abbrev scan : tie.After-scan-of
+  scan = c .before .before .before
+
+  abbrev start : tie.Start
+  start = scan .before .before .before .before .before .before
+
+  abbrev L : Limits
+  L = limitsOf (start .args .b)
+
+  abbrev ws : List ℕ
+  ws = now (start .args .state)
+
+  abbrev buf : List ℕ
+  buf = now (start .args .buf)
+
+  abbrev room : ℕ
+  room = length (now (start .args .sums))
+
+  abbrev n : Node
+  n = unpacked ws
+
+  fit : Fits L
+  fit = fits-of (start .args .b) (omega (arith, start .good .0)) (omega (arith, start .good .0))
+
+  refused : (isReady L room ws ≡ false) ⊎ ((isReady L room ws ≡ true) × (not (valid L n) ≡ true))
+      → On L room ws buf (Refused 13) ws buf
+  refused (inl e) = no-state L room ws buf e
+  refused (inr e) =
+      let w = both-true (isWhole L ws) (leb (sumWords (dimsOf ws)) room) (e .0) in
+      on-turn L room ws buf (e .0) (Refuses 13) ws buf (refuses-state L n buf (e .1)) (acted L fit ws (w .0) (Refuses 13))
+
+returns : tie.Need-returns
+returns c =
+    let k = c .before in
+    refused k (failed (L k) (room k) (ws k) (scan k .scan-of .result) (scan k .scan-of .ensures .0) (c .if1 .taken))
+
+-- ---- a state that passes the test
+
+module _ (e : tie.Else1) where
+  abbrev k : tie.After-struct-known
+  k = e .before
+
+  known : Known (L k) (room k) (ws k) (scan k .scan-of .result)
+  known = passed (L k) (room k) (ws k) (scan k .scan-of .result) (scan k .scan-of .ensures .0) (e .if1 .left)
+
+  long : 8 ≤ length (ws k)
+  long = head-room (L k) (ws k) (known .whole)
+
+  abbrev found : Scan
+  found = scan k .scan-of .result
+
+  -- the sums are gathered
+  abbrev sums : List ℕ
+  sums = scan k .scan-of .last .1 .1 .0
+
+  lent : Lent (L k) (ws k) sums (found .dims) (found .issued .0)
+  lent =
+      record {
+        whole = known .whole;
+        valid = known .valid;
+        dims = known .dims;
+        gathered = scan k .scan-of .ensures .1 .0 (known .passes);
+        issued = known .issued;
+      }
+
+  few : found .dims ≤ 8
+  few = low-dims (L k) (fit k) (ws k) sums (found .dims) (found .issued .0) lent
+
+  dims-are : found .dims ≡ dimsOf (ws k)
+  unfolding unpacked
+  dims-are = known .dims
+
+  enough : sumWords (found .dims) ≤ length sums
+  enough =
+      let r = both-true (isWhole (L k) (ws k)) (leb (sumWords (dimsOf (ws k))) (room k)) (known .ready) in
+      omega (
+        arith,
+        leb-true (sumWords (dimsOf (ws k))) (room k) (r .1),
+        scan k .scan-of .ensures .1 .1,
+        dims-are,
+      )
+
+slice-read-if2 : tie.Need-slice-read-if2
+slice-read-if2 c = omega (arith, long (c .before))
+
+busy : (e : tie.Else1) → word (ws (k e)) 3 ≡ 1 → n (k e) .busy ≡ true
+unfolding unpacked
+busy e q = eq-eqb _ 1 q
+
+returns-2 : tie.Need-returns-2
+returns-2 c =
+    let e = c .before .before in
+    let s = k e in
+    let h = known e in
+    on-turn (L s) (room s) (ws s) (buf s) (h .ready) (Refuses 12) (ws s) (buf s)
+    (refuses-busy (L s) (n s) (buf s) (h .valid) (busy e (c .if2 .taken))) (acted (L s) (fit s) (ws s) (h .whole) (Refuses 12))
+
+-- ---- an idle one
+
+decide-requires : tie.Need-decide-requires
+decide-requires c κs =
+    let i = c .before .before .before in
+    let e = i .before .before in
+    (long e, few e, enough e, ne-eqb _ 1 (i .if2 .left), lent e)
+
+abbrev passing : tie.After-decide → tie.Else1
+passing d = d .before .before .before .before .before .before
+
+cast-act : tie.Need-cast-act
+cast-act c = record { fits = omega (arith, few (passing (c .before .before .before .before))) }
+
+act-requires : tie.Need-act-requires
+act-requires c κs =
+    let e = passing (c .before .before .before .before) in
+    (long e, whole (L (k e)) (ws (k e)) (known e .whole) .phase)
+
+returns-3 : tie.Need-returns-3
+returns-3 c =
+    let a = c .before .before in
+    let d = a .before .before .before .before .before in
+    let e = passing d in
+    let s = k e in
+    let t = d .decide .result in
+    let words =
+    a .act .ensures .1
+    ∙ ap (λ p. wordsAfter (ws s) p t) (dims-are e)
+    ∙ acted (L s) (fit s) (ws s) (known e .whole) t in
+    on-same (L s) (room s) (ws s) (buf s) (a .act .ensures .0)
+    (on-turn (L s) (room s) (ws s) (buf s) (known e .ready) t _ _ (d .decide .ensures) words)
+
+pub step-spec : {M : Type 1} → statement M
+step-spec =
+    tie.close
+    (tie.spec (λ c κs. search needs) (λ c. search needs) (λ c. search needs) returns slice-read-if2
+    (λ c. search needs) (λ c. search needs) returns-2 decide-requires cast-act act-requires (λ c. search needs)
+    (λ c. search needs) (λ c. search needs) returns-3)
