@@ -5,26 +5,28 @@
  * of work and no work is on its way; then each node leaves it. A node counts what it sends and takes, passes its counts
  * on in small frames while it has nothing to do, and comes back to work whenever work comes in.
  *
- * The functions hold no memory of their own and call memcpy alone. The caller lends each call what it reads and writes:
- * a state of OCB_STATE_WORDS words for each node, frames as bytes, a few words for an answer. Any numbers and bytes may
- * be handed in; what is not allowed is refused with its number, and a refused call leaves the state and the buffer as
- * they were. What stays with the caller: links that keep the order of what one node sends to another; one call at a
- * time on a state; pointers that are aligned and not null, also where a count is 0, to memory that does not overlap.
+ * The functions hold no memory of their own. The caller lends each call what it reads and writes: for each node a state
+ * of OCB_STATE_WORDS(nodes) words, which the calls read and change in place, frames as bytes, a few words for an answer.
+ * Any numbers and bytes may be handed in; what is not allowed is refused with its number, and a refused call leaves all
+ * that was lent as it was. What stays with the caller: links that keep the order of what one node sends to another; one
+ * call at a time on a state; pointers that are aligned and not null, also where a count is 0, to memory that does not
+ * overlap.
  *
  * The cycle of a kernel, whole. The functions link_.. and work_.. and fault are the kernel's. An item on a link is a
  * frame, or a piece of work with the phase byte of its sender.
  *
- *     static uint32_t state[OCB_STATE_WORDS];
+ *     enum { WORDS = OCB_STATE_WORDS(5) };     // for boards of up to five nodes
+ *     static uint32_t state[WORDS];
  *
  *     void start(uint32_t nodes, uint32_t me)
  *     {
- *         if (ocb_fresh(state, nodes, me) != OCB_DONE) fault();
+ *         if (ocb_fresh(state, WORDS, nodes, me) != OCB_DONE) fault();
  *     }
  *
  *     // Work for another node: count it, then send it. What is refused must not be sent.
  *     uint32_t send_work(uint32_t to, const struct work *work)
  *     {
- *         uint32_t answer = ocb_send(state, to);
+ *         uint32_t answer = ocb_send(state, WORDS, to);
  *         if (answer == OCB_DONE) link_send_work(to, (uint8_t)state[OCB_AT_PHASE], work);
  *         return answer;
  *     }
@@ -34,8 +36,8 @@
  *     void item_in(uint32_t from)
  *     {
  *         struct item *item = link_oldest(from);
- *         uint32_t answer = item->is_work ? ocb_take(state, from, item->phase)
- *                                         : ocb_frame_in(state, item->bytes, item->count);
+ *         uint32_t answer = item->is_work ? ocb_take(state, WORDS, from, item->phase)
+ *                                         : ocb_frame_in(state, WORDS, item->bytes, item->count);
  *         if (answer == OCB_EARLY) return;
  *         if (answer == OCB_DONE && item->is_work) work_queue(item);
  *         if (answer != OCB_DONE && answer != OCB_DROPPED) fault();
@@ -54,8 +56,8 @@
  *                 work_run();
  *                 continue;
  *             }
- *             if (state[OCB_AT_BUSY] && ocb_idle(state) != OCB_DONE) fault();
- *             switch (ocb_barrier(state, frame, sizeof frame, details)) {
+ *             if (state[OCB_AT_BUSY] && ocb_idle(state, WORDS) != OCB_DONE) fault();
+ *             switch (ocb_barrier(state, WORDS, frame, sizeof frame, details)) {
  *             case OCB_SENT:
  *                 for (uint32_t i = 0; i < details[0]; i++)
  *                     link_send_frame(details[1 + i], frame, details[3]);
@@ -82,10 +84,17 @@
 extern "C" {
 #endif
 
-/* Words of a state, bytes of the longest frame, nodes of the largest board. */
-#define OCB_STATE_WORDS 200
-#define OCB_FRAME_BYTES 76
+/* Nodes of the largest board, bytes of its longest frame. */
 #define OCB_NODES 256
+#define OCB_FRAME_BYTES 76
+
+/* The dimension of a board: the smallest p with nodes <= 2^p. Of a constant it is a constant. */
+#define OCB_DIMENSION(nodes) \
+    ((nodes) <= 1 ? 0 : (nodes) <= 2 ? 1 : (nodes) <= 4 ? 2 : (nodes) <= 8 ? 3 : (nodes) <= 16 ? 4 : \
+     (nodes) <= 32 ? 5 : (nodes) <= 64 ? 6 : (nodes) <= 128 ? 7 : 8)
+
+/* Words of a node's state on a board of so many nodes: a state has the numbers that its board has, and no others. */
+#define OCB_STATE_WORDS(nodes) (8 + OCB_DIMENSION(nodes) * (OCB_DIMENSION(nodes) + 9))
 
 /* Words that a barrier call, a place and a frame's fields take. */
 #define OCB_DETAIL_WORDS 5
@@ -128,44 +137,47 @@ enum {
     OCB_FIELD = 10,     /* field: a pass, a dimension or a number that a frame or a board cannot have */
     OCB_PARTNER = 11,   /* partner: the frame is not from the node awaited in its dimension */
     OCB_WORKING = 12,   /* working: barrier call while busy */
-    OCB_STATE = 13,     /* state: the words are no state of a node */
+    OCB_STATE = 13,     /* state: the words are no state of a node, or too few for the board */
     OCB_BUFFER = 14,    /* buffer: shorter than the frame to be written */
     OCB_CROWDED = 15,   /* crowded, nothing, script: the rehearsal's; no function answers them */
     OCB_NOTHING = 16,
     OCB_SCRIPT = 17
 };
 
-/* ---- The calls on a state. Each answers OCB_DONE, another answer that is named, or a refusal. */
+/*
+ * ---- The calls on a state of so many words. Each answers OCB_DONE, another answer that is named, or a refusal. There
+ * may be more words than the board needs; the calls leave those as they are.
+ */
 
 /*
  * Makes the state of a node that starts: busy, in phase 0, with nothing sent or taken. Refused, the words stay.
- * Refusals: 1, 2.
+ * Refusals: 1, 2, 13 (words too few for the board).
  */
-uint32_t ocb_fresh(uint32_t state[OCB_STATE_WORDS], uint32_t nodes, uint32_t number);
+uint32_t ocb_fresh(uint32_t *state, size_t words, uint32_t nodes, uint32_t number);
 
 /*
  * Counts one piece of work sent to a node. Call it before the work goes out, and send the work with the state's phase.
  * Refusals: 13, 2, 3, 4, 5.
  */
-uint32_t ocb_send(uint32_t state[OCB_STATE_WORDS], uint32_t to);
+uint32_t ocb_send(uint32_t *state, size_t words, uint32_t to);
 
 /*
  * Counts one piece of work taken from a node, with the phase byte it was sent with; the node is busy then.
  * Refusals: 13, 2, 3, 7 or 8, 6.
  */
-uint32_t ocb_take(uint32_t state[OCB_STATE_WORDS], uint32_t from, uint8_t phase);
+uint32_t ocb_take(uint32_t *state, size_t words, uint32_t from, uint8_t phase);
 
 /*
  * Says that the node has run out of work. It may be said again.
  * Refusals: 13.
  */
-uint32_t ocb_idle(uint32_t state[OCB_STATE_WORDS]);
+uint32_t ocb_idle(uint32_t *state, size_t words);
 
 /*
  * Hands in a frame that has come, count bytes as they were sent. OCB_DROPPED: it was late and is without effect.
  * Refusals: 13, 9 (under 4 bytes), 10 (pass, dimension), 9, 10 (numbers), 2, 3, 11, 7 or 8.
  */
-uint32_t ocb_frame_in(uint32_t state[OCB_STATE_WORDS], const uint8_t *bytes, size_t count);
+uint32_t ocb_frame_in(uint32_t *state, size_t words, const uint8_t *bytes, size_t count);
 
 /*
  * One step of the barrier at an idle node, with a buffer of count bytes; OCB_FRAME_BYTES are always enough.
@@ -173,9 +185,9 @@ uint32_t ocb_frame_in(uint32_t state[OCB_STATE_WORDS], const uint8_t *bytes, siz
  * details, by word: how many receivers, the first, the second, the frame's length, and for OCB_WAITS the number of a
  * clause that fails (0: no frame has come; 1, 2: counts of sent and taken work differ; 3: a sum is above the limit; 4:
  * the totals of sent and taken differ; 5, 6: the second pass does not confirm the first). What an answer lacks is 0.
- * Refusals: 13, 12, 14. The buffer and the state stay then, and details is all 0.
+ * Refusals: 13, 12, 14. State, buffer and details stay then.
  */
-uint32_t ocb_barrier(uint32_t state[OCB_STATE_WORDS], uint8_t *buffer, size_t count,
+uint32_t ocb_barrier(uint32_t *state, size_t words, uint8_t *buffer, size_t count,
                      uint32_t details[OCB_DETAIL_WORDS]);
 
 /* ---- The tree of partners. Refused, found stays. */

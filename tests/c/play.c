@@ -10,6 +10,7 @@
 
 #define NODES 16
 #define PLACES 512
+#define WORDS OCB_STATE_WORDS(NODES)
 
 /* An item under way. Work has no bytes: its count is 0. */
 struct item {
@@ -17,7 +18,7 @@ struct item {
     uint8_t phase, bytes[OCB_FRAME_BYTES];
 };
 
-static uint32_t states[NODES][OCB_STATE_WORDS];
+static uint32_t states[NODES][WORDS];
 
 /* The items of all links, oldest first. */
 static struct item items[PLACES];
@@ -50,7 +51,7 @@ static uint32_t oldest(uint32_t from, uint32_t to)
 }
 
 /* What is not refused and finds too few places is answered 15 and changes nothing: the state is put back. */
-static uint32_t crowded(uint32_t node, const uint32_t before[OCB_STATE_WORDS])
+static uint32_t crowded(uint32_t node, const uint32_t before[WORDS])
 {
     memcpy(states[node], before, sizeof states[node]);
     return OCB_CROWDED;
@@ -58,10 +59,10 @@ static uint32_t crowded(uint32_t node, const uint32_t before[OCB_STATE_WORDS])
 
 static uint32_t send_work(uint32_t from, uint32_t to)
 {
-    uint32_t before[OCB_STATE_WORDS];
+    uint32_t before[WORDS];
     memcpy(before, states[from], sizeof before);
     struct item work = {.from = from, .phase = (uint8_t)states[from][OCB_AT_PHASE]};
-    uint32_t answer = ocb_send(states[from], to);
+    uint32_t answer = ocb_send(states[from], WORDS, to);
     if (answer != OCB_DONE) return answer;
     if (under_way == PLACES) return crowded(from, before);
     put(&work, to);
@@ -70,9 +71,9 @@ static uint32_t send_work(uint32_t from, uint32_t to)
 
 static uint32_t barrier(uint32_t node)
 {
-    uint32_t before[OCB_STATE_WORDS];
+    uint32_t before[WORDS];
     memcpy(before, states[node], sizeof before);
-    uint32_t answer = ocb_barrier(states[node], written.bytes, sizeof written.bytes, details);
+    uint32_t answer = ocb_barrier(states[node], WORDS, written.bytes, sizeof written.bytes, details);
     if (answer != OCB_SENT) return answer;
     if (PLACES - under_way < details[0]) return crowded(node, before);
     written.from = node;
@@ -87,8 +88,8 @@ static uint32_t deliver(uint32_t from, uint32_t to)
     uint32_t at = oldest(from, to);
     if (at == under_way) return OCB_NOTHING;
     const struct item *item = &items[at];
-    uint32_t answer = item->count == 0 ? ocb_take(states[to], from, item->phase)
-                                       : ocb_frame_in(states[to], item->bytes, item->count);
+    uint32_t answer = item->count == 0 ? ocb_take(states[to], WORDS, from, item->phase)
+                                       : ocb_frame_in(states[to], WORDS, item->bytes, item->count);
     if (answer != OCB_EARLY) drop(at);
     return answer;
 }
@@ -123,7 +124,7 @@ static int play(const char *line, uint32_t nodes, int frames)
     uint32_t answer;
     if (act == 's') answer = send_work(a, b);
     else if (act == 'd') answer = deliver(a, b);
-    else if (act == 'i') answer = ocb_idle(states[a]);
+    else if (act == 'i') answer = ocb_idle(states[a], WORDS);
     else if (act == 'b') answer = barrier(a);
     else return 0;
     print_line(act == 'd' ? b : a, answer);
@@ -139,7 +140,7 @@ int main(int count, char **words)
     puts("node answer phase pass dim flag busy");
     if (fgets(line, sizeof line, stdin) == NULL || sscanf(line, "nodes %u", &nodes) != 1 || nodes > NODES) return 1;
     for (uint32_t node = 0; node < nodes; node++)
-        if (ocb_fresh(states[node], nodes, node) != OCB_DONE) return 1;
+        if (ocb_fresh(states[node], WORDS, nodes, node) != OCB_DONE) return 1;
     while (fgets(line, sizeof line, stdin) != NULL)
         if (!play(line, nodes, frames)) return 1;
     return 0;

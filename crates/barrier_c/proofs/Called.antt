@@ -1,43 +1,43 @@
--- Laws of the calls on words: the answer and the words after it, where they hold a state and where they hold none.
-use mathlib.Core.Path.{_≡_, refl, sym, ap, _∙_}
-use mathlib.Core.Bool.{true, false}
+-- Laws of the calls on words: this build's limits, and words for the sums of any of its boards.
+use mathlib.Core.Path.{_≡_, refl, ap, _∙_}
+use mathlib.Core.Bool.{Bool, true, false}
 use mathlib.Core.List.{List}
-use Prim.Native.Nat.{ℕ}
-use lib.ListN.{length}
-use Rattle.base.proofs.Laws.{choose-yes, choose-no, cases}
-use Rattle.node.specs.Answers.{Given, Outcome, outcomeNumber, outcomeOf, replied}
+use Prim.Native.Nat.{ℕ, _+_, _*_}
+use native.Mathlib.Omega.{arith}
+use lib.Dec.{leb}
+use borrow.Author.Tests.{le-leb}
+use Rattle.base.specs.Choice.{choose, both}
+use Rattle.base.specs.Limits.{Limits, base}
+use Rattle.base.proofs.Laws.{cases}
+use Rattle.base.proofs.Limits.{fits-base}
+use Rattle.node.specs.Answers.{Given, Outcome, outcomeNumber, refused}
 use Rattle.node.specs.declared.Node.{Node}
-use Rattle.node.specs.declared.Reply.{Reply}
-use Rattle.words.specs.Words.{packed, unpacked, isPacked}
-use Rattle.words.specs.Held.{held}
-use Rattle.words.specs.declared.Held.{Held}
-use Rattle.words.proofs.RoundTrip.{packed-unpacked}
+use Rattle.layout.specs.Held as held
+use Rattle.layout.specs.Held.{dimsOf, isWhole, isReady, unpacked, holding}
+use Rattle.layout.proofs.Whole.{whole, few}
 use Rattle.barrier_c.specs.Exports.{answerOn, wordsOn}
 
-module _ (ws : List ℕ) (h : Held) (e : h ≡ held ws) where
-  -- what the reader of words says of them
-  pub no-state : h .ok ≡ false → isPacked ws ≡ false
-  no-state q = sym (ap (λ (x : Held). x .ok) e) ∙ q
+-- the words lent for the sums are enough for every board
+pub roomy : (ws : List ℕ) → isReady base 18 ws ≡ isWhole base ws
+roomy ws = go (isWhole base ws) refl
+  where
+    go : (t : Bool) → isWhole base ws ≡ t → both t (leb (2 * dimsOf ws + 2) 18) ≡ t
+    go true e =
+        let l = few base fits-base ws (whole base ws e .board) in
+        le-leb (2 * dimsOf ws + 2) 18 (omega arith)
+    go false e = refl
 
-  pub a-state : h .ok ≡ true → isPacked ws ≡ true
-  a-state q = sym (ap (λ (x : Held). x .ok) e) ∙ q
-
-  pub its-node : h .ok ≡ true → h .node ≡ unpacked ws
-  its-node q = ap (λ (x : Held). x .node) e ∙ choose-yes _ _ (a-state q)
-
-  pub not-called : (call : Node → Given Outcome) → h .ok ≡ false → (13 ≡ answerOn call ws) × (ws ≡ wordsOn call ws)
-  not-called call q = (sym (choose-no _ _ (no-state q)), sym (choose-no _ _ (no-state q)))
-
-  pub called : (call : Node → Given Outcome) (reply : Reply) (x : ℕ) (l : List ℕ) → h .ok ≡ true
-      → replied reply ≡ call (h .node) → (x ≡ outcomeNumber (outcomeOf (reply .answer))) × (l ≡ packed (reply .node))
-      → (x ≡ answerOn call ws) × (l ≡ wordsOn call ws)
-  called call reply x l q r g =
-      let s : replied reply ≡ call (unpacked ws) = r ∙ ap call (its-node q) in (
-        g .0 ∙ ap (λ (o : Given Outcome). outcomeNumber (o .answer)) s ∙ sym (choose-yes _ _ (a-state q)),
-        g .1 ∙ ap (λ (o : Given Outcome). packed (o .node)) s ∙ sym (choose-yes _ _ (a-state q)),
-      )
-
--- a call that gives back the state it got leaves the words as they were
-pub words-stay : (call : Node → Given Outcome) (ws : List ℕ) → length ws ≡ 200 → call (unpacked ws) .node ≡ unpacked ws
-    → wordsOn call ws ≡ ws
-words-stay call ws e s = cases (λ l. l ≡ ws) (isPacked ws) _ _ (λ r. ap packed s ∙ packed-unpacked ws e r) (λ r. refl)
+-- a call of the crates below on these words
+pub called : (L : Limits) → L ≡ base → (call : Limits → Node → Given Outcome) (ws after : List ℕ) (o : Outcome) (x : ℕ)
+    → (o ≡ held.answerOn L 18 (call L) ws) × (after ≡ held.wordsOn L 18 (call L) ws)
+    → x ≡ outcomeNumber o
+    → (x ≡ answerOn base (call base) ws) × (after ≡ wordsOn base (call base) ws)
+called L e call ws after o x q r =
+    let a : o ≡ held.answerOn base 18 (call base) ws = rw e at (q .0) in
+    let w : after ≡ held.wordsOn base 18 (call base) ws = rw e at (q .1) in
+    let n : outcomeNumber (held.answerOn base 18 (call base) ws) ≡ answerOn base (call base) ws =
+    ap (λ t. outcomeNumber (choose t (call base (unpacked ws) .answer) (refused 13))) (roomy ws)
+    ∙ cases
+    (λ (z : Outcome). outcomeNumber z ≡ answerOn base (call base) ws) (isWhole base ws) _ _
+    (λ t. rw t) (λ t. rw t) in
+    (r ∙ ap outcomeNumber a ∙ n, w ∙ ap (λ t. choose t (holding ws (call base (unpacked ws) .node)) ws) (roomy ws))

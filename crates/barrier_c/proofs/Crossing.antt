@@ -1,86 +1,81 @@
--- Laws of the barrier call on words: all that it leaves in lent memory, where they hold a state and where none.
+-- Laws of the barrier call on words: this build's limits, and all that the call leaves in lent memory.
 use mathlib.Core.Path.{_≡_, refl, sym, ap, _∙_}
-use mathlib.Core.Bool.{true, false}
-use mathlib.Core.List.{List, [], _∷_}
+use mathlib.Core.Bool.{Bool, true, false}
+use mathlib.Core.List.{List}
 use Prim.Native.Nat.{ℕ}
 use lib.ListN.{length, getD}
 use Rattle.base.specs.Choice.{choose}
-use Rattle.base.specs.Limits.{base}
-use Rattle.base.proofs.Laws.{choose-yes, choose-no}
-use Rattle.node.specs.Answers.{Given, Barrier, barrierNumber, barrierOf, barrierReplied}
+use Rattle.base.specs.Limits.{Limits, base}
+use Rattle.node.specs.Answers.{Barrier, barrierNumber, barrierOf, barred}
 use Rattle.node.specs.Barrier.{barrier, barrierBytes, clauseFails}
 use Rattle.node.specs.declared.BarrierAnswer.{BarrierAnswer}
 use Rattle.node.specs.declared.BarrierAnswer.the-variants.{Sends, Waits, Moved, Left, Refused}
-use Rattle.node.specs.declared.BarrierReply.{BarrierReply}
-use Rattle.node.specs.declared.Node.{Node}
-use Rattle.words.specs.Words.{packed, unpacked, isPacked}
-use Rattle.words.specs.Held.{held}
-use Rattle.words.specs.declared.Held.{Held}
-use Rattle.barrier_c.specs.Exports.{barrierAnswer, barrierState, barrierBuffer, barrierDetails, isClause}
-use Rattle.barrier_c.specs.Exports.{detailWords}
+use Rattle.layout.specs.Held.{isWhole, unpacked, holding}
+use Rattle.node_barrier.specs.On as below
+use Rattle.barrier_c.specs.Exports.{barrierOn, barrierState, barrierBuffer, detailWords, isClause}
 use Rattle.barrier_c.specs.Parts.{clauseOf}
-use Rattle.barrier_c.proofs.Called.{no-state, a-state, its-node}
+use Rattle.barrier_c.proofs.Called.{roomy}
 
-abbrev zeros : List ℕ
-zeros = 0 ∷ 0 ∷ 0 ∷ 0 ∷ 0 ∷ []
-
--- what the barrier call on words is to answer and to leave: the number, the words, the bytes, the details, the clause
-abbrev pub Crossed : List ℕ → List ℕ → ℕ → List ℕ → List ℕ → List ℕ → Type 0
-Crossed ws buf x state bytes details =
-    (x ≡ barrierAnswer base ws (length buf))
+-- what the exported call is to answer and to leave: the number, the words, the bytes, the details, the clause
+abbrev pub Crossed : List ℕ → List ℕ → List ℕ → ℕ → List ℕ → List ℕ → List ℕ → Type 0
+Crossed ws buf ds x state bytes details =
+    (x ≡ barrierNumber (barrierOn base ws (length buf)))
     × ((state ≡ barrierState base ws (length buf))
     × ((bytes ≡ barrierBuffer base ws buf)
-    × ((details ≡ barrierDetails base ws (length buf) (getD details 4 0))
-    × (choose (isPacked ws) (isClause base ws (getD details 4 0) (barrier base (unpacked ws) (length buf) .answer)) true
-    ≡ true))))
+    × ((details ≡ detailWords ds (getD details 4 0) (barrierOn base ws (length buf)))
+    × (isClause base ws (getD details 4 0) (barrierOn base ws (length buf)) ≡ true))))
+
+-- what the call below says
+abbrev pub Stepped : Limits → List ℕ → List ℕ → BarrierAnswer → List ℕ → List ℕ → Type 0
+Stepped L ws buf a state bytes =
+    (barrierOf a ≡ below.barrierOn L 18 ws (length buf))
+    × ((below.clauseOn L 18 ws a ≡ true)
+    × ((state ≡ below.barrierWords L 18 ws (length buf)) × (bytes ≡ below.barrierLent L 18 ws buf)))
 
 -- the clause that is named stands in the last word
-last-word : (a : BarrierAnswer)
-    → let d = detailWords (clauseOf a) (barrierOf a) in d ≡ detailWords (getD d 4 0) (barrierOf a)
-last-word (Sends to length) = refl
-last-word (Waits clause) = refl
-last-word Moved = refl
-last-word Left = refl
-last-word (Refused x) = refl
+last-word : (ds : List ℕ) (a : BarrierAnswer)
+    → let d = detailWords ds (clauseOf a) (barrierOf a) in d ≡ detailWords ds (getD d 4 0) (barrierOf a)
+last-word ds (Sends to length) = refl
+last-word ds (Waits clause) = refl
+last-word ds Moved = refl
+last-word ds Left = refl
+last-word ds (Refused x) = refl
 
-last-fails : (ws : List ℕ) (a : BarrierAnswer) → clauseFails base (unpacked ws) a ≡ true
-    → isClause base ws (getD (detailWords (clauseOf a) (barrierOf a)) 4 0) (barrierOf a) ≡ true
-last-fails ws (Sends to length) e = refl
-last-fails ws (Waits clause) e = e
-last-fails ws Moved e = refl
-last-fails ws Left e = refl
-last-fails ws (Refused x) e = refl
+last-fails : (ds ws : List ℕ) (a : BarrierAnswer) → clauseFails base (unpacked ws) a ≡ true
+    → isClause base ws (getD (detailWords ds (clauseOf a) (barrierOf a)) 4 0) (barrierOf a) ≡ true
+last-fails ds ws (Sends to length) e = refl
+last-fails ds ws (Waits clause) e = e
+last-fails ds ws Moved e = refl
+last-fails ds ws Left e = refl
+last-fails ds ws (Refused x) e = refl
 
-module _ (ws buf : List ℕ) (h : Held) (e : h ≡ held ws) where
-  pub not-crossed : h .ok ≡ false → Crossed ws buf 13 ws buf zeros
-  not-crossed q =
-      let n = no-state ws h e q in
-      let bytes : buf ≡ barrierBuffer base ws buf = sym (choose-no _ _ n) in
-      (sym (choose-no _ _ n), (sym (choose-no _ _ n), (bytes, (sym (choose-no _ _ n), choose-no _ _ n))))
+module _ (ws buf ds : List ℕ) (a : BarrierAnswer) where
+  abbrev named : Barrier → Bool
+  named o = isClause base ws (getD (detailWords ds (clauseOf a) (barrierOf a)) 4 0) o
 
-  pub crossed : (reply : BarrierReply) (x : ℕ) (state bytes details : List ℕ) → h .ok ≡ true
-      → (barrierReplied reply ≡ barrier base (h .node) (length buf))
-      × ((clauseFails base (h .node) (reply .answer) ≡ true) × (bytes ≡ barrierBytes base (h .node) buf))
-      → state ≡ packed (reply .node)
-      → (x ≡ barrierNumber (barrierOf (reply .answer)))
-      × (details ≡ detailWords (clauseOf (reply .answer)) (barrierOf (reply .answer)))
-      → Crossed ws buf x state bytes details
-  crossed reply x state bytes details q r p g =
-      let y = a-state ws h e q in
-      let n = its-node ws h e q in
-      let s : barrierReplied reply ≡ barrier base (unpacked ws) (length buf) =
-      r .0 ∙ ap (λ (m : Node). barrier base m (length buf)) n in
-      let o : barrierOf (reply .answer) ≡ barrier base (unpacked ws) (length buf) .answer =
-      ap (λ (z : Given Barrier). z .answer) s in
-      let number : x ≡ barrierAnswer base ws (length buf) = g .0 ∙ ap barrierNumber o ∙ sym (choose-yes _ _ y) in
-      let after : state ≡ barrierState base ws (length buf) =
-      p ∙ ap (λ (z : Given Barrier). packed (z .node)) s ∙ sym (choose-yes _ _ y) in
-      let lent : bytes ≡ barrierBuffer base ws buf =
-      r .1 .1 ∙ ap (λ (m : Node). barrierBytes base m buf) n ∙ sym (choose-yes _ _ y) in
-      let told : details ≡ detailWords (getD details 4 0) (barrierOf (reply .answer)) =
-      rw (g .1) (last-word (reply .answer)) in
-      let fails : isClause base ws (getD details 4 0) (barrierOf (reply .answer)) ≡ true =
-      rw (g .1) (last-fails ws (reply .answer) (rw n at (r .1 .0))) in
-      let named = ap (detailWords (getD details 4 0)) o ∙ sym (choose-yes _ _ y) in
-      let clause = choose-yes _ _ y ∙ ap (isClause base ws (getD details 4 0)) (sym o) in
-      (number, (after, (lent, (told ∙ named, clause ∙ fails))))
+  -- where the words hold no state the answer is a refusal, which names no clause
+  clause-named : (o : barrierOf a ≡ barrierOn base ws (length buf))
+      → choose (isWhole base ws) (clauseFails base (unpacked ws) a) true ≡ true
+      → named (barrierOn base ws (length buf)) ≡ true
+  clause-named o f = go (isWhole base ws) refl f
+    where
+      go : (t : Bool) → isWhole base ws ≡ t → choose t (clauseFails base (unpacked ws) a) true ≡ true
+          → named (barrierOn base ws (length buf)) ≡ true
+      go true e g = ap named (sym o) ∙ last-fails ds ws a g
+      go false e g = rw e
+
+  pub crossed : (L : Limits) → L ≡ base → (x : ℕ) (state bytes details : List ℕ) → Stepped L ws buf a state bytes
+      → (x ≡ barrierNumber (barrierOf a)) × (details ≡ detailWords ds (clauseOf a) (barrierOf a))
+      → Crossed ws buf ds x state bytes details
+  crossed L e x state bytes details s g =
+      let q : Stepped base ws buf a state bytes = rw e at s in
+      let o : barrierOf a ≡ barrierOn base ws (length buf) =
+      q .0 ∙ ap (λ t. choose t (barrier base (unpacked ws) (length buf) .answer) (barred 13)) (roomy ws) in
+      let f : choose (isWhole base ws) (clauseFails base (unpacked ws) a) true ≡ true =
+      ap (λ t. choose t (clauseFails base (unpacked ws) a) true) (sym (roomy ws)) ∙ q .1 .0 in
+      let w = q .1 .1 .0 ∙ ap (λ t. choose t (holding ws (barrier base (unpacked ws) (length buf) .node)) ws) (roomy ws) in
+      let l = q .1 .1 .1 ∙ ap (λ t. choose t (barrierBytes base (unpacked ws) buf) buf) (roomy ws) in
+      let told : details ≡ detailWords ds (getD details 4 0) (barrierOf a) = rw (g .1) (last-word ds a) in
+      let clause : isClause base ws (getD details 4 0) (barrierOn base ws (length buf)) ≡ true =
+      rw (g .1) (clause-named o f) in
+      (g .0 ∙ ap barrierNumber o, (w, (l, (told ∙ ap (detailWords ds (getD details 4 0)) o, clause))))

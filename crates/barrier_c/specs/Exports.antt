@@ -14,25 +14,19 @@ use Rattle.node.specs.Agree.{clauses, mayName}
 use Rattle.node.specs.Answers.{Given, Outcome, outcomeNumber, Barrier, sent, waits, moved, left, barred, barrierNumber}
 use Rattle.node.specs.Barrier.{barrier, barrierBytes}
 use Rattle.node.specs.declared.Node.{Node}
-use Rattle.words.specs.Words.{packed, unpacked, isPacked}
+use Rattle.layout.specs.Held.{unpacked, isWhole, holding}
 use Rattle.words.specs.Fields.{fieldWords, frameFrom, isFields}
 
--- words that are no state give 13
+-- words that are no state, or too few for the board that they name, give 13
 abbrev pub noState : ℕ
 noState = number Refusal.state
 
 -- a call on words: its answer's number, and the words after it
-abbrev pub answerOn : (Node → Given Outcome) → List ℕ → ℕ
-answerOn call ws = choose (isPacked ws) (outcomeNumber (call (unpacked ws) .answer)) noState
+abbrev pub answerOn : Limits → (Node → Given Outcome) → List ℕ → ℕ
+answerOn L call ws = choose (isWhole L ws) (outcomeNumber (call (unpacked ws) .answer)) noState
 
-abbrev pub wordsOn : (Node → Given Outcome) → List ℕ → List ℕ
-wordsOn call ws = choose (isPacked ws) (packed (call (unpacked ws) .node)) ws
-
--- fresh: the words are written where the call is done
-abbrev pub freshWords : Given Outcome → List ℕ → Outcome → List ℕ
-freshWords r ws Outcome.done = packed (r .node)
-freshWords r ws Outcome.dropped = ws
-freshWords r ws (Outcome.refused x) = ws
+abbrev pub wordsOn : Limits → (Node → Given Outcome) → List ℕ → List ℕ
+wordsOn L call ws = choose (isWhole L ws) (holding ws (call (unpacked ws) .node)) ws
 
 -- a lookup: its number, 0 where it is found
 abbrev pub lookupNumber : {A : Type 0} → Answered A → ℕ
@@ -55,14 +49,15 @@ placeWords (found (messenger b h)) ws = 3 ∷ b ∷ h ∷ []
 
 -- ---- The barrier call on words
 
-abbrev pub barrierAnswer : Limits → List ℕ → ℕ → ℕ
-barrierAnswer L ws room = choose (isPacked ws) (barrierNumber (barrier L (unpacked ws) room .answer)) noState
+-- its answer
+abbrev pub barrierOn : Limits → List ℕ → ℕ → Barrier
+barrierOn L ws room = choose (isWhole L ws) (barrier L (unpacked ws) room .answer) (barred noState)
 
 abbrev pub barrierState : Limits → List ℕ → ℕ → List ℕ
-barrierState L ws room = choose (isPacked ws) (packed (barrier L (unpacked ws) room .node)) ws
+barrierState L ws room = choose (isWhole L ws) (holding ws (barrier L (unpacked ws) room .node)) ws
 
 abbrev pub barrierBuffer : Limits → List ℕ → List ℕ → List ℕ
-barrierBuffer L ws buf = choose (isPacked ws) (barrierBytes L (unpacked ws) buf) buf
+barrierBuffer L ws buf = choose (isWhole L ws) (barrierBytes L (unpacked ws) buf) buf
 
 -- five words: how many receivers, the first, the second, the frame's length, and the clause that a wait names
 abbrev pub receiverWords : List ℕ → ℕ → List ℕ
@@ -70,17 +65,13 @@ receiverWords [] length = 0 ∷ 0 ∷ 0 ∷ length ∷ 0 ∷ []
 receiverWords (a ∷ []) length = 1 ∷ a ∷ 0 ∷ length ∷ 0 ∷ []
 receiverWords (a ∷ b ∷ l) length = 2 ∷ a ∷ b ∷ length ∷ 0 ∷ []
 
--- by the answer, and the clause for a wait
-abbrev pub detailWords : ℕ → Barrier → List ℕ
-detailWords clause (sent to length) = receiverWords to length
-detailWords clause waits = 0 ∷ 0 ∷ 0 ∷ 0 ∷ clause ∷ []
-detailWords clause moved = 0 ∷ 0 ∷ 0 ∷ 0 ∷ 0 ∷ []
-detailWords clause left = 0 ∷ 0 ∷ 0 ∷ 0 ∷ 0 ∷ []
-detailWords clause (barred x) = 0 ∷ 0 ∷ 0 ∷ 0 ∷ 0 ∷ []
-
-abbrev pub barrierDetails : Limits → List ℕ → ℕ → ℕ → List ℕ
-barrierDetails L ws room clause =
-    choose (isPacked ws) (detailWords clause (barrier L (unpacked ws) room .answer)) (0 ∷ 0 ∷ 0 ∷ 0 ∷ 0 ∷ [])
+-- by the answer, and the clause for a wait; the words stay where the call is refused
+abbrev pub detailWords : List ℕ → ℕ → Barrier → List ℕ
+detailWords ds clause (sent to length) = receiverWords to length
+detailWords ds clause waits = 0 ∷ 0 ∷ 0 ∷ 0 ∷ clause ∷ []
+detailWords ds clause moved = 0 ∷ 0 ∷ 0 ∷ 0 ∷ 0 ∷ []
+detailWords ds clause left = 0 ∷ 0 ∷ 0 ∷ 0 ∷ 0 ∷ []
+detailWords ds clause (barred x) = ds
 
 -- the clause that a wait names is one that fails
 abbrev pub isClause : Limits → List ℕ → ℕ → Barrier → Bool

@@ -1,27 +1,39 @@
-// What a maker links: the calls over a state that the caller lends as 200 words, answers as document 01's numbers.
+// What a maker links: the calls in place on a state that the caller lends as words, answers as numbers.
 ghost use mathlib.Core.Path.{_≡_};
 ghost use mathlib.Core.Bool.{true};
 ghost use lib.ListN.{length, getD};
 ghost use Rattle.base.specs.Choice.{choose};
-ghost use Rattle.base.specs.Limits.{base};
+ghost use Rattle.base.specs.Limits.{base, limitsOf};
 ghost use Rattle.tree.specs.Lookups.{dimensionLookup, placeLookup, distanceLookup, foundAnswer, placedAnswer};
 ghost use Rattle.tree.specs.Lookups.{badBoard};
 ghost use Rattle.frame.specs.Frame.{readFrame};
 ghost use Rattle.node.specs.Answers.{outcomeNumber, outcomeOf, barrierNumber, barrierOf};
-ghost use Rattle.node.specs.Barrier.{barrier};
-ghost use Rattle.node.specs.Calls.{fresh, send, take, idle, frameIn};
-ghost use Rattle.words.specs.Words.{packed, unpacked, isPacked};
-ghost use Rattle.barrier_c.specs.Exports.{answerOn, wordsOn, freshWords, lookupNumber, numberWords, placeWords};
-ghost use Rattle.barrier_c.specs.Exports.{barrierAnswer, barrierState, barrierBuffer, barrierDetails, isClause};
-ghost use Rattle.barrier_c.specs.Exports.{detailWords, writeOn, writtenOn, frameWords};
+ghost use Rattle.node.specs.Calls.{send, take, idle, frameIn};
+ghost use Rattle.node_calls.specs.Fresh.{freshOn, freshWords};
+ghost use Rattle.barrier_c.specs.Exports.{answerOn, wordsOn, lookupNumber, numberWords, placeWords};
+ghost use Rattle.barrier_c.specs.Exports.{barrierOn, barrierState, barrierBuffer, detailWords, isClause};
+ghost use Rattle.barrier_c.specs.Exports.{writeOn, writtenOn, frameWords};
 ghost use Rattle.barrier_c.specs.Parts.{clauseOf};
+use base::Bounds;
 use frame::Outcome;
 use node::Answer;
 use node::BarrierAnswer;
 use node::Extra;
-use node::Reply;
 use tree::Found;
 use tree::Placed;
+
+// The words in which a call gathers the sums of the largest board.
+const SUMS: usize = 18;
+
+// The limits of this build.
+fn limits() -> Bounds
+    ensures { λ r. ⌜ limitsOf r ≡ base ⌝ }
+{
+    Bounds {
+        last: 255,
+        sends: 65535,
+    }
+}
 
 // ---- Exported: the calls on a state
 
@@ -36,95 +48,62 @@ fn number_of(answer: Answer) -> u32
     }
 }
 
-// Puts the state of a reply and answers its number.
-fn answer_reply(reply: Reply, state: &mut [u32; 200]) -> u32
-    ensures answer { λ r. ⌜ r ≡ outcomeNumber (outcomeOf (reply .answer)) ⌝ }
-    ensures memory { λ r. ⌜ now (state .exit) ≡ packed (reply .node) ⌝ }
-{
-    let node = reply.node;
-    let answer = reply.answer;
-    words::pack(state, node);
-    number_of(answer)
-}
-
-// A node that has just started. Refuses 1, 2.
+// A node that has just started. Refuses 1, 2, 13.
 #[no_mangle]
-pub extern "C" fn ocb_fresh(state: &mut [u32; 200], nodes: u32, number: u32) -> u32
-    ensures answer { λ r. ⌜ r ≡ outcomeNumber (fresh base nodes number .answer) ⌝ }
-    ensures memory { λ r.
-        ⌜ now (state .exit) ≡ freshWords (fresh base nodes number) (now (state .entry)) (fresh base nodes number .answer) ⌝ }
+pub extern "C" fn ocb_fresh(state: &mut [u32], nodes: u32, number: u32) -> u32
+    ensures answer { λ r. ⌜ r ≡ outcomeNumber (freshOn base nodes number (now (state .entry))) ⌝ }
+    ensures memory { λ r. ⌜ now (state .exit) ≡ freshWords base nodes number (now (state .entry)) ⌝ }
 {
-    let reply = calls::fresh_node(nodes, number);
-    let answer = reply.answer;
-    match answer {
-        Answer::Done => answer_reply(reply, state),
-        Answer::Dropped => 24,
-        Answer::Refused(no) => no as u32,
-    }
+    number_of(node_calls::fresh(limits(), state, nodes, number))
 }
 
 // One message more is sent to a node. Refuses 13, 2, 3, 4, 5.
 #[no_mangle]
-pub extern "C" fn ocb_send(state: &mut [u32; 200], to: u32) -> u32
-    ensures answer { λ r. ⌜ r ≡ answerOn (λ n. send base n to) (now (state .entry)) ⌝ }
-    ensures memory { λ r. ⌜ now (state .exit) ≡ wordsOn (λ n. send base n to) (now (state .entry)) ⌝ }
+pub extern "C" fn ocb_send(state: &mut [u32], to: u32) -> u32
+    ensures answer { λ r. ⌜ r ≡ answerOn base (λ n. send base n to) (now (state .entry)) ⌝ }
+    ensures memory { λ r. ⌜ now (state .exit) ≡ wordsOn base (λ n. send base n to) (now (state .entry)) ⌝ }
 {
-    let held = words::unpack(&*state);
-    if !held.ok {
-        return 13;
-    }
-    let n = held.node;
-    answer_reply(calls::send_to(n, to), state)
+    let mut sums = [0u32; SUMS];
+    number_of(node_calls::send_to(limits(), state, &mut sums, to))
 }
 
 // A message from a node, with its phase byte, is taken. Refuses 13, 2, 3, 7 or 8, 6.
 #[no_mangle]
-pub extern "C" fn ocb_take(state: &mut [u32; 200], from: u32, phase: u8) -> u32
-    ensures answer { λ r. ⌜ r ≡ answerOn (λ n. take base n from phase) (now (state .entry)) ⌝ }
-    ensures memory { λ r. ⌜ now (state .exit) ≡ wordsOn (λ n. take base n from phase) (now (state .entry)) ⌝ }
+pub extern "C" fn ocb_take(state: &mut [u32], from: u32, phase: u8) -> u32
+    ensures answer { λ r. ⌜ r ≡ answerOn base (λ n. take base n from phase) (now (state .entry)) ⌝ }
+    ensures memory { λ r. ⌜ now (state .exit) ≡ wordsOn base (λ n. take base n from phase) (now (state .entry)) ⌝ }
 {
-    let held = words::unpack(&*state);
-    if !held.ok {
-        return 13;
-    }
-    let n = held.node;
-    answer_reply(calls::take_from(n, from, phase), state)
+    let mut sums = [0u32; SUMS];
+    number_of(node_calls::take_from(limits(), state, &mut sums, from, phase))
 }
 
 // The node has run out of work. Refuses 13.
 #[no_mangle]
-pub extern "C" fn ocb_idle(state: &mut [u32; 200]) -> u32
-    ensures answer { λ r. ⌜ r ≡ answerOn (λ n. idle base n) (now (state .entry)) ⌝ }
-    ensures memory { λ r. ⌜ now (state .exit) ≡ wordsOn (λ n. idle base n) (now (state .entry)) ⌝ }
+pub extern "C" fn ocb_idle(state: &mut [u32]) -> u32
+    ensures answer { λ r. ⌜ r ≡ answerOn base (λ n. idle base n) (now (state .entry)) ⌝ }
+    ensures memory { λ r. ⌜ now (state .exit) ≡ wordsOn base (λ n. idle base n) (now (state .entry)) ⌝ }
 {
-    let held = words::unpack(&*state);
-    if !held.ok {
-        return 13;
-    }
-    let n = held.node;
-    answer_reply(calls::go_idle(n), state)
+    let mut sums = [0u32; SUMS];
+    number_of(node_calls::go_idle(limits(), state, &mut sums))
 }
 
 // A frame has come. Refuses 13, 9, 10, 2, 3, 11, 7, 8.
 #[no_mangle]
-pub extern "C" fn ocb_frame_in(state: &mut [u32; 200], bytes: &[u8]) -> u32
-    ensures answer { λ r. ⌜ r ≡ answerOn (λ n. frameIn base n (now (bytes .entry))) (now (state .entry)) ⌝ }
-    ensures memory { λ r. ⌜ now (state .exit) ≡ wordsOn (λ n. frameIn base n (now (bytes .entry))) (now (state .entry)) ⌝ }
+pub extern "C" fn ocb_frame_in(state: &mut [u32], bytes: &[u8]) -> u32
+    ensures answer { λ r. ⌜ r ≡ answerOn base (λ n. frameIn base n (now (bytes .entry))) (now (state .entry)) ⌝ }
+    ensures memory { λ r. ⌜ now (state .exit) ≡ wordsOn base (λ n. frameIn base n (now (bytes .entry))) (now (state .entry)) ⌝ }
 {
-    let held = words::unpack(&*state);
-    if !held.ok {
-        return 13;
-    }
-    let n = held.node;
-    answer_reply(calls::frame_in(n, bytes), state)
+    let mut sums = [0u32; SUMS];
+    number_of(node_frames::frame_in(limits(), state, &mut sums, bytes))
 }
 
 // ---- Exported: the barrier call
 
-// Puts what an answer says beside its number, and answers the number.
+// Puts what an answer says beside its number, and answers the number. A refusal puts nothing.
 fn answer_barrier(answer: BarrierAnswer, details: &mut [u32; 5]) -> u32
     ensures answer { λ r. ⌜ r ≡ barrierNumber (barrierOf answer) ⌝ }
-    ensures memory { λ r. ⌜ now (details .exit) ≡ detailWords (clauseOf answer) (barrierOf answer) ⌝ }
+    ensures memory { λ r.
+        ⌜ now (details .exit) ≡ detailWords (now (details .entry)) (clauseOf answer) (barrierOf answer) ⌝ }
 {
     match answer {
         BarrierAnswer::Sends(to, length) => {
@@ -152,39 +131,27 @@ fn answer_barrier(answer: BarrierAnswer, details: &mut [u32; 5]) -> u32
             *details = [0; 5];
             23
         }
-        BarrierAnswer::Refused(no) => {
-            *details = [0; 5];
-            no as u32
-        }
+        BarrierAnswer::Refused(no) => no as u32,
     }
 }
 
 // One step of an idle node: sends its frame, moves on, leaves or waits. Refuses 13, 12, 14.
 #[no_mangle]
-pub extern "C" fn ocb_barrier(state: &mut [u32; 200], buf: &mut [u8], details: &mut [u32; 5]) -> u32
-    ensures answer { λ r. ⌜ r ≡ barrierAnswer base (now (state .entry)) (length (now (buf .entry))) ⌝ }
+pub extern "C" fn ocb_barrier(state: &mut [u32], buf: &mut [u8], details: &mut [u32; 5]) -> u32
+    ensures answer { λ r. ⌜ r ≡ barrierNumber (barrierOn base (now (state .entry)) (length (now (buf .entry)))) ⌝ }
     ensures state { λ r. ⌜ now (state .exit) ≡ barrierState base (now (state .entry)) (length (now (buf .entry))) ⌝ }
     ensures buffer { λ r. ⌜ now (buf .exit) ≡ barrierBuffer base (now (state .entry)) (now (buf .entry)) ⌝ }
     ensures details { λ r.
         ⌜ now (details .exit)
-        ≡ barrierDetails base (now (state .entry)) (length (now (buf .entry))) (getD (now (details .exit)) 4 0) ⌝ }
+        ≡ detailWords (now (details .entry)) (getD (now (details .exit)) 4 0)
+        (barrierOn base (now (state .entry)) (length (now (buf .entry)))) ⌝ }
     ensures clause { λ r.
-        ⌜ choose (isPacked (now (state .entry)))
-        (isClause base (now (state .entry)) (getD (now (details .exit)) 4 0)
-        (barrier base (unpacked (now (state .entry))) (length (now (buf .entry))) .answer))
-        true
+        ⌜ isClause base (now (state .entry)) (getD (now (details .exit)) 4 0)
+        (barrierOn base (now (state .entry)) (length (now (buf .entry))))
         ≡ true ⌝ }
 {
-    let held = words::unpack(&*state);
-    if !held.ok {
-        *details = [0; 5];
-        return 13;
-    }
-    let n = held.node;
-    let reply = barrier::barrier_call(n, buf);
-    let after = reply.node;
-    let answer = reply.answer;
-    words::pack(state, after);
+    let mut sums = [0u32; SUMS];
+    let answer = node_barrier::step(limits(), state, &mut sums, buf);
     answer_barrier(answer, details)
 }
 

@@ -15,8 +15,7 @@ use Rattle.frame.specs.Frame.{sentNumber, takenNumber, sentAt, takenAt}
 use Rattle.frame.specs.Parts.{pasted}
 use Rattle.frame.specs.declared.Frame.{Frame}
 use Rattle.words.specs.Fields.{scalarWords, fieldWords, frameFrom, isFields}
-use Rattle.words.proofs.Rows.{row-more, pasted-whole}
-use Rattle.words.proofs.RoundTrip.{listed}
+use Rattle.words.proofs.Rows.{row-more, pasted-whole, listed}
 
 -- ---- The test
 

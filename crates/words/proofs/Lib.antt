@@ -1,5 +1,3 @@
 pub mod Rows
 pub mod Filling
-pub mod Ranges
-pub mod RoundTrip
 pub mod Fields

@@ -1,4 +1,2 @@
-pub mod Words
-pub mod Held
 pub mod Fields
 pub mod Parts

@@ -1,29 +1,20 @@
 -- `ocb_frame_in` answers `frameIn` on the words.
 use borrow.Author.Needs.{needs}
-use borrow.Author.Tests.{not-true, not-false}
 use denote.Ref.{now}
-use Rattle.base.specs.Limits.{base}
 use Rattle.node.specs.Calls.{frameIn}
-use Rattle.barrier_c.proofs.Called.{not-called, called}
+use Rattle.barrier_c.proofs.Called.{called}
 use Rattle.barrier_c.proofs.ocb_frame_in.Statement.{statement}
 use Rattle.barrier_c.proofs.ocb_frame_in.Tie as tie
 
 returns : tie.Need-returns
 returns c =
-    let u = c .before .before in
-    let a = u .before .before .before .args in
-    not-called _ _ (u .unpack .ensures) (λ n. frameIn base n (now (a .bytes))) (not-true _ (c .if1 .taken))
-
-returns-2 : tie.Need-returns-2
-returns-2 c =
-    let r = c .before .before in
-    let o = r .before .before in
-    let u = o .before .before in
-    let a = u .before .before .before .args in
-    called _ _ (u .unpack .ensures) (λ n. frameIn base n (now (a .bytes))) (r .frame-in .result) _ _
-    (not-false _ (o .if1 .left)) (r .frame-in .ensures) (c .answer-reply .ensures)
+    let s = c .before .before .before .before in
+    let l = s .before .before .before in
+    let a = l .before .before .before .args in
+    called _ (l .limits .ensures) (λ L n. frameIn L n (now (a .bytes))) _ _ _ _ (s .frame-in .ensures) (c .number-of .ensures)
 
 pub ocb-frame-in-spec : {M : Type 1} → statement M
 ocb-frame-in-spec =
     tie.close
-    (tie.spec (λ c κs. search needs) returns (λ c κs. search needs) (λ c κs. search needs) returns-2)
+    (tie.spec (λ c κs. search needs) (λ c. search needs) (λ c κs. search needs) (λ c κs. search needs)
+    (λ c. search needs) returns)

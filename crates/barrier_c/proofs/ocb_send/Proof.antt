@@ -1,28 +1,19 @@
 -- `ocb_send` answers `send` on the words.
 use borrow.Author.Needs.{needs}
-use borrow.Author.Tests.{not-true, not-false}
-use Rattle.base.specs.Limits.{base}
 use Rattle.node.specs.Calls.{send}
-use Rattle.barrier_c.proofs.Called.{not-called, called}
+use Rattle.barrier_c.proofs.Called.{called}
 use Rattle.barrier_c.proofs.ocb_send.Statement.{statement}
 use Rattle.barrier_c.proofs.ocb_send.Tie as tie
 
 returns : tie.Need-returns
 returns c =
-    let u = c .before .before in
-    let a = u .before .before .args in
-    not-called _ _ (u .unpack .ensures) (λ n. send base n (a .to)) (not-true _ (c .if1 .taken))
-
-returns-2 : tie.Need-returns-2
-returns-2 c =
-    let r = c .before .before in
-    let o = r .before .before in
-    let u = o .before .before in
-    let a = u .before .before .args in
-    called _ _ (u .unpack .ensures) (λ n. send base n (a .to)) (r .send-to .result) _ _
-    (not-false _ (o .if1 .left)) (r .send-to .ensures) (c .answer-reply .ensures)
+    let s = c .before .before .before .before in
+    let l = s .before .before .before in
+    let a = l .before .before .args in
+    called _ (l .limits .ensures) (λ L n. send L n (a .to)) _ _ _ _ (s .send-to .ensures) (c .number-of .ensures)
 
 pub ocb-send-spec : {M : Type 1} → statement M
 ocb-send-spec =
     tie.close
-    (tie.spec (λ c κs. search needs) returns (λ c κs. search needs) (λ c κs. search needs) returns-2)
+    (tie.spec (λ c κs. search needs) (λ c. search needs) (λ c κs. search needs) (λ c κs. search needs)
+    (λ c. search needs) returns)
