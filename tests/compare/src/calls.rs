@@ -1,6 +1,6 @@
 //! Calls on one state: the answer, the state given back, and the lent bytes.
 
-use crate::library::{self, c_array, Words};
+use crate::library::{self, at, c_array, Words};
 use crate::report::{held, must, same, Difference, Report};
 use model::node::{self, Answer, Barrier, Node};
 use model::random::Random;
@@ -15,15 +15,15 @@ fn modelled(words: &Words, call: impl FnOnce(Node) -> (Node, Answer)) -> (u32, W
     match library::node_of(words) {
         Some(state) => {
             let (after, answer) = call(state);
-            (u32::from(answer.number()), library::words_of(&after))
+            (u32::from(answer.number()), library::holding(words, &after))
         }
-        None => (13, *words),
+        None => (13, words.clone()),
     }
 }
 
 /// An answer, and the words that a call changed.
 fn told(before: &Words, (answer, after): &(u32, Words)) -> String {
-    let changed: Vec<String> = (0..library::WORDS)
+    let changed: Vec<String> = (0..before.len())
         .filter(|&at| before[at] != after[at])
         .map(|at| format!("word {at} from {} to {}", before[at], after[at]))
         .collect();
@@ -32,7 +32,7 @@ fn told(before: &Words, (answer, after): &(u32, Words)) -> String {
 
 /// A call on a state, in C.
 fn in_c(before: &Words, call: &str) -> String {
-    format!("uint32_t state[OCB_STATE_WORDS] = {}; {call}", c_array(before))
+    format!("uint32_t state[] = {}; size_t words = {}; {call}", c_array(before), before.len())
 }
 
 /// Answers and states of both sides are the same.
@@ -51,40 +51,43 @@ fn agree(
 }
 
 pub fn send(report: &mut Report, words: &mut Words, to: u32) -> Result<u32, Difference> {
-    let before = *words;
+    let before = words.clone();
     let answer = library::send(words, to);
     report.answer("send", answer);
     let model = modelled(&before, |state| node::send(state, to));
-    agree("send", &before, (answer, *words), model, || format!("ocb_send(state, {to}u);"))
+    agree("send", &before, (answer, words.clone()), model, || format!("ocb_send(state, words, {to}u);"))
 }
 
 pub fn take(report: &mut Report, words: &mut Words, from: u32, phase: u8) -> Result<u32, Difference> {
-    let before = *words;
+    let before = words.clone();
     let answer = library::take(words, from, phase);
     report.answer("take", answer);
     let model = modelled(&before, |state| node::take(state, from, phase));
-    agree("take", &before, (answer, *words), model, || format!("ocb_take(state, {from}u, {phase});"))
+    agree("take", &before, (answer, words.clone()), model, || format!("ocb_take(state, words, {from}u, {phase});"))
 }
 
 pub fn idle(report: &mut Report, words: &mut Words) -> Result<u32, Difference> {
-    let before = *words;
+    let before = words.clone();
     let answer = library::idle(words);
     report.answer("idle", answer);
-    agree("idle", &before, (answer, *words), modelled(&before, node::idle), || "ocb_idle(state);".to_string())
+    agree("idle", &before, (answer, words.clone()), modelled(&before, node::idle), || "ocb_idle(state, words);".to_string())
 }
 
 pub fn frame_in(report: &mut Report, words: &mut Words, bytes: &[u8]) -> Result<u32, Difference> {
-    let before = *words;
+    let before = words.clone();
     let answer = library::frame_in(words, bytes);
     report.answer("frame in", answer);
     let model = modelled(&before, |state| node::frame_in(state, bytes));
-    agree("frame in", &before, (answer, *words), model, || {
+    agree("frame in", &before, (answer, words.clone()), model, || {
         let count = bytes.len();
-        format!("uint8_t bytes[] = {}; ocb_frame_in(state, bytes, {count});", c_array(bytes))
+        format!("uint8_t bytes[] = {}; ocb_frame_in(state, words, bytes, {count});", c_array(bytes))
     })
 }
 
-/// The five words beside a barrier answer, for the clause that the library named.
+/// What a caller has in the five words beside a barrier answer before the call.
+const LENT: [u32; 5] = [0xa5a5_a5a5; 5];
+
+/// The five words beside a barrier answer, for the clause that the library named; they stay where it refuses.
 fn details_of(answer: &Barrier, clause: u32) -> [u32; 5] {
     match answer {
         Barrier::Sent { receivers, length } => {
@@ -92,30 +95,31 @@ fn details_of(answer: &Barrier, clause: u32) -> [u32; 5] {
             [receivers.len() as u32, receivers[0], second, *length as u32, 0]
         }
         Barrier::Waits { .. } => [0, 0, 0, 0, clause],
+        Barrier::Refused(_) => LENT,
         _ => [0; 5],
     }
 }
 
 /// A barrier call with so many bytes lent, up to 128, in the middle of a pattern.
 pub fn barrier(report: &mut Report, words: &mut Words, room: usize) -> Result<u32, Difference> {
-    let before = *words;
+    let before = words.clone();
     let (mut ours, mut theirs) = (library::pattern::<ROOM>(), library::pattern::<ROOM>());
     let lent = GUARD..GUARD + room;
-    let mut details = [0xa5a5_a5a5; 5];
+    let mut details = LENT;
     let answer = library::barrier(words, &mut ours[lent.clone()], &mut details);
     report.answer("barrier", answer);
     let (after, model) = match library::node_of(&before) {
         Some(state) => {
             let (after, model) = node::barrier(state, &mut theirs[lent]);
-            (library::words_of(&after), model)
+            (library::holding(&before, &after), model)
         }
-        None => (before, Barrier::Refused(13)),
+        None => (before.clone(), Barrier::Refused(13)),
     };
     let call = || {
         let lent = "uint8_t buffer[128]; uint32_t details[OCB_DETAIL_WORDS];";
-        format!("{lent} ocb_barrier(state, buffer, {room}, details);")
+        format!("{lent} ocb_barrier(state, words, buffer, {room}, details);")
     };
-    agree("barrier", &before, (answer, *words), (u32::from(model.number()), after), call)?;
+    agree("barrier", &before, (answer, words.clone()), (u32::from(model.number()), after), call)?;
     held("barrier details", &details, &details_of(&model, details[4]), || in_c(&before, &call()))?;
     held("barrier bytes", &ours, &theirs, || in_c(&before, &call()))?;
     if let Barrier::Waits { failing } = model {
@@ -129,15 +133,15 @@ pub fn barrier(report: &mut Report, words: &mut Words, room: usize) -> Result<u3
 /// Every call once on a copy of a state, with arguments good and bad.
 pub fn every(report: &mut Report, random: &mut Random, words: &Words, frames: &[Vec<u8>]) {
     report.count("states handed");
-    let nodes = words[0].clamp(1, 256);
+    let nodes = words.first().map_or(1, |&nodes| nodes.clamp(1, 256));
     let other = match random.below(6) {
-        0 => words[1],
+        0 => words.get(at::NUMBER).copied().unwrap_or(0),
         1 => nodes,
         2 => u32::MAX - random.below(2),
         _ => random.below(nodes),
     };
     must(send(report, &mut words.clone(), other));
-    let phase = (words[2] as u8).wrapping_add([0, 0, 0, 1, 255, 2][random.below(6) as usize]);
+    let phase = (words.get(at::PHASE).copied().unwrap_or(0) as u8).wrapping_add([0, 0, 0, 1, 255, 2][random.below(6) as usize]);
     must(take(report, &mut words.clone(), other, phase));
     must(idle(report, &mut words.clone()));
     must(barrier(report, &mut words.clone(), random.below(80) as usize));
@@ -161,55 +165,101 @@ fn spoilt(random: &mut Random, frame: &[u8]) -> Vec<u8> {
     frame
 }
 
-/// A state with one word changed.
+/// A state with one word changed, or with other words after it, or with fewer words.
 pub fn changed(random: &mut Random, words: &Words) -> Words {
-    let mut words = *words;
-    let at = if random.below(2) == 0 { random.below(24) } else { random.below(200) } as usize;
-    words[at] = match random.below(7) {
+    let mut words = words.clone();
+    match random.below(12) {
+        0 => words.push(random.draw() as u32),
+        1 => words.truncate(random.below(words.len() as u32 + 1) as usize),
+        _ => change_one(random, &mut words),
+    }
+    words
+}
+
+fn change_one(random: &mut Random, words: &mut Words) {
+    let count = words.len() as u32;
+    let end = if random.below(2) == 0 { count.min(24) } else { count };
+    if end == 0 {
+        return;
+    }
+    let word = &mut words[random.below(end) as usize];
+    *word = match random.below(7) {
         0 => 0,
         1 => 1,
-        2 => words[at].wrapping_add(1),
-        3 => words[at].wrapping_sub(1),
+        2 => word.wrapping_add(1),
+        3 => word.wrapping_sub(1),
         4 => [255, 256, 257, 65_535, 65_536, 16_711_425, 16_776_960, 16_776_961][random.below(8) as usize],
         5 => random.below(9),
         _ => random.draw() as u32,
     };
-    words
 }
 
-/// Words at random: any at all, or each in the range of its place, with small numbers more often than not.
+/// Words at random: any at all, or each in the range of its place, with small numbers more often than not; as many as
+/// the board needs, most of the time.
 pub fn noise(random: &mut Random) -> Words {
     let any = random.below(4) == 0;
-    std::array::from_fn(|at| {
-        let small = random.below(4);
-        match at {
-            _ if any => random.draw() as u32,
-            0 => 1 + random.below(6),
-            1 | 5 => random.below(3),
-            3 | 6 => random.below(2),
-            4 => 1 + random.below(2),
-            24.. if at < 176 && (at - 24) % 19 == 0 => random.below(2),
-            176.. if (at - 176) % 3 == 0 => random.below(2),
-            _ => small / 3,
-        }
-    })
+    let nodes = if any { random.draw() as u32 } else { 1 + random.below(6) };
+    let count = match random.below(8) {
+        0 => random.below(150) as usize,
+        _ => library::words_for(nodes),
+    };
+    let marks = library::marks(nodes);
+    (0..count)
+        .map(|place| {
+            let small = random.below(4);
+            match place {
+                at::NODES => nodes,
+                _ if any => random.draw() as u32,
+                at::NUMBER | at::DIMENSION => random.below(3),
+                at::BUSY | at::FLAG => random.below(2),
+                at::PASS => 1 + random.below(2),
+                _ if marks.contains(&place) => random.below(2),
+                _ => small / 3,
+            }
+        })
+        .collect()
 }
 
-/// Fresh nodes of every board and number, good and bad.
+/// A state lent with each number of words up to one more than its board needs.
+pub fn lengths(report: &mut Report, random: &mut Random, words: &Words) {
+    for count in 0..=words.len() + 1 {
+        let mut lent = words.clone();
+        lent.resize(count, 0xa5a5_a5a5);
+        every(report, random, &lent, &[]);
+        report.count("states lent with so many words");
+    }
+}
+
+/// Fresh nodes of every board and number, good and bad, in as many words as the board needs.
 pub fn fresh(report: &mut Report) {
     for board in (0..=260).chain([65_536, u32::MAX]) {
         for number in (0..=260).chain([65_536, u32::MAX]) {
-            let mut words: Words = [0xa5a5_a5a5; library::WORDS];
-            let answer = library::fresh(&mut words, board, number);
-            let model = match node::fresh(board, number) {
-                Ok(state) => (0, library::words_of(&state)),
-                Err(number) => (u32::from(number), [0xa5a5_a5a5; library::WORDS]),
-            };
-            let again = || format!("uint32_t state[OCB_STATE_WORDS]; ocb_fresh(state, {board}u, {number}u);");
-            same("fresh", &(answer, words), &model, again);
-            report.answer("fresh", answer);
-            let bad = board == 0 || board > 256;
-            report.order("fresh", &[("1", 1, bad), ("2", 2, number >= board)], answer);
+            fresh_in(report, board, number, library::words_for(board));
         }
     }
+    for board in [1, 2, 3, 5, 16, 17, 96, 256, 257] {
+        for number in [0, board - 1, board] {
+            for count in 0..=library::words_for(board) + 1 {
+                fresh_in(report, board, number, count);
+            }
+        }
+    }
+}
+
+/// A fresh node in so many words; too few are refused with 13, after 1 and 2.
+fn fresh_in(report: &mut Report, board: u32, number: u32, count: usize) {
+    let mut words: Words = vec![0xa5a5_a5a5; count];
+    let before = words.clone();
+    let answer = library::fresh(&mut words, board, number);
+    let few = count < library::words_for(board);
+    let model = match node::fresh(board, number) {
+        Ok(_) if few => (13, before),
+        Ok(state) => (0, library::holding(&before, &state)),
+        Err(number) => (u32::from(number), before),
+    };
+    let again = || format!("uint32_t state[{count} + 1]; ocb_fresh(state, {count}, {board}u, {number}u);");
+    same("fresh", &(answer, words), &model, again);
+    report.answer("fresh", answer);
+    let bad = board == 0 || board > 256;
+    report.order("fresh", &[("1", 1, bad), ("2", 2, number >= board), ("13", 13, few)], answer);
 }

@@ -2,20 +2,21 @@
 
 use model::frame::Fields;
 use model::node::{First, Node, Second};
+use model::tree;
 
-pub const WORDS: usize = 200;
-pub type Words = [u32; WORDS];
+/// A state as the library holds it: as many words as its board needs, or more, or fewer.
+pub type Words = Vec<u32>;
 
 extern "C" {
     fn ocb_dimension(nodes: u32, found: *mut u32) -> u32;
     fn ocb_place(nodes: u32, dimension: u32, node: u32, found: *mut u32) -> u32;
     fn ocb_distance(nodes: u32, a: u32, b: u32, found: *mut u32) -> u32;
-    fn ocb_fresh(state: *mut u32, nodes: u32, number: u32) -> u32;
-    fn ocb_send(state: *mut u32, to: u32) -> u32;
-    fn ocb_take(state: *mut u32, from: u32, phase: u8) -> u32;
-    fn ocb_idle(state: *mut u32) -> u32;
-    fn ocb_frame_in(state: *mut u32, bytes: *const u8, count: usize) -> u32;
-    fn ocb_barrier(state: *mut u32, buffer: *mut u8, count: usize, details: *mut u32) -> u32;
+    fn ocb_fresh(state: *mut u32, words: usize, nodes: u32, number: u32) -> u32;
+    fn ocb_send(state: *mut u32, words: usize, to: u32) -> u32;
+    fn ocb_take(state: *mut u32, words: usize, from: u32, phase: u8) -> u32;
+    fn ocb_idle(state: *mut u32, words: usize) -> u32;
+    fn ocb_frame_in(state: *mut u32, words: usize, bytes: *const u8, count: usize) -> u32;
+    fn ocb_barrier(state: *mut u32, words: usize, buffer: *mut u8, count: usize, details: *mut u32) -> u32;
     fn ocb_frame_write(nodes: u32, fields: *const u32, buffer: *mut u8, count: usize, length: *mut u32) -> u32;
     fn ocb_frame_read(nodes: u32, bytes: *const u8, count: usize, fields: *mut u32) -> u32;
 }
@@ -32,28 +33,29 @@ pub fn distance(nodes: u32, a: u32, b: u32, found: &mut [u32; 1]) -> u32 {
     unsafe { ocb_distance(nodes, a, b, found.as_mut_ptr()) }
 }
 
-pub fn fresh(state: &mut Words, nodes: u32, number: u32) -> u32 {
-    unsafe { ocb_fresh(state.as_mut_ptr(), nodes, number) }
+pub fn fresh(state: &mut [u32], nodes: u32, number: u32) -> u32 {
+    unsafe { ocb_fresh(state.as_mut_ptr(), state.len(), nodes, number) }
 }
 
-pub fn send(state: &mut Words, to: u32) -> u32 {
-    unsafe { ocb_send(state.as_mut_ptr(), to) }
+pub fn send(state: &mut [u32], to: u32) -> u32 {
+    unsafe { ocb_send(state.as_mut_ptr(), state.len(), to) }
 }
 
-pub fn take(state: &mut Words, from: u32, phase: u8) -> u32 {
-    unsafe { ocb_take(state.as_mut_ptr(), from, phase) }
+pub fn take(state: &mut [u32], from: u32, phase: u8) -> u32 {
+    unsafe { ocb_take(state.as_mut_ptr(), state.len(), from, phase) }
 }
 
-pub fn idle(state: &mut Words) -> u32 {
-    unsafe { ocb_idle(state.as_mut_ptr()) }
+pub fn idle(state: &mut [u32]) -> u32 {
+    unsafe { ocb_idle(state.as_mut_ptr(), state.len()) }
 }
 
-pub fn frame_in(state: &mut Words, bytes: &[u8]) -> u32 {
-    unsafe { ocb_frame_in(state.as_mut_ptr(), bytes.as_ptr(), bytes.len()) }
+pub fn frame_in(state: &mut [u32], bytes: &[u8]) -> u32 {
+    unsafe { ocb_frame_in(state.as_mut_ptr(), state.len(), bytes.as_ptr(), bytes.len()) }
 }
 
-pub fn barrier(state: &mut Words, buffer: &mut [u8], details: &mut [u32; 5]) -> u32 {
-    unsafe { ocb_barrier(state.as_mut_ptr(), buffer.as_mut_ptr(), buffer.len(), details.as_mut_ptr()) }
+pub fn barrier(state: &mut [u32], buffer: &mut [u8], details: &mut [u32; 5]) -> u32 {
+    let (words, count) = (state.len(), buffer.len());
+    unsafe { ocb_barrier(state.as_mut_ptr(), words, buffer.as_mut_ptr(), count, details.as_mut_ptr()) }
 }
 
 pub fn frame_write(nodes: u32, fields: &[u32; 23], buffer: &mut [u8], length: &mut [u32; 1]) -> u32 {
@@ -75,7 +77,62 @@ pub fn c_array<T: std::fmt::Display>(numbers: &[T]) -> String {
     format!("{{{}}}", numbers.join(", "))
 }
 
-/// The words of a state of the model; its numbers must fit their places.
+/// The dimensions of a board; none where there is no such board.
+fn dims(board: u32) -> Option<usize> {
+    tree::dimension(board).ok().map(|p| p as usize)
+}
+
+/// Where the words of a state stand. A board of p dimensions has p shells, and a pass 1 frame of dimension k the shells
+/// k to p - 1.
+pub mod at {
+    pub const NODES: usize = 0;
+    pub const NUMBER: usize = 1;
+    pub const PHASE: usize = 2;
+    pub const BUSY: usize = 3;
+    pub const PASS: usize = 4;
+    pub const DIMENSION: usize = 5;
+    pub const FLAG: usize = 6;
+    pub const TOTAL: usize = 7;
+    pub const HEAD: usize = 8;
+
+    pub fn sent(m: usize) -> usize {
+        HEAD + m
+    }
+
+    pub fn taken(p: usize, m: usize) -> usize {
+        HEAD + p + m
+    }
+
+    /// A mark, sent by shell, taken by shell, total sent, total taken.
+    pub fn first(p: usize, k: usize) -> usize {
+        HEAD + 2 * p + (0..k).map(|j| 2 * (p - j) + 6).sum::<usize>()
+    }
+
+    /// A mark, T, total sent.
+    pub fn second(p: usize, k: usize) -> usize {
+        first(p, k) + 2 * (p - k) + 3
+    }
+}
+
+/// How many words the state of a board has; only the head's where there is no such board.
+pub fn words_for(board: u32) -> usize {
+    dims(board).map_or(at::HEAD, |p| at::first(p, p))
+}
+
+/// The places of a board's marks, which say whether a frame is stored.
+pub fn marks(board: u32) -> Vec<usize> {
+    let p = dims(board).unwrap_or(0);
+    (0..p).flat_map(|k| [at::first(p, k), at::second(p, k)]).collect()
+}
+
+/// The words with another state in the place of the one that they hold.
+pub fn holding(words: &[u32], node: &Node) -> Words {
+    let mut after = words_of(node);
+    after.extend(&words[after.len()..]);
+    after
+}
+
+/// The words of a state of the model; its numbers must fit their places, and a number without a place is left out.
 pub fn words_of(node: &Node) -> Words {
     let mut words = vec![
         node.board,
@@ -87,56 +144,66 @@ pub fn words_of(node: &Node) -> Words {
         u32::from(node.flag),
         node.t,
     ];
-    words.extend(node.sent);
-    words.extend(node.taken);
-    for frame in &node.first {
-        words.push(u32::from(frame.present));
-        words.extend(frame.sent);
-        words.extend(frame.taken);
-        words.extend([frame.total_sent, frame.total_taken]);
+    let p = dims(node.board).expect("a board");
+    words.extend(&node.sent[..p]);
+    words.extend(&node.taken[..p]);
+    for (k, (first, second)) in node.first.iter().zip(&node.second).take(p).enumerate() {
+        words.push(u32::from(first.present));
+        words.extend(&first.sent[k..p]);
+        words.extend(&first.taken[k..p]);
+        words.extend([first.total_sent, first.total_taken]);
+        words.extend([u32::from(second.present), second.t, second.total_sent]);
     }
-    for frame in &node.second {
-        words.extend([u32::from(frame.present), frame.t, frame.total_sent]);
-    }
-    words.try_into().expect("200 words")
+    words
 }
 
-/// The model's state for words, or nothing where a word is not in the range of its place.
-pub fn node_of(words: &Words) -> Option<Node> {
-    let eight = |at: usize| -> [u32; 8] { words[at..at + 8].try_into().expect("eight words") };
-    let fits = words[0] < 65_536
-        && [1, 2, 4, 5].iter().all(|&at| words[at] < 256)
-        && [3, 6].iter().all(|&at| words[at] < 2)
-        && (0..8).all(|k| words[24 + 19 * k] < 2 && words[176 + 3 * k] < 2);
-    if !fits {
+/// The words from a place on as the shells from k on; the others are 0.
+fn shells(words: &[u32], place: usize, k: usize, p: usize) -> [u32; 8] {
+    std::array::from_fn(|m| if (k..p).contains(&m) { words[place + m - k] } else { 0 })
+}
+
+/// The model's state for words; nothing where they are too few for the board that they name, or one is not in the range
+/// of its place. Words after those of the state are not looked at.
+pub fn node_of(words: &[u32]) -> Option<Node> {
+    let p = dims(*words.first()?)?;
+    if words.len() < words_for(words[at::NODES]) {
         return None;
     }
-    let first = |k: usize| First {
-        present: words[24 + 19 * k] == 1,
-        sent: eight(25 + 19 * k),
-        taken: eight(33 + 19 * k),
-        total_sent: words[41 + 19 * k],
-        total_taken: words[42 + 19 * k],
+    let bytes = [at::PHASE, at::PASS, at::DIMENSION].iter().all(|&at| words[at] < 256);
+    let bits = [at::BUSY, at::FLAG].iter().all(|&at| words[at] < 2);
+    if !bytes || !bits {
+        return None;
+    }
+    let mut node = Node {
+        board: words[at::NODES],
+        number: words[at::NUMBER],
+        phase: words[at::PHASE] as u8,
+        busy: words[at::BUSY] == 1,
+        sent: shells(words, at::sent(0), 0, p),
+        taken: shells(words, at::taken(p, 0), 0, p),
+        pass: words[at::PASS] as u8,
+        dim: words[at::DIMENSION] as u8,
+        flag: words[at::FLAG] == 1,
+        t: words[at::TOTAL],
+        first: Default::default(),
+        second: Default::default(),
     };
-    let second = |k: usize| Second {
-        present: words[176 + 3 * k] == 1,
-        t: words[177 + 3 * k],
-        total_sent: words[178 + 3 * k],
-    };
-    Some(Node {
-        board: words[0],
-        number: words[1],
-        phase: words[2] as u8,
-        busy: words[3] == 1,
-        sent: eight(8),
-        taken: eight(16),
-        pass: words[4] as u8,
-        dim: words[5] as u8,
-        flag: words[6] == 1,
-        t: words[7],
-        first: std::array::from_fn(first),
-        second: std::array::from_fn(second),
-    })
+    for k in 0..p {
+        let (first, second) = (at::first(p, k), at::second(p, k));
+        if words[first] > 1 || words[second] > 1 {
+            return None;
+        }
+        node.first[k] = First {
+            present: words[first] == 1,
+            sent: shells(words, first + 1, k, p),
+            taken: shells(words, first + 1 + (p - k), k, p),
+            total_sent: words[second - 2],
+            total_taken: words[second - 1],
+        };
+        node.second[k] =
+            Second { present: words[second] == 1, t: words[second + 1], total_sent: words[second + 2] };
+    }
+    Some(node)
 }
 
 /// The words of a frame's fields.

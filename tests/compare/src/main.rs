@@ -25,7 +25,7 @@ const WANTED: [(&str, &[u32]); 12] = [
     ("distance", &[0, 1, 2, 3]),
     ("frame writer", &[0, 1, 2, 10, 14]),
     ("frame reader", &[0, 1, 2, 9, 10]),
-    ("fresh", &[0, 1, 2]),
+    ("fresh", &[0, 1, 2, 13]),
     ("send", &[0, 2, 3, 4, 5, 13]),
     ("take", &[0, 2, 3, 6, 7, 8, 13]),
     ("idle", &[0, 13]),
@@ -39,7 +39,7 @@ const WANTED: [(&str, &[u32]); 12] = [
 const PAIRS: [(&str, usize); 9] = [
     ("place", 2),
     ("distance", 3),
-    ("fresh", 1),
+    ("fresh", 3),
     ("send", 9),
     ("take", 13),
     ("barrier", 3),

@@ -2,7 +2,7 @@
 
 use crate::report::{must, same, Refusal, Report};
 use crate::{calls, frames, library};
-use library::Words;
+use library::{at, Words};
 use model::frame::{stated_length, Fields};
 use model::{tree, FIELD_LIMIT, SENT_LIMIT, SHELLS, TAKEN_LIMIT};
 
@@ -14,10 +14,10 @@ const DIFFERENCES: [u8; 6] = [0, 1, 2, 128, 254, 255];
 
 /// A fresh node in a phase; where it is bad, T is 1 in pass 1, and all else can still be told.
 pub fn fresh(board: u32, number: u32, phase: u8, bad: bool) -> Words {
-    let mut words: Words = [0; library::WORDS];
+    let mut words: Words = vec![0; library::words_for(board)];
     same("fresh", &library::fresh(&mut words, board, number), &0, || format!("board {board}, node {number}"));
-    words[2] = u32::from(phase);
-    words[7] = u32::from(bad);
+    words[at::PHASE] = u32::from(phase);
+    words[at::TOTAL] = u32::from(bad);
     words
 }
 
@@ -26,11 +26,19 @@ fn others(board: u32, number: u32) -> [u32; 4] {
     [(number + 1) % board, board, u32::MAX, number]
 }
 
-/// Tallies, from a word on, that add up to a total: half in the first shell, and the rest in the last.
-fn tally(state: &mut Words, at: usize, total: u32) {
-    let p = tree::dimension(state[0]).expect("a board") as usize;
-    state[at] = total / 2;
-    state[at + p - 1] += total - total / 2;
+/// Tallies that add up to a total: half in the first shell, and the rest in the last.
+fn tally(state: &mut Words, place: impl Fn(usize, usize) -> usize, total: u32) {
+    let p = tree::dimension(state[at::NODES]).expect("a board") as usize;
+    state[place(p, 0)] = total / 2;
+    state[place(p, p - 1)] += total - total / 2;
+}
+
+fn tally_sent(state: &mut Words, total: u32) {
+    tally(state, |_, m| at::sent(m), total);
+}
+
+fn tally_taken(state: &mut Words, total: u32) {
+    tally(state, at::taken, total);
 }
 
 /// Messages taken, all that there can be, do not matter to a send.
@@ -39,9 +47,9 @@ fn send(report: &mut Report, board: u32, number: u32) {
         for bits in 0..8 {
             let (bad, idle) = (bits & 1 == 1, bits & 2 == 2);
             let mut state = fresh(board, number, 0, bad);
-            state[3] = u32::from(!idle);
-            tally(&mut state, 8, SENT_LIMIT - 1 + (bits >> 2));
-            tally(&mut state, 16, TAKEN_LIMIT);
+            state[at::BUSY] = u32::from(!idle);
+            tally_sent(&mut state, SENT_LIMIT - 1 + (bits >> 2));
+            tally_taken(&mut state, TAKEN_LIMIT);
             let order = [
                 ("13", 13, bad),
                 ("2", 2, other >= board),
@@ -62,8 +70,8 @@ fn take(report: &mut Report, board: u32, number: u32) {
             for bits in 0..4 {
                 let (bad, phase) = (bits & 1 == 1, 253 + difference % 3);
                 let mut state = fresh(board, number, phase, bad);
-                tally(&mut state, 8, SENT_LIMIT);
-                tally(&mut state, 16, TAKEN_LIMIT - 1 + (bits >> 1));
+                tally_sent(&mut state, SENT_LIMIT);
+                tally_taken(&mut state, TAKEN_LIMIT - 1 + (bits >> 1));
                 let order = [
                     ("13", 13, bad),
                     ("2", 2, other >= board),
@@ -88,7 +96,7 @@ fn barrier(report: &mut Report, board: u32, number: u32) {
         for bits in 0..4 {
             let (bad, busy) = (bits & 1 == 1, bits & 2 == 2);
             let mut state = fresh(board, number, 0, bad);
-            state[3] = u32::from(busy);
+            state[at::BUSY] = u32::from(busy);
             let order = [("13", 13, bad), ("12", 12, busy), ("14", 14, sends && room < length)];
             let answer = must(calls::barrier(report, &mut state, room));
             report.order("barrier", &order, answer);
@@ -238,10 +246,10 @@ fn phases(report: &mut Report) {
 /// A valid state with each of its numbers, one after the other, set to each boundary.
 pub fn boundaries(report: &mut Report, state: &Words) {
     let limits = [2, 255, 256, SENT_LIMIT, TAKEN_LIMIT, FIELD_LIMIT, u32::MAX - 1];
-    for at in 0..library::WORDS {
+    for place in 0..state.len() {
         for number in limits.iter().flat_map(|&limit| [limit - 1, limit, limit + 1]).chain([0]) {
-            let mut changed = *state;
-            changed[at] = number;
+            let mut changed = state.clone();
+            changed[place] = number;
             must(calls::idle(report, &mut changed.clone()));
             must(calls::barrier(report, &mut changed, SHELLS * 10));
             report.count("states with a number at a boundary");

@@ -1,7 +1,7 @@
 //! Runs of whole boards: the model plays an event and checks demand 3, and the library plays it beside.
 
 use crate::{calls, orders};
-use crate::library::{self, Words};
+use crate::library::{self, at, Words};
 use crate::report::{held, Difference, Report};
 use crate::script::{self, Run};
 use model::board::{Board, Event, Load};
@@ -19,7 +19,7 @@ impl Pair {
     /// Fresh nodes.
     pub fn new(size: u32) -> Pair {
         let fresh = |number| {
-            let mut words = [0; library::WORDS];
+            let mut words = vec![0; library::words_for(size)];
             library::fresh(&mut words, size, number);
             words
         };
@@ -45,7 +45,7 @@ impl Pair {
                     Some(Load::Frame { bytes }) => calls::frame_in(report, state, &bytes)?,
                     None => return Ok(None),
                 };
-                self.states[to as usize] = *state;
+                self.states[to as usize] = state.clone();
                 (to, answer)
             }
             Event::Lose { .. } => return Ok(None),
@@ -133,7 +133,7 @@ fn finish(report: &mut Report, pair: &Pair) {
 
 /// States of a run handed to every call, with frames under way in it.
 fn hand(report: &mut Report, random: &mut Random, pair: &Pair) {
-    let state = pair.states[random.below(pair.states.len() as u32) as usize];
+    let state = &pair.states[random.below(pair.states.len() as u32) as usize];
     let frames: Vec<Vec<u8>> = (pair.board.links.iter().rev())
         .filter_map(|item| match &item.load {
             Load::Frame { bytes } => Some(bytes.clone()),
@@ -141,9 +141,9 @@ fn hand(report: &mut Report, random: &mut Random, pair: &Pair) {
         })
         .take(3)
         .collect();
-    calls::every(report, random, &state, &frames);
+    calls::every(report, random, state, &frames);
     for _ in 0..3 {
-        let spoilt = calls::changed(random, &state);
+        let spoilt = calls::changed(random, state);
         calls::every(report, random, &spoilt, &frames);
         let worse = calls::changed(random, &spoilt);
         calls::every(report, random, &worse, &frames);
@@ -164,14 +164,14 @@ fn turn(random: &mut Random, board: &Board, at: u32) -> Event {
 
 /// How many frames words hold.
 fn stored(words: &Words) -> u32 {
-    (0..8).map(|k| words[24 + 19 * k] + words[176 + 3 * k]).sum()
+    library::marks(words[at::NODES]).iter().map(|&mark| words[mark]).sum()
 }
 
 /// Whole phases with work: all nodes take a turn, then each item under way is delivered or, so often in 4, is slow.
 /// The state with the most stored frames of the first phase has each of its numbers set to each boundary.
 fn phases(report: &mut Report, random: &mut Random, size: u32, last: u64, slow: u32) {
     let mut pair = Pair::new(size);
-    let mut fullest = pair.states[0];
+    let mut fullest = pair.states[0].clone();
     while pair.board.oldest() < last {
         for at in 0..size {
             let happens = turn(random, &pair.board, at);
@@ -187,10 +187,11 @@ fn phases(report: &mut Report, random: &mut Random, size: u32, last: u64, slow: 
             hand(report, random, &pair);
         }
         if pair.board.oldest() == 0 {
-            fullest = *pair.states.iter().chain([&fullest]).max_by_key(|words| stored(words)).expect("a node");
+            fullest = pair.states.iter().chain([&fullest]).max_by_key(|words| stored(words)).expect("a node").clone();
         }
     }
     orders::boundaries(report, &fullest);
+    calls::lengths(report, random, &fullest);
     finish(report, &pair);
 }
 

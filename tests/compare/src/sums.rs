@@ -2,6 +2,7 @@
 
 use crate::orders::{boundaries, fresh, PLACES};
 use crate::report::{must, Report};
+use crate::library::at;
 use crate::{calls, library};
 use model::node::{self, First, Node};
 use model::{tree, FIELD_LIMIT, LONGEST, SENT_LIMIT, TAKEN_LIMIT};
@@ -11,16 +12,17 @@ fn two(report: &mut Report) {
     for (sent, taken) in [(0, 0), (1, 0), (2, 2), (SENT_LIMIT, SENT_LIMIT), (7, TAKEN_LIMIT)] {
         for (over, under) in [(0, 0), (1, 1), (1, 0), (0, 1), (2, 2)] {
             let mut state = fresh(2, 0, 0, false);
-            (state[3], state[6], state[8], state[16]) = (0, 0, sent, taken);
-            // pass 1, dimension 0: stored; sent, taken, total sent, total taken
-            (state[24], state[25], state[33]) = (1, taken, sent);
-            (state[41], state[42]) = (FIELD_LIMIT - 1 - sent + over, FIELD_LIMIT - 1 - taken + under);
+            (state[at::BUSY], state[at::FLAG], state[at::sent(0)], state[at::taken(1, 0)]) = (0, 0, sent, taken);
+            let totals = [FIELD_LIMIT - 1 - sent + over, FIELD_LIMIT - 1 - taken + under];
+            let first = at::first(1, 0);
+            state[first..first + 5].copy_from_slice(&[1, taken, sent, totals[0], totals[1]]);
             must(calls::barrier(report, &mut state, LONGEST));
             must(calls::barrier(report, &mut state, LONGEST));
             for (agreed, total) in [(0, 0), (1, 0), (0, 1)] {
-                let mut state = state;
-                // pass 2, dimension 0: stored, T, total sent
-                (state[176], state[177], state[178]) = (1, FIELD_LIMIT - agreed, FIELD_LIMIT - sent + total);
+                let mut state = state.clone();
+                let numbers = [1, FIELD_LIMIT - agreed, FIELD_LIMIT - sent + total];
+                let second = at::second(1, 0);
+                state[second..second + 3].copy_from_slice(&numbers);
                 must(calls::barrier(report, &mut state, LONGEST));
             }
             report.count("sums next to the limit");
