@@ -11,6 +11,7 @@
 #define NODES 5
 #define CYCLES 3
 #define ITEMS 64
+#define WORDS OCB_STATE_WORDS(NODES)
 
 /* An item under way; work has no bytes. */
 struct item {
@@ -18,7 +19,7 @@ struct item {
     uint8_t phase, bytes[OCB_FRAME_BYTES];
 };
 
-static uint32_t states[NODES][OCB_STATE_WORDS];
+static uint32_t states[NODES][WORDS];
 static struct item items[ITEMS]; /* of all links, oldest first */
 static uint32_t under_way, left;
 
@@ -39,8 +40,8 @@ static void deliver(void)
     for (uint32_t at = 0; at < under_way; at++) {
         const struct item *item = &items[at];
         uint32_t *state = states[item->to];
-        uint32_t answer = item->count == 0 ? ocb_take(state, item->from, item->phase)
-                                           : ocb_frame_in(state, item->bytes, item->count);
+        uint32_t answer = item->count == 0 ? ocb_take(state, WORDS, item->from, item->phase)
+                                           : ocb_frame_in(state, WORDS, item->bytes, item->count);
         if (answer == OCB_EARLY) continue;
         if (answer != OCB_DONE && answer != OCB_DROPPED) stop("an item is refused");
         under_way--;
@@ -52,7 +53,7 @@ static void deliver(void)
 static void work(uint32_t node)
 {
     uint32_t to = (node + 1) % NODES;
-    if (ocb_send(states[node], to) != OCB_DONE) stop("a send is refused");
+    if (ocb_send(states[node], WORDS, to) != OCB_DONE) stop("a send is refused");
     put(node, to, 0, 0);
 }
 
@@ -60,8 +61,8 @@ static void step(uint32_t node)
 {
     uint8_t frame[OCB_FRAME_BYTES];
     uint32_t details[OCB_DETAIL_WORDS];
-    if (ocb_idle(states[node]) != OCB_DONE) stop("an idle call is refused");
-    switch (ocb_barrier(states[node], frame, sizeof frame, details)) {
+    if (ocb_idle(states[node], WORDS) != OCB_DONE) stop("an idle call is refused");
+    switch (ocb_barrier(states[node], WORDS, frame, sizeof frame, details)) {
     case OCB_SENT:
         for (uint32_t i = 0; i < details[0]; i++) put(node, details[1 + i], frame, details[3]);
         break;
@@ -80,7 +81,7 @@ static void step(uint32_t node)
 int main(void)
 {
     for (uint32_t node = 0; node < NODES; node++)
-        if (ocb_fresh(states[node], NODES, node) != OCB_DONE) stop("a fresh state is refused");
+        if (ocb_fresh(states[node], WORDS, NODES, node) != OCB_DONE) stop("a fresh state is refused");
     for (uint32_t node = 0; node < NODES; node++) work(node);
     while (left < CYCLES * NODES) {
         for (uint32_t node = 0; node < NODES; node++)

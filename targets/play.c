@@ -62,7 +62,7 @@ void perform(enum side side, struct call *call)
     for (uint32_t i = 0; i < CALL_BYTES; i++) add(call->bytes[i]);
     add_words(call->found, OCB_DETAIL_WORDS);
     add_words(call->fields, OCB_FIELD_WORDS);
-    add_words(call->state, OCB_STATE_WORDS);
+    add_words(call->state, call->words);
     answers[call->kind][call->answer < ANSWERS ? call->answer : ANSWERS - 1]++;
     if (++calls % BLOCK == 0) end_block();
 }

@@ -52,12 +52,14 @@ EDITS = [
      "a form of call"),
     ("a call through a pointer", INSIDE, r"\1  call void %a0(i32 1)\n", "a form of call"),
     ("an export that no header has", r"^define internal noundef i32 ", "define noundef i32 ", "a head of an exported"),
-    ("an export of another name", r"@ocb_send\((ptr noundef %a0, i32)", r"@ocb_forget(\1", "the header does not have"),
-    ("an unknown number of 64 bits", r"@ocb_send\(ptr noundef %a0, i32", "@ocb_send(ptr noundef %a0, i64",
+    ("an export of another name", r"^(define .*)@ocb_send\(", r"\1@ocb_forget(", "the header does not have"),
+    ("an unknown number of 64 bits", r"(@ocb_send\(ptr noundef %a0, i64 noundef %a1,) i32", r"\1 i64",
      "parameters that are not those"),
-    ("a count missing", r"(@ocb_frame_in\(ptr noundef %a0, ptr noundef %a1), i64 noundef %a2", r"\1",
+    ("a count missing", r"(@ocb_frame_in\(ptr noundef %a0, i64 noundef %a1, ptr noundef %a2), i64 noundef %a3", r"\1",
      "parameters that are not those"),
-    ("a count of 32 bits", r"(@ocb_frame_in\(.*) i64 noundef", r"\1 i32 noundef", "parameters that are not those"),
+    ("a count of bytes of 32 bits", r"(@ocb_frame_in\(.*) i64 noundef", r"\1 i32 noundef", "parameters that are not those"),
+    ("a count of words of 32 bits", r"(@ocb_frame_in\(ptr noundef %a0,) i64 noundef", r"\1 i32 noundef",
+     "parameters that are not those"),
     ("a narrow answer", r"^define noundef i32 @ocb_idle", "define noundef i8 @ocb_idle", "not of 32 bits"),
     ("an answer by memory", r"^define noundef i32 @ocb_idle", "define void @ocb_idle", "a head of an exported"),
     ("an export missing", r"^define noundef i32 @ocb_idle\(.*?^}\n", "", "not found: ocb_idle"),
@@ -76,6 +78,21 @@ EDITS = [
     ("the place of a pointer lent", INSIDE, r"\1  %p = alloca ptr, align 8\n  store ptr %p, ptr %a0, align 8\n",
      "the place of a pointer is lent or copied"),
 ]
+
+
+# Which parameters of an exported function are counts, by their places.
+COUNTS = {"ocb_fresh": [1], "ocb_send": [1], "ocb_take": [1], "ocb_idle": [1], "ocb_frame_in": [1, 3], "ocb_barrier": [1, 3],
+          "ocb_frame_write": [3], "ocb_frame_read": [2], "ocb_dimension": [], "ocb_place": [], "ocb_distance": []}
+
+
+def check_counts(made):
+    """The header and a module for a target have these counts: what is widened in the module is what they name."""
+    listed = {name: [at for at, kind in enumerate(kinds) if kind == "i64"] for name, kinds in retarget.exports().items()}
+    heads = re.findall(r"^define noundef i32 @(ocb_\w+)\((.*)\) #0", made, re.M)
+    narrow = {name: [int(at) for at in re.findall(r"i32 noundef %size(\d+)", parameters)] for name, parameters in heads}
+    for found in (listed, narrow):
+        if found != COUNTS:
+            raise tools.Trouble(f"retarget: other counts than those known: {found}")
 
 
 def try_edit(text, target, name, pattern, new, reason):
@@ -97,7 +114,7 @@ def test(names):
         raise tools.Trouble("no module is kept: python3 targets/build.py keeps it")
     text = path.read_text(encoding="utf-8")
     for name in names:
-        retarget.retarget(text, TARGETS[name], "O2")
+        check_counts(retarget.retarget(text, TARGETS[name], "O2"))
     for edit in EDITS:
         try_edit(text, TARGETS[names[0]], *edit)  # the same for all: a row has no say in what is refused
     print(f"retarget: {len(EDITS)} wrong modules refused")

@@ -48,12 +48,11 @@ static _Noreturn void fail(const struct call *call, const char *what)
 
 /* ---- A call on every side */
 
-static void compare(const struct call *ours, const struct call *theirs, struct states *states, enum side side)
+static void compare(const struct call *ours, const struct call *theirs, const struct states *states, enum side side)
 {
-    uint32_t words[OCB_STATE_WORDS];
-    if (ours->answer != theirs->answer) fail(theirs, "the library answers something else");
-    if (memcmp(ours->bytes, theirs->bytes, sizeof ours->bytes) != 0) fail(theirs, "a byte of the frame differs");
-    if (memcmp(ours->found, theirs->found, sizeof ours->found) != 0) fail(theirs, "a detail differs");
+    uint32_t words[MOST_WORDS];
+    const char *what = difference(ours, theirs);
+    if (what != NULL) fail(theirs, what);
     words_of(states, side, words);
     if (memcmp(words, states->words, sizeof words) != 0) fail(theirs, "the state differs");
 }
@@ -63,6 +62,7 @@ static uint32_t call_all(uint32_t at, struct call *call)
 {
     struct states *states = &board.states[at];
     struct states before = *states;
+    call->words = OCB_STATE_WORDS(board.nodes);
     const struct call asked = *call;
     call->state = state_of(states, LIBRARY);
     perform(LIBRARY, call);

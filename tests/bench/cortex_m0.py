@@ -1,8 +1,8 @@
 """Measures the library on an emulated Cortex-M0 and prints tables: python3 tests/bench/cortex_m0.py
 
-Each call of the schedule is counted by instructions, beside the in-place version that the same clang has compiled at the
+Each call of the schedule is counted by instructions, beside the versions by hand that the same clang has compiled at the
 same level; each call's stack is looked at, also of the mostly refused calls of targets/others.c. Instructions become time
-by ARM's table of cycles. All numbers are the emulator's and the same at each run.
+by ARM's table of cycles. All numbers are the emulator's and the same at each run. Beside them stand the aims.
 """
 import collections
 import difflib
@@ -10,13 +10,15 @@ import re
 import sys
 
 sys.dont_write_bytecode = True
+import aims
 import cycles
 import sheet
 import stack
 
-sys.path.insert(0, str(sheet.ROOT / "targets"))
+sys.path[:0] = [str(sheet.ROOT / "targets"), str(sheet.ROOT / "docs")]
 import build
 import emulate
+import played
 import retarget
 import tools
 from table import TARGETS
@@ -29,6 +31,7 @@ RAM = 64 * 1024
 FUNCTIONS = ["send", "take", "idle", "frame_in", "barrier", "fresh", "dimension", "place", "distance", "frame_write",
              "frame_read"]
 STATE_CALLS = FUNCTIONS[:6]
+WAYS = [("average", "", 1), ("most", "-most", 2)]  # in words, in a table's name, and where it stands in a line
 EXACT = ["-icount", "shift=10"]  # as measure.c has it
 TRACE = ["-singlestep", "-d", "exec,nochain", "-D"]
 
@@ -37,19 +40,22 @@ def library(level):
     return tools.OUT / NAME / level / build.ARCHIVE.name
 
 
-def compile_in_place(level):
-    """The in-place version, by the kit's clang as the library."""
+def compile_by_hand(level):
+    """The versions by hand, by the kit's clang as the library: {side: object}."""
     headers = tools.run([TARGETS[NAME].gcc[0], "-print-file-name=include"]).strip()
-    made = OUT / f"inplace.{level}.o"
-    tools.run([tools.toolchain("clang"), *TARGETS[NAME].clang, *build.WORDS, *emulate.STRICT, "-nostdinc", "-isystem",
-               tools.HERE / "freestanding", "-isystem", headers, f"-{level}", "-c", emulate.BENCH / "inplace.c", "-o", made])
+    made = {}
+    for side, (_, file) in sheet.BY_HAND.items():
+        made[side] = OUT / f"{side}.{level}.o"
+        tools.run([tools.toolchain("clang"), *TARGETS[NAME].clang, *build.WORDS, *emulate.STRICT, "-nostdinc", "-isystem",
+                   tools.HERE / "freestanding", "-isystem", headers, f"-{level}", "-c", emulate.BENCH / file, "-o",
+                   made[side]])
     return made
 
 
-def measure(level, in_place):
+def measure(level, by_hand):
     """What measure.c prints: {(what, board, side, function): [calls, average, most, deepest]}."""
     bench = ["measure.c", "timed.S", "board.c", "sides.c"]
-    files = [*(emulate.BENCH / name for name in bench), tools.HERE / "others.c", in_place, library(level)]
+    files = [*(emulate.BENCH / name for name in bench), tools.HERE / "others.c", *by_hand.values(), library(level)]
     program = emulate.link(NAME, OUT / f"measure.{level}.elf", files)
     figures = {}
     for line in emulate.run(NAME, program, EXACT).splitlines():
@@ -58,9 +64,10 @@ def measure(level, in_place):
     return figures
 
 
-def trace(level, in_place):
+def trace(level, by_hand):
     """A call of each function, instruction by instruction."""
-    program = emulate.link(NAME, OUT / f"sample.{level}.elf", [emulate.BENCH / "sample.c", in_place, library(level)])
+    files = [emulate.BENCH / "sample.c", *by_hand.values(), library(level)]
+    program = emulate.link(NAME, OUT / f"sample.{level}.elf", files)
     traced = OUT / f"sample.{level}.trace"
     emulate.run(NAME, program, [*TRACE, traced])
     return cycles.Traced(program, traced, tuple(sheet.SIDES.values()))
@@ -73,7 +80,7 @@ def boards(figures):
 
 
 def print_instructions(level, figures):
-    for words, short, at in (("average", "", 1), ("most", "-most", 2)):
+    for words, short, at in WAYS:
         rows = [[board, *(sheet.compared([figures["scheduled", board, side, call][at] for side in sheet.SIDES])
                           for call in sheet.CALLS)] for board in boards(figures)]
         sheet.table(f"m0-instructions{short}-{level}", f"Cortex-M0, -{level}: instructions per call, {words}: {sheet.COMPARED}",
@@ -87,14 +94,21 @@ def most(figures, side, function, at):
 
 def bounds(level):
     try:
-        return stack.bounds(library(level).parent / f"{build.CRATE}.o", stack.pushed(MEMORY))
+        return stack.bounds(library(level).with_name(f"{build.CRATE}.o"), stack.pushed(MEMORY))
     except stack.Unbounded as trouble:
         raise tools.Trouble(f"-{level}: {trouble}") from None
 
 
-def print_stack(measured):
-    bound = {level: bounds(level) for level in measured}
-    titles = ["Function", *(f"{side.replace('_', ' ')}, -{level}" for side in sheet.SIDES for level in measured),
+def check_bound(measured, bound):
+    """No call that was played went deeper than the bound of its function."""
+    for level, figures in measured.items():
+        for name in FUNCTIONS:
+            if most(figures, "library", name, 3) > bound[level][f"ocb_{name}"]:
+                raise tools.Trouble(f"-{level}: ocb_{name} takes more stack than its bound")
+
+
+def print_stack(measured, bound):
+    titles = ["Function", *(f"{name}, -{level}" for name in sheet.NAMES for level in measured),
               *(f"library's bound, -{level}" for level in measured)]
     rows = [[f"`ocb_{name}`", *(most(figures, side, name, 3) for side in sheet.SIDES for figures in measured.values()),
              *(bound[level][f"ocb_{name}"] for level in measured)] for name in FUNCTIONS]
@@ -112,13 +126,16 @@ def limits():
 def print_node():
     """What a node needs of RAM while it makes a barrier call."""
     header = limits()
-    lent = [4 * header["OCB_STATE_WORDS"], header["OCB_FRAME_BYTES"], 4 * header["OCB_DETAIL_WORDS"]]
+    boards = (5, 96, header["OCB_NODES"])
     rows = []
     for level in build.LEVELS:
-        needs = [*lent, max(bounds(level).values())]
-        rows.append([f"-{level}", *needs, sum(needs), f"{100 * sum(needs) / RAM:.0f}"])
+        call = max(bounds(level).values())
+        for nodes, words in zip(boards, played.state_words(boards)):
+            needs = [4 * words, header["OCB_FRAME_BYTES"], 4 * header["OCB_DETAIL_WORDS"], call]
+            rows.append([f"-{level}", nodes, *needs, sum(needs), f"{100 * sum(needs) / RAM:.1f}"])
     sheet.table("m0-node", "Cortex-M0: RAM of a node in bytes",
-                ["Level", "state", "frame", "details", "stack of a call", "together", f"in 100 of {RAM // 1024} KB"], rows)
+                ["Level", "P", "state", "frame", "details", "stack of a call", "together",
+                 f"in 100 of {RAM // 1024} KB"], rows)
 
 
 def print_time(level, traced, figures):
@@ -128,25 +145,22 @@ def print_time(level, traced, figures):
         counts, taken = [traced.counts[name].total() for name in names], [traced.cycles[name] for name in names]
         dearest, each = max(counts[0], most(figures, "library", call, 2)), taken[0] / counts[0]
         rows.append([title, *(f"{count}, {cycle}, {cycle / MHZ:.0f}" for count, cycle in zip(counts, taken)),
-                     ", ".join(f"{taken[0] / other:.1f}" for other in taken[1:]), f"{each:.2f}",
+                     ", ".join(f"{taken[0] / other:.2f}" for other in taken[1:]), f"{each:.2f}",
                      f"{dearest}, {dearest * each / MHZ:.0f}"])
-    sides = [f"{side.replace('_', ' ')}: instructions, cycles, µs" for side in sheet.SIDES]
+    sides = [f"{name}: instructions, cycles, µs" for name in sheet.NAMES]
     sheet.table(f"m0-time-{level}", f"Cortex-M0, -{level}: time of a call at {MHZ} MHz, by {cycles.SOURCE}",
-                ["Call", *sides, "ratio of cycles", "cycles per instruction", "dearest call: instructions, µs"], rows)
+                ["Call", *sides, "ratios of cycles", "cycles per instruction", "dearest call: instructions, µs"], rows)
 
 
 def print_shares(traces):
-    """Where the instructions of the library's traced calls go."""
-    parts = ["survey::survey_of", "words::unpack", "words::pack"]
-    memory = cycles.code(MEMORY)[1].values()
-    rows = []
+    """Where the instructions of the library's traced calls go; the memory functions count as one."""
+    memory = set(cycles.code(MEMORY)[1].values())
+    counts = {f"-{level}": collections.Counter() for level in traces}
     for level, traced in traces.items():
-        counts = sum((traced.counts["ocb_" + call] for call in sheet.CALLS), collections.Counter())
-        shares = [counts[part] for part in parts] + [sum(counts[name] for name in memory)]
-        shares.append(counts.total() - sum(shares))
-        rows.append([f"-{level}", *(f"{100 * share / counts.total():.0f}" for share in shares)])
-    sheet.table("m0-shares", "Cortex-M0: where the instructions of the traced calls go, in percent",
-                ["Level", *parts, "memory functions", "the rest"], rows)
+        for call in sheet.CALLS:
+            for name, count in traced.counts["ocb_" + call].items():
+                counts[f"-{level}"]["memory functions" if name in memory else name] += count
+    sheet.shares("m0-shares", "Cortex-M0: where the instructions of the traced calls go, in percent", "Level", counts)
 
 
 def size(path):
@@ -164,12 +178,32 @@ def needed(level):
     return made
 
 
-def print_code(in_place):
-    rows = [["library, all eleven functions", *(size(library(level)) for level in in_place)],
-            ["library, what the six calls on a state need", *(size(needed(level)) for level in in_place)],
-            ["in-place version, the same six calls", *(size(made) for made in in_place.values())],
-            ["memory functions, `memory.S`, beside either", *[size(MEMORY)] * len(in_place)]]
-    sheet.table("m0-code", "Cortex-M0: code and constants in bytes", ["Code", *(f"-{level}" for level in in_place)], rows)
+def print_code(by_hand):
+    rows = [["library, all eleven functions", *(size(library(level)) for level in by_hand)],
+            ["library, what the six calls on a state need", *(size(needed(level)) for level in by_hand)],
+            *([f"{words}, the same six calls", *(size(made[side]) for made in by_hand.values())]
+              for side, (words, _) in sheet.BY_HAND.items()),
+            ["memory functions, `memory.S`, beside each", *[size(MEMORY)] * len(by_hand)]]
+    sheet.table("m0-code", "Cortex-M0: code and constants in bytes", ["Code", *(f"-{level}" for level in by_hand)], rows)
+
+
+def stack_aim(level, figures, bound):
+    """The deepest of the library's calls on a state that were played, beside the bound of any such call."""
+    deepest, call = max((most(figures, "library", call, 3), call) for call in STATE_CALLS)
+    any_call = max(bound[f"ocb_{call}"] for call in STATE_CALLS)
+    return aims.row(f"bytes of stack at -{level}, refused calls included", aims.STACK_BYTES, deepest,
+                    f"{call.replace('_', ' ')}; bound of any call {any_call}")
+
+
+def print_aims(measured, bound):
+    rows = []
+    for level, figures in measured.items():
+        for words, _, at in WAYS:
+            counts = {tuple(key): numbers[at] for (what, *key), numbers in figures.items() if what == "scheduled"}
+            rows += aims.of_instructions(f"instructions at -{level}, {words}", counts)
+        rows.append(stack_aim(level, figures, bound[level]))
+    rows.append(aims.row("bytes of code of the six calls at -Os", aims.CODE_BYTES, size(needed("Os")), ""))
+    aims.save("m0-aims", "Cortex-M0", rows)
 
 
 def print_needs():
@@ -198,19 +232,22 @@ def bench(names):
     build.build(names)
     OUT.mkdir(parents=True, exist_ok=True)
     tools.run([*TARGETS[NAME].gcc, "-c", tools.HERE / NAME / "memory.S", "-o", MEMORY])
-    in_place = {level: compile_in_place(level) for level in build.LEVELS}
-    measured = {level: measure(level, in_place[level]) for level in build.LEVELS}
+    by_hand = {level: compile_by_hand(level) for level in build.LEVELS}
+    measured = {level: measure(level, by_hand[level]) for level in build.LEVELS}
+    bound = {level: bounds(level) for level in build.LEVELS}
     print_tools()
-    traces = {level: trace(level, in_place[level]) for level in build.LEVELS}
+    traces = {level: trace(level, by_hand[level]) for level in build.LEVELS}
     for level, figures in measured.items():
         print_instructions(level, figures)
         print_time(level, traces[level], figures)
-    print_stack(measured)
+    print_stack(measured, bound)
     print_node()
-    print_code(in_place)
+    print_code(by_hand)
     print_shares(traces)
     print_needs()
     print_lines()
+    print_aims(measured, bound)
+    check_bound(measured, bound)
 
 
 if __name__ == "__main__":

@@ -16,11 +16,14 @@
     CASE(idle_bare, IDLE, OCB_DONE, 0, false)     \
     CASE(idle_full, IDLE, OCB_DONE, 0, true)      \
     CASE(frame_bare, FRAME_IN, OCB_DONE, 1, false) \
+    CASE(frame_first, FRAME_IN, OCB_DONE, 1, true) \
     CASE(frame_full, FRAME_IN, OCB_DONE, 2, true) \
     CASE(sends_bare, BARRIER, OCB_SENT, 1, false) \
+    CASE(sends_first, BARRIER, OCB_SENT, 1, true) \
     CASE(sends_full, BARRIER, OCB_SENT, 2, true)  \
     CASE(waits_bare, BARRIER, OCB_WAITS, 1, false) \
     CASE(waits_full, BARRIER, OCB_WAITS, 2, true) \
+    CASE(moves_first, BARRIER, OCB_MOVED, 1, true) \
     CASE(moves_full, BARRIER, OCB_MOVED, 2, true) \
     CASE(leaves, BARRIER, OCB_LEFT, 2, true)
 
@@ -44,6 +47,7 @@ struct wanted {
     {                                                                           \
         library_inside(&calls[LIBRARY]);                                        \
         in_place_inside(&calls[IN_PLACE]);                                      \
+        compact_inside(&calls[COMPACT]);                                        \
     }
 CASES(REPLAY)
 

@@ -74,11 +74,19 @@ void saw(const struct states *before, const struct call *call, uint32_t answer)
     (void)answer;
 }
 
+/* The bytes of a state on each side: a struct has room for the largest board, words are as many as the board needs. */
+static void print_state(uint32_t nodes)
+{
+    const size_t words = OCB_STATE_WORDS(nodes) * sizeof(uint32_t);
+    printf("state %u %zu %zu %zu\n", (unsigned)nodes, words, sizeof(struct inplace_node), words);
+}
+
 int main(void)
 {
-    const uint32_t boards[] = {2, 5, 16, 96, 256};
-    for (size_t i = 0; i < sizeof boards / sizeof *boards; i++) play_measured_board(boards[i]);
-    printf("state %zu %zu\n", OCB_STATE_WORDS * sizeof(uint32_t), sizeof(struct inplace_node));
+    const uint32_t boards[] = {2, 5, 16, 96, OCB_NODES};
+    const size_t count = sizeof boards / sizeof *boards;
+    for (size_t i = 0; i < count; i++) play_measured_board(boards[i]);
+    for (size_t i = 0; i < count; i++) print_state(boards[i]);
     for (int kind = 0; kind < SCHEDULED; kind++) {
         printf("%s", kind_names[kind]);
         for (enum side side = 0; side < SIDES; side++) {

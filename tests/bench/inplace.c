@@ -1,80 +1,9 @@
 #include "inplace.h"
 
 #include "ocb.h"
+#include "parts.h"
 
-#include <stdbool.h>
 #include <string.h>
-
-#define SENT_LIMIT 65535u
-#define TAKEN_LIMIT 16711425u
-#define FIELD_LIMIT 16776960u
-#define NO_CLAUSE 7u
-
-/* ---- The tree */
-
-struct run {
-    uint32_t first, last;
-};
-
-struct place {
-    bool sends;
-    bool awaits;
-    bool messenger;
-    uint32_t partner; /* the node awaited; the receiver too, where the node sends */
-    uint32_t hermit;
-};
-
-/* The smallest p with nodes <= 2^p. */
-static uint32_t dimension(uint32_t nodes)
-{
-    uint32_t p = 0;
-    while (nodes > 1u << p) p++;
-    return p;
-}
-
-/* The half of a run in which a node is; a run of one node is its own left half. */
-static struct run half_with(struct run run, uint32_t node)
-{
-    uint32_t middle = (run.first + run.last) / 2;
-    if (node <= middle)
-        run.last = middle;
-    else
-        run.first = middle + 1;
-    return run;
-}
-
-/* The place of a node in dimension k, which is below p. */
-static struct place place_in(uint32_t nodes, uint32_t p, uint32_t k, uint32_t node)
-{
-    struct place place = {false, false, false, 0, 0};
-    struct run run = {0, nodes - 1};
-    for (uint32_t at = p; at > k + 1; at--) run = half_with(run, node);
-    if (run.first == run.last) return place;
-    uint32_t middle = (run.first + run.last) / 2;
-    uint32_t left = middle - run.first + 1, right = run.last - middle;
-    place.awaits = true;
-    if (node == middle && left > right) {
-        place.partner = node + 1;
-        return place;
-    }
-    place.sends = true;
-    place.partner = node <= middle ? node + left : node - left;
-    place.messenger = node == middle + 1 && left > right;
-    place.hermit = place.messenger ? middle : 0;
-    return place;
-}
-
-/* The largest dimension in which two nodes are in different runs. */
-static uint32_t distance(uint32_t nodes, uint32_t p, uint32_t a, uint32_t b)
-{
-    struct run run = {0, nodes - 1};
-    for (uint32_t k = p; k-- > 0;) {
-        uint32_t middle = (run.first + run.last) / 2;
-        if ((a <= middle) != (b <= middle)) return k;
-        run = half_with(run, a);
-    }
-    return 0;
-}
 
 /* ---- Whether a step agrees */
 
@@ -303,40 +232,6 @@ uint32_t inplace_idle(struct inplace_node *n)
 
 /* ---- Frames */
 
-static uint32_t number_at(const uint8_t *bytes)
-{
-    return (uint32_t)bytes[0] | (uint32_t)bytes[1] << 8 | (uint32_t)bytes[2] << 16 | (uint32_t)bytes[3] << 24;
-}
-
-static uint8_t *put_number(uint8_t *bytes, uint32_t number)
-{
-    bytes[0] = (uint8_t)number;
-    bytes[1] = (uint8_t)(number >> 8);
-    bytes[2] = (uint8_t)(number >> 16);
-    bytes[3] = (uint8_t)(number >> 24);
-    return bytes + 4;
-}
-
-static size_t frame_length(uint32_t pass, uint32_t k, uint32_t p)
-{
-    return pass == 1 ? 12 + 8 * (size_t)(p - k) : 12;
-}
-
-static uint32_t frame_refusal(const struct inplace_node *n, uint32_t p, const uint8_t *bytes, size_t count)
-{
-    if (count < 4) return OCB_LENGTH;
-    uint32_t pass = bytes[0], k = bytes[2], sender = bytes[3];
-    if ((pass != 1 && pass != 2) || k >= p) return OCB_FIELD;
-    if (count != frame_length(pass, k, p)) return OCB_LENGTH;
-    for (size_t at = 4; at < count; at += 4)
-        if (number_at(bytes + at) > FIELD_LIMIT) return OCB_FIELD;
-    if (sender >= n->nodes) return OCB_STRANGER;
-    if (sender == n->number) return OCB_SELF;
-    struct place place = place_in(n->nodes, p, k, n->number);
-    if (!place.awaits || place.partner != sender) return OCB_PARTNER;
-    return OCB_DONE;
-}
-
 static void store_first(struct inplace_first *f, const uint8_t *bytes, uint32_t k, uint32_t p)
 {
     uint32_t shells = p - k;
@@ -373,7 +268,7 @@ uint32_t inplace_frame_in(struct inplace_node *n, const uint8_t *bytes, size_t c
 {
     struct survey survey;
     if (!state_stands(n, &survey)) return OCB_STATE;
-    uint32_t refusal = frame_refusal(n, survey.p, bytes, count);
+    uint32_t refusal = frame_refusal(n->nodes, n->number, survey.p, bytes, count);
     if (refusal != OCB_DONE) return refusal;
     switch ((uint8_t)(bytes[1] - n->phase)) {
     case 0:
@@ -410,16 +305,14 @@ static void write_frame(const struct inplace_node *n, const struct survey *surve
 }
 
 static uint32_t sign_in(struct inplace_node *n, const struct survey *survey, const struct place *place, uint8_t *buffer,
-                        size_t count, uint32_t *details)
+                        uint32_t *details)
 {
-    size_t length = frame_length(n->pass, n->dim, survey->p);
-    if (count < length) return OCB_BUFFER;
     write_frame(n, survey, buffer);
-    n->flag = 0;
     details[0] = place->messenger ? 2 : 1;
     details[1] = place->partner;
     details[2] = place->hermit;
-    details[3] = (uint32_t)length;
+    details[3] = (uint32_t)frame_length(n->pass, n->dim, survey->p);
+    n->flag = 0;
     return OCB_SENT;
 }
 
@@ -441,16 +334,18 @@ static uint32_t move(struct inplace_node *n, const struct survey *survey)
 uint32_t inplace_barrier(struct inplace_node *n, uint8_t *buffer, size_t count, uint32_t details[INPLACE_DETAILS])
 {
     struct survey survey;
-    memset(details, 0, INPLACE_DETAILS * sizeof *details);
     if (!state_stands(n, &survey)) return OCB_STATE;
     if (n->busy) return OCB_WORKING;
     uint32_t p = survey.p, k = n->dim;
+    struct place place = place_in(n->nodes, p, k, n->number);
+    bool due = n->flag && place.sends;
+    if (due && count < frame_length(n->pass, k, p)) return OCB_BUFFER;
+    memset(details, 0, INPLACE_DETAILS * sizeof *details);
+    if (due) return sign_in(n, &survey, &place, buffer, details);
     if (p == 0) {
         make_fresh(n, n->nodes, n->number, (uint8_t)(n->phase + 1));
         return OCB_LEFT;
     }
-    struct place place = place_in(n->nodes, p, k, n->number);
-    if (n->flag && place.sends) return sign_in(n, &survey, &place, buffer, count, details);
     uint32_t clause = NO_CLAUSE;
     if (place.awaits)
         clause = n->pass == 1 ? first_clause(&survey.own, &n->first[k], k, p)

@@ -1,21 +1,29 @@
 /* One call of each kind on each side, on the largest board, to be traced: two nodes exchange a message and a frame. */
+#include "compact.h"
 #include "inplace.h"
 #include "ocb.h"
 
-static uint32_t a[OCB_STATE_WORDS], b[OCB_STATE_WORDS], details[OCB_DETAIL_WORDS];
+#define WORDS OCB_STATE_WORDS(OCB_NODES)
+
+static uint32_t a[WORDS], b[WORDS], details[OCB_DETAIL_WORDS];
 static struct inplace_node c, d;
 static uint8_t frame[OCB_FRAME_BYTES];
 
-static int sample_library(void)
-{
-    if (ocb_fresh(a, OCB_NODES, 0) != OCB_DONE || ocb_fresh(b, OCB_NODES, 1) != OCB_DONE) return 1;
-    if (ocb_send(a, 1) != OCB_DONE) return 2;
-    if (ocb_take(b, 0, 0) != OCB_DONE) return 3;
-    if (ocb_idle(a) != OCB_DONE) return 4;
-    if (ocb_barrier(a, frame, sizeof frame, details) != OCB_SENT) return 5;
-    if (ocb_frame_in(b, frame, details[3]) != OCB_DONE) return 6;
-    return 0;
-}
+/* A side on words. Direct calls: the trace finds its way back behind a bl. */
+#define SAMPLE(name, prefix)                                                                                    \
+    static int name(void)                                                                                       \
+    {                                                                                                           \
+        if (prefix##_fresh(a, WORDS, OCB_NODES, 0) != OCB_DONE) return 1;                                       \
+        if (prefix##_fresh(b, WORDS, OCB_NODES, 1) != OCB_DONE) return 2;                                       \
+        if (prefix##_send(a, WORDS, 1) != OCB_DONE) return 3;                                                   \
+        if (prefix##_take(b, WORDS, 0, 0) != OCB_DONE) return 4;                                                \
+        if (prefix##_idle(a, WORDS) != OCB_DONE) return 5;                                                      \
+        if (prefix##_barrier(a, WORDS, frame, sizeof frame, details) != OCB_SENT) return 6;                     \
+        if (prefix##_frame_in(b, WORDS, frame, details[3]) != OCB_DONE) return 7;                               \
+        return 0;                                                                                               \
+    }
+SAMPLE(sample_library, ocb)
+SAMPLE(sample_compact, compact)
 
 static int sample_in_place(void)
 {
@@ -31,5 +39,6 @@ static int sample_in_place(void)
 int main(void)
 {
     int status = sample_library();
-    return status ? status : sample_in_place();
+    if (status == 0) status = sample_in_place();
+    return status ? status : sample_compact();
 }

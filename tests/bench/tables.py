@@ -1,10 +1,11 @@
-"""Prints the tables for x86-64 from what callgrind and the programs wrote to target/bench: tables.py"""
+"""Prints the tables for x86-64, with the aims, from what callgrind and the programs wrote to target/bench: tables.py"""
 import collections
 import re
 import subprocess
 import sys
 
 sys.dont_write_bytecode = True
+import aims
 import sheet
 
 BOARDS = [2, 5, 16, 96, 256]
@@ -19,11 +20,14 @@ CASES = {
     "idle_bare": "idle, nothing stored",
     "idle_full": "idle, most stored",
     "frame_bare": "frame in, pass 1, nothing stored",
+    "frame_first": "frame in, pass 1, most stored",
     "frame_full": "frame in, pass 2, most stored",
     "sends_bare": "barrier sends, pass 1, nothing stored",
+    "sends_first": "barrier sends, pass 1, most stored",
     "sends_full": "barrier sends, pass 2, most stored",
     "waits_bare": "barrier waits, pass 1, nothing stored",
     "waits_full": "barrier waits, pass 2, most stored",
+    "moves_first": "barrier moves, pass 1, most stored",
     "moves_full": "barrier moves, pass 2, most stored",
     "leaves": "barrier leaves",
 }
@@ -69,7 +73,7 @@ def compared(edges, callers, call):
 
 def ratio(edges, call):
     library, *others = of_sides(edges, CALLERS, call)
-    return ", ".join(f"{library / other:.1f}" for other in others)
+    return ", ".join(f"{library / other:.2f}" for other in others)
 
 
 def print_averages(costs):
@@ -87,41 +91,61 @@ def print_ratios(costs):
     for board in BOARDS:
         ways = [costs[way][board][0] for way in ("O3", "words")]
         rows.append([board, *("; ".join(ratio(edges, call) for edges in ways) for call in sheet.CALLS)])
-    sheet.table("x86-ratios", "The ratios with the in-place version at -O3; and at -O2 with a memcpy that moves a word at a"
+    sheet.table("x86-ratios", "The ratios with the versions by hand at -O3; and at -O2 with a memcpy that moves a word at a"
                 " time", ["P", *sheet.TITLES], rows)
 
 
-def print_cases(path, board, edges):
-    rows = []
-    for line in open(path, encoding="utf-8"):
+def cases(board, edges):
+    """The single calls of a board: their name, the frames stored, the call, and its instructions on each side."""
+    for line in open(sheet.OUT / f"cases.O2.{board}", encoding="utf-8"):
         name, stored = line.split()
-        callee = next(to for at, to in edges if at == name and to.startswith("ocb_"))
-        rows.append([CASES[name[5:]], stored, compared(edges, [name] * len(CALLERS), callee[4:])])
+        call = next(to[4:] for at, to in edges if at == name and to.startswith("ocb_"))
+        yield name[5:], stored, call, of_sides(edges, [name] * len(CALLERS), call)
+
+
+def most(board, edges):
+    """The instructions of the dearest of a board's single calls: {(call, side): instructions}."""
+    found = collections.Counter()
+    for _, _, call, numbers in cases(board, edges):
+        for side, number in zip(sheet.SIDES, numbers):
+            found[call, side] = max(found[call, side], number)
+    return found
+
+
+def print_most(costs):
+    rows = []
+    for board in BOARDS:
+        found = most(board, costs[board][0])
+        rows.append([board, *(sheet.compared([found[call, side] for side in sheet.SIDES]) for call in sheet.CALLS)])
+    sheet.table("x86-instructions-most", f"x86-64: instructions of the dearest of the single calls: {sheet.COMPARED}",
+                ["P", *sheet.TITLES], rows)
+
+
+def print_cases(board, edges):
+    rows = [[CASES[name], stored, sheet.compared(numbers)] for name, stored, _, numbers in cases(board, edges)]
     sheet.table("x86-cases", f"x86-64: single calls at P = {board}: {sheet.COMPARED}",
                 ["Call", "frames stored", "instructions"], rows)
 
 
 def print_shares(costs):
-    """Where the library's instructions go, as shares of all calls of the schedule."""
-    parts = ["survey::survey_of", "words::unpack", "words::pack", "memcpy", "the rest"]
-    rows = []
-    for board in (2, 256):
+    """Where the library's instructions go, in all calls of the schedule."""
+    counts = {}
+    for board in (BOARDS[0], BOARDS[-1]):
         edges, own = costs[board]
-        total = sum(cost for (at, to), (_, cost) in edges.items() if to.startswith("ocb_") and at == CALLERS[0])
         inside = [name for name in own if "::" in name or name.startswith("ocb_")]
-        copied = sum(cost for (at, to), (_, cost) in edges.items() if at in inside and "memcpy" in to)
-        shares = [own[part] for part in parts[:3]] + [copied]
-        rows.append([board, *(f"{100 * share / total:.0f}" for share in shares + [total - sum(shares)])])
-    sheet.table("x86-shares", "x86-64: where the library's instructions go, in percent", ["P", *parts], rows)
+        counts[board] = collections.Counter({name: own[name] for name in inside})
+        counts[board]["memory functions"] = sum(cost for (at, to), (_, cost) in edges.items()
+                                                if at in inside and re.search("mem(cpy|move|set)", to))
+    sheet.shares("x86-shares", "x86-64: where the library's instructions go, in percent", "P", counts)
 
 
 def print_depths(path):
-    state, *lines = [line.split() for line in open(path, encoding="utf-8")]
-    titles = ["", *(side.replace("_", " ") for side in sheet.SIDES), "library copies, average", "most"]
-    # by side: stack, copied on average, copied at most
-    rows = [[call.replace("_", " "), *figures[::3], figures[1], figures[2]] for call, *figures in lines]
+    lines = [line.split() for line in open(path, encoding="utf-8")]
+    # of a call by side: stack, copied on average, copied at most
+    rows = [[call.replace("_", " "), *figures[::3], figures[1], figures[2]] for call, *figures in lines if call != "state"]
+    rows += [[f"state, P = {line[1]}", *line[2:], "", ""] for line in lines if line[0] == "state"]
     sheet.table("x86-memory", "x86-64: deepest stack of a call, what the library has memcpy copy, and the state, in bytes",
-                titles, [*rows, [*state, "", ""]])
+                ["", *sheet.NAMES, "library copies, average", "most"], rows)
 
 
 def size(path):
@@ -132,19 +156,35 @@ def size(path):
 def print_code():
     rows = [["library, all eleven functions", size(LIBRARY)],
             ["library, what the six calls on a state need", size(sheet.OUT / "six")]]
-    rows += [[f"in-place version, the same six calls, -{level}", size(sheet.OUT / f"inplace.{level}.o")]
-             for level in ("Os", "O2", "O3")]
+    rows += [[f"{words}, the same six calls, -{level}", size(sheet.OUT / f"{side}.{level}.o")]
+             for side, (words, _) in sheet.BY_HAND.items() for level in ("Os", "O2", "O3")]
     sheet.table("x86-code", "x86-64: code and constants in bytes", ["Code", "text"], rows)
+
+
+def print_aims(costs):
+    average_of, most_of = {}, {}
+    for board in BOARDS:
+        edges, _ = costs[board]
+        found = most(board, edges)
+        for call in sheet.CALLS:
+            for side, number in zip(sheet.SIDES, of_sides(edges, CALLERS, call)):
+                average_of[board, side, call] = number
+                most_of[board, side, call] = found[call, side]
+    rows = aims.of_instructions("instructions at -O2, average", average_of)
+    rows += aims.of_instructions("instructions at -O2, dearest single call", most_of)
+    aims.save("x86-aims", "x86-64", rows)
 
 
 def main():
     costs = {way: {board: read_costs(sheet.OUT / f"callgrind.{way}.{board}") for board in BOARDS} for way in WAYS}
     print_averages(costs["O2"])
+    print_most(costs["O2"])
     print_ratios(costs)
-    print_cases(sheet.OUT / "cases.O2.256", 256, costs["O2"][256][0])
+    print_cases(256, costs["O2"][256][0])
     print_shares(costs["O2"])
     print_depths(sheet.OUT / "depths")
     print_code()
+    print_aims(costs["O2"])
 
 
 main()
