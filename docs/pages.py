@@ -117,10 +117,11 @@ def frames_of(name):
 def costs():
     """What the barrier costs."""
     numbers = played.header()
-    words, longest = numbers["OCB_STATE_WORDS"], numbers["OCB_FRAME_BYTES"]
-    rows = [("state of a node", f"{words} words of 4 bytes: {4 * words} bytes"),
-            ("buffer for a frame", f"{longest} bytes, the longest frame of any board"),
-            ("code of the C library, on x86-64", f"less than {CODE_LIMIT // 1024} KB")]
+    boards, longest = (5, 96, numbers["OCB_NODES"]), numbers["OCB_FRAME_BYTES"]
+    rows = [(f"state of a node, on a board of {nodes}", f"{words} words of 4 bytes: {4 * words} bytes")
+            for nodes, words in zip(boards, played.state_words(boards))]
+    rows += [("buffer for a frame", f"{longest} bytes, the longest frame of any board"),
+             ("code of the C library, on x86-64", f"less than {CODE_LIMIT // 1024} KB")]
     if played.code_size() >= CODE_LIMIT:
         raise played.Trouble(f"docs/BARRIER.md: the C library has {played.code_size()} bytes of code")
     cycles = [("worked", "without work"), ("empty_cycle_of_five", "without work"),

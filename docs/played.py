@@ -6,6 +6,7 @@ import functools
 import pathlib
 import re
 import subprocess
+import tempfile
 from collections import namedtuple
 
 ROOT = pathlib.Path(__file__).resolve().parent.parent
@@ -212,3 +213,14 @@ def names():
     """The words of answers and refusals by their numbers, from the names that include/ocb.h gives them."""
     found = re.findall(r"\bOCB_(?!AT_)(\w+) = (\d+)", header_text())
     return {int(value): name.lower().replace("_", " ") for name, value in found}
+
+
+def state_words(boards):
+    """The words of a state on boards of so many nodes, by the header's macro."""
+    lines = "".join(f'printf("%d\\n", OCB_STATE_WORDS({nodes}));' for nodes in boards)
+    text = f'#include <stdio.h>\n#include "ocb.h"\nint main(void) {{ {lines} return 0; }}\n'
+    with tempfile.TemporaryDirectory() as folder:
+        program = pathlib.Path(folder) / "words"
+        compiler = ["gcc", "-std=c11", f"-I{ROOT / 'include'}", "-x", "c", "-", "-o", str(program)]
+        subprocess.run(compiler, input=text.encode(), check=True)
+        return [int(line) for line in output(program, "")]
