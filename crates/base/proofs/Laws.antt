@@ -1,5 +1,5 @@
 -- Laws of choice, of joined tests, of refusals in order and of values listed by a rule.
-use mathlib.Core.Path.{_≡_, refl, sym, ap, _∙_}
+use mathlib.Core.Path.{_≡_, refl, sym, ap, _∙_, subst}
 use mathlib.Core.Bool.{Bool, true, false}
 use mathlib.Core.List.{List, [], _∷_, _++_}
 use Prim.Native.Nat.{ℕ, zero, suc, _+_, _-_, _≤_, _<_}
@@ -9,7 +9,7 @@ use native.Mathlib.Numerals.{add-one}
 use native.Mathlib.Omega.{arith}
 use lib.ListN.{length, getD, set}
 use Rattle.base.specs.Choice.{choose, both, every, list}
-use Rattle.base.specs.Refusal.{Check, inOrder, number}
+use Rattle.base.specs.Refusal.{refused, found, Check, inOrder, number}
 
 -- true is not false
 pub clash : {A : Type 0} → _≡_ {A = Bool} true false → A
@@ -51,6 +51,16 @@ every-make start (suc count) f h =
     both-make (h start (omega arith) (omega arith))
     (every-make (suc start) count f (λ i a b. h i (omega arith) (omega arith)))
 
+-- tests that are the same where they are made
+pub every-same : (start count : ℕ) (f g : ℕ → Bool) → ((i : ℕ) → start ≤ i → i < start + count → f i ≡ g i)
+    → every start count f ≡ every start count g
+every-same start zero f g h = refl
+every-same start (suc count) f g h =
+    rw (
+      h start (omega arith) (omega arith),
+      every-same (suc start) count f g (λ i a b. h i (omega arith) (omega arith)),
+    )
+
 -- the first of the tests that are left, and the rest
 pub every-here : (i n : ℕ) (f : ℕ → Bool) → i < n → every i (n - i) f ≡ both (f i) (every (i + 1) (n - (i + 1)) f)
 every-here i n f h = let e : n - i ≡ suc (n - (i + 1)) = omega arith in rw (e, add-one)
@@ -88,6 +98,38 @@ module _ {A : Type 0} (refuse : ℕ → A) where
       cases F (c .met) _ _ (λ e. f (number (c .word)) (here e))
       (λ e. order-cases F cs a (λ x s. f x (later e s)) (λ h. g (e, h)))
 
+-- what stops at a check, stops there with more checks after it, and after checks that are passed
+pub stops-before : {cs : List Check} {x : ℕ} (ds : List Check) → Stops cs x → Stops (cs ++ ds) x
+stops-before ds (here e) = here e
+stops-before ds (later e s) = later e (stops-before ds s)
+
+pub stops-after : (cs : List Check) {ds : List Check} {x : ℕ} → Passes cs → Stops ds x → Stops (cs ++ ds) x
+stops-after [] h s = s
+stops-after (c ∷ cs) h s = later (h .0) (stops-after cs (h .1) s)
+
+-- what is refused, is refused because a check is met
+pub checks-stop : {A : Type 0} (cs : List Check) (a : A) (x : ℕ) → inOrder refused cs (found a) ≡ refused x → Stops cs x
+checks-stop [] a x e = let z : _≡_ {A = ℕ} 0 1 = cc in absurd (omega arith)
+checks-stop (c ∷ cs) a x e = go (c .met) refl (checks-stop cs a x) e
+  where
+    go : (t : Bool) → c .met ≡ t → (inOrder refused cs (found a) ≡ refused x → Stops cs x)
+        → choose t (refused (number (c .word))) (inOrder refused cs (found a)) ≡ refused x
+        → Stops (c ∷ cs) x
+    go true m rest q = let z : number (c .word) ≡ x = cc in subst (Stops (c ∷ cs)) z (here m)
+    go false m rest q = later m (rest q)
+
+-- what is found, is found because no check is met
+pub checks-known : {A : Type 0} (cs : List Check) (a b : A) → inOrder refused cs (found a) ≡ found b
+    → Passes cs × (a ≡ b)
+checks-known [] a b e = (tt, cc)
+checks-known (c ∷ cs) a b e = go (c .met) refl (checks-known cs a b) e
+  where
+    go : (t : Bool) → c .met ≡ t → (inOrder refused cs (found a) ≡ found b → Passes cs × (a ≡ b))
+        → choose t (refused (number (c .word))) (inOrder refused cs (found a)) ≡ found b
+        → ((c .met ≡ false) × Passes cs) × (a ≡ b)
+    go true m rest q = let z : _≡_ {A = ℕ} 0 1 = cc in absurd (omega arith)
+    go false m rest q = let r = rest q in ((m, r .0), r .1)
+
 -- ---- values listed by a rule
 
 pub length-list : {A : Type 0} (start count : ℕ) (f : ℕ → A) → length (list start count f) ≡ count
@@ -109,6 +151,16 @@ pub list-one : {A : Type 0} (start count : ℕ) (x : A) (i : ℕ) → getD (list
 list-one start zero x i = refl
 list-one start (suc count) x zero = refl
 list-one start (suc count) x (suc i) = list-one (suc start) count x i
+
+-- a list is the list of what stands at its places
+pub list-whole : {A : Type 0} (l : List A) (d : A) (start count : ℕ) (f : ℕ → A) → length l ≡ count
+    → ((i : ℕ) → i < count → f (start + i) ≡ getD l i d) → list start count f ≡ l
+list-whole [] d start zero f e h = refl
+list-whole [] d start (suc count) f e h = absurd (omega arith)
+list-whole (a ∷ l) d start zero f e h = absurd (omega arith)
+list-whole (a ∷ l) d start (suc count) f e h =
+    let u : f start ≡ a = ap f (omega arith) ∙ h 0 (omega arith) in
+    rw (u, list-whole l d (suc start) count f (omega arith) (λ i b. ap f (omega arith) ∙ h (suc i) (omega arith)))
 
 -- one value more at the end
 pub list-more : {A : Type 0} (start count : ℕ) (f : ℕ → A)

@@ -1,4 +1,4 @@
--- The limits of a build: how many nodes a board may have, and how many messages a node may send in a phase.
+-- The limits of a build (rule N3): how many nodes a board may have, and how many messages a node may send in a phase.
 use Prim.Native.Nat.{ℕ, suc, _-_, _*_, _≤_}
 use Rattle.base.specs.declared.Bounds.{Bounds}
 
@@ -6,15 +6,15 @@ pub record Limits : Type 0 where
   pub nodes : ℕ
   pub sends : ℕ
 
--- "a number above 16,776,960" is refused, and clause 3 has the same bound
+-- the bound of a number in a frame (rule F2), and of a sum (clause 3 of rule N15)
 abbrev pub fieldLimit : Limits → ℕ
 fieldLimit L = L .nodes * L .sends
 
--- "16,711,425 taken in this phase"
+-- how many messages a node may take in a phase: S from each other node
 abbrev pub takenLimit : Limits → ℕ
 takenLimit L = (L .nodes - 1) * L .sends
 
--- "P is the number of nodes, 1 to 256", "65,535 sent in this phase"
+-- the limits of the largest build
 abbrev pub base : Limits
 base = record { nodes = 256; sends = 65535 }
 

@@ -1,4 +1,4 @@
--- Numbers for a no: the words of document 01's table, their numbers, and refusals given in a stated order.
+-- Refusals: their words and numbers (rule R1), and how they are given in a stated order (rule R2).
 use mathlib.Core.Bool.{Bool}
 use mathlib.Core.List.{List, [], _∷_}
 use Prim.Native.Nat.{ℕ}
@@ -40,7 +40,7 @@ pub record Check : Type 0 where
 abbrev pub when : Bool → Refusal → Check
 when t w = record { met = t; word = w }
 
--- "Each is given when its condition is met and none before it is, and not otherwise."
+-- the first condition that is met gives the refusal; where none is, the call is accepted
 abbrev pub inOrder : {A : Type 0} → (ℕ → A) → List Check → A → A
 inOrder refuse [] accepted = accepted
 inOrder refuse (c ∷ cs) accepted = choose (c .met) (refuse (number (c .word))) (inOrder refuse cs accepted)

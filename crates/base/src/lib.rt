@@ -1,6 +1,6 @@
 // The limits of a build as its calls are handed them.
 ghost use mathlib.Core.Path.{_≡_};
-ghost use Rattle.base.specs.Limits.{limitsOf, fieldLimit, takenLimit};
+ghost use Rattle.base.specs.Limits.{base, limitsOf, fieldLimit, takenLimit};
 
 // A node limit and a send limit. Every value of this type stands for a pair that the largest build has room for.
 pub struct Bounds {
@@ -8,6 +8,16 @@ pub struct Bounds {
     pub last: u8,
     // how many messages a node may send in a phase
     pub sends: u16,
+}
+
+// The limits of this build.
+pub fn of_build() -> Bounds
+    ensures { λ r. ⌜ limitsOf r ≡ base ⌝ }
+{
+    Bounds {
+        last: 255,
+        sends: 65535,
+    }
 }
 
 // The largest number that a frame may hold.

@@ -9,3 +9,4 @@ pub mod Parts
 pub mod Writes
 pub mod Stores
 pub mod Answers
+pub mod Fresh

@@ -1,10 +1,15 @@
 -- Laws of the offsets: what each dimension takes, the closed forms, and that the words of one dimension are apart from
 -- those of another and inside the state.
-use mathlib.Core.Path.{_≡_, refl}
+use mathlib.Core.Path.{_≡_, refl, _∙_}
 use Prim.Native.Nat.{ℕ, zero, suc, _+_, _*_, _-_, _≤_, _<_}
 use native.Mathlib.Nat.{mul-suc, suc-mul}
 use native.Mathlib.Decide.{decLe}
 use native.Mathlib.Omega.{arith}
+use lib.Dec.{leb}
+use borrow.Author.Tests.{le-leb}
+use Rattle.base.specs.Choice.{choose}
+use Rattle.base.proofs.Laws.{choose-yes}
+use Rattle.base.proofs.Limits.{mul-low}
 use Rattle.layout.specs.Places.{atFirst, stateWords}
 
 pub first-none : (p : ℕ) → atFirst p 0 ≡ 8 + 2 * p
@@ -62,3 +67,14 @@ first-up p j k h = go (decLe (suc j) k)
 
 pub first-inside : (p k : ℕ) → k < p → atFirst p k + (2 * (p - k) + 6) ≤ stateWords p
 first-inside p k h = first-apart p k p h
+
+-- the words of the largest board
+pub words-low : (p : ℕ) → p ≤ 8 → stateWords p ≤ 144
+words-low p l = omega (arith, words-closed p, mul-low p 8 (p + 9) 17 l (omega arith))
+
+pub first-end : (p k : ℕ) → k < p → p ≤ 8 → atFirst p k + (2 * (p - k) + 6) ≤ 144
+first-end p k h l = omega (arith, first-inside p k h, words-low p l)
+
+-- where the words of a dimension begin, by the lookup
+pub first-found : (p k at : ℕ) → k < p → at ≡ choose (leb k p) (atFirst p k) 0 → at ≡ atFirst p k
+first-found p k at h e = e ∙ choose-yes _ _ (le-leb k p (omega arith))

@@ -1,20 +1,21 @@
 -- What the test of the words says of them, and that these facts pass it.
-use mathlib.Core.Path.{_≡_, ap}
-use mathlib.Core.Bool.{true, false, not}
+use mathlib.Core.Path.{_≡_, refl, ap}
+use mathlib.Core.Bool.{Bool, true, false, not}
 use mathlib.Core.List.{List}
-use Prim.Native.Nat.{ℕ, _≤_, _<_}
+use Prim.Native.Nat.{ℕ, _+_, _*_, _≤_, _<_}
 use native.Mathlib.Omega.{arith}
-use lib.Dec.{ltb}
+use lib.Dec.{ltb, leb}
 use lib.ListN.{length}
 use borrow.Author.Tests.{ltb-true, lt-ltb, leb-true, le-leb, not-true}
-use Rattle.base.specs.Choice.{every}
-use Rattle.base.specs.Limits.{Limits, Fits}
+use Rattle.base.specs.Choice.{both, every}
+use Rattle.base.specs.Limits.{Limits, Fits, base}
 use Rattle.base.proofs.Laws.{both-true, both-make, every-at, every-make}
+use Rattle.base.proofs.Limits.{fits-base}
 use Rattle.tree.specs.Lookups.{badBoard}
 use Rattle.tree.proofs.Dimension.{smallest}
 use Rattle.tree.proofs.Lookups.{board-good}
 use Rattle.layout.specs.Places.{atNodes, atPhase, atBusy, atFlag, atFirst, atSecond, stateWords}
-use Rattle.layout.specs.Held.{word, dimsOf, isMarked, isWhole}
+use Rattle.layout.specs.Held.{word, dimsOf, isMarked, isWhole, isReady}
 
 pub record Whole (L : Limits) (ws : List ℕ) : Type 0 where
   pub board : badBoard L (word ws atNodes) ≡ false
@@ -67,3 +68,13 @@ few L fit ws e =
     let g = board-good L (word ws atNodes) e in
     let h = fit .nodes in
     smallest (word ws atNodes) 8 (omega (arith, g .1))
+
+-- with this build's limits, 18 words are enough for the sums of every board
+pub roomy : (ws : List ℕ) → isReady base 18 ws ≡ isWhole base ws
+roomy ws = go (isWhole base ws) refl
+  where
+    go : (t : Bool) → isWhole base ws ≡ t → both t (leb (2 * dimsOf ws + 2) 18) ≡ t
+    go true e =
+        let l = few base fits-base ws (whole base ws e .board) in
+        le-leb (2 * dimsOf ws + 2) 18 (omega arith)
+    go false e = refl

@@ -27,7 +27,8 @@ use Rattle.frame.specs.declared.Taken.{Taken}
 use Rattle.frame.specs.declared.Frame.{Frame}
 use Rattle.frame.proofs.Writing.{length-frame}
 use Rattle.frame.proofs.RoundTripChecks.{Numbers, numbers-good, shell-known}
-use Rattle.frame.proofs.RoundTripAccepted.{Shaped, Accepted, size, write-good}
+use Rattle.frame.specs.Shapes.{Shaped}
+use Rattle.frame.proofs.RoundTripAccepted.{Accepted, size, write-good}
 use Rattle.frame.proofs.RoundTripWrite.{write-then-read}
 use Rattle.node.specs.Sums.{dims, firstAt, secondAt, Field, sentIn, takenIn, allSent, allTaken}
 use Rattle.node.specs.Sums.{tally, number, own, ownIssued}

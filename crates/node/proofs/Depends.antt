@@ -163,34 +163,12 @@ module _ (n : Node) (k : ℕ) (x : Confirm) where
 
 -- ---- the own sums after a change
 
-module _ (n : Node) where
-  module _ (k : ℕ) (f : Field) where
-    pub own-busy : (b : Bool) → own (withBusy n b) k f ≡ own n k f
-    own-busy b = own-same n _ (alike n) k (λ j l. refl) f
+module _ (n : Node) (k : ℕ) (f : Field) where
+  pub own-busy : (b : Bool) → own (withBusy n b) k f ≡ own n k f
+  own-busy b = own-same n _ (alike n) k (λ j l. refl) f
 
-    pub own-at : (pass dim : ℕ) (flag : Bool) (agreed : ℕ) → own (at n pass dim flag agreed) k f ≡ own n k f
-    own-at pass dim flag agreed = own-same n _ (alike n) k (λ j l. refl) f
-
-    -- a frame stored at or after the dimension, and any of pass 2
-    pub own-first : (j : ℕ) (x : Stored) → k ≤ j → own (storeFirst n j x) k f ≡ own n k f
-    own-first j x l = own-same n _ (alike n) k (λ i h. first-elsewhere n j x i (λ e. omega arith)) f
-
-    pub own-second : (l : List Confirm) → own (withSecond n l) k f ≡ own n k f
-    own-second l = own-same n _ (alike n) k (λ i h. refl) f
-
-  module _ (k : ℕ) where
-    pub issued-busy : (b : Bool) → ownIssued (withBusy n b) k ≡ ownIssued n k
-    issued-busy b = issued-same n _ (alike n) k (λ j l. refl)
-
-    pub issued-at : (pass dim : ℕ) (flag : Bool) (agreed : ℕ)
-        → ownIssued (at n pass dim flag agreed) k ≡ ownIssued n k
-    issued-at pass dim flag agreed = issued-same n _ (alike n) k (λ j l. refl)
-
-    pub issued-first : (l : List Stored) → ownIssued (withFirst n l) k ≡ ownIssued n k
-    issued-first l = issued-same n _ (alike n) k (λ i h. refl)
-
-    pub issued-second : (j : ℕ) (x : Confirm) → k ≤ j → ownIssued (storeSecond n j x) k ≡ ownIssued n k
-    issued-second j x l = issued-same n _ (alike n) k (λ i h. second-elsewhere n j x i (λ e. omega arith))
+  pub own-at : (pass dim : ℕ) (flag : Bool) (agreed : ℕ) → own (at n pass dim flag agreed) k f ≡ own n k f
+  own-at pass dim flag agreed = own-same n _ (alike n) k (λ j l. refl) f
 
 -- ---- the tallies after a message is sent or taken
 
@@ -240,14 +218,8 @@ module _ (n : Node) (m : ℕ) where
   abbrev sentOne : Sent
   sentOne = sentNumber (tally n (sentIn m) + 1)
 
-  pub sent-here : m < length (n .sent) → tally (oneSent n m) (sentIn m) ≡ tally n (sentIn m) + 1
-  sent-here h = count-here sends (n .sent) m sentOne (sentNumber 0) refl h
-
   pub sent-else : (j : ℕ) → j ≢ m → tally (oneSent n m) (sentIn j) ≡ tally n (sentIn j)
   sent-else j h = count-else sends (n .sent) m sentOne (sentNumber 0) refl j h
-
-  pub sent-total : m < length (n .sent) → m < dims n → tally (oneSent n m) allSent ≡ tally n allSent + 1
-  sent-total h b = count-total sends (n .sent) m sentOne (sentNumber 0) refl (dims n) h b
 
   pub sent-up : Up (tally n) (tally (oneSent n m))
   sent-up (sentIn j) = count-up sends (n .sent) m sentOne (sentNumber 0) refl j
@@ -263,14 +235,8 @@ module _ (n : Node) (m : ℕ) where
   abbrev takenOne : Taken
   takenOne = takenNumber (tally n (takenIn m) + 1)
 
-  pub taken-here : m < length (n .taken) → tally (woken n m) (takenIn m) ≡ tally n (takenIn m) + 1
-  taken-here h = count-here takes (n .taken) m takenOne (takenNumber 0) refl h
-
   pub taken-else : (j : ℕ) → j ≢ m → tally (woken n m) (takenIn j) ≡ tally n (takenIn j)
   taken-else j h = count-else takes (n .taken) m takenOne (takenNumber 0) refl j h
-
-  pub taken-total : m < length (n .taken) → m < dims n → tally (woken n m) allTaken ≡ tally n allTaken + 1
-  taken-total h b = count-total takes (n .taken) m takenOne (takenNumber 0) refl (dims n) h b
 
   pub taken-up : Up (tally n) (tally (woken n m))
   taken-up (sentIn j) = omega arith

@@ -57,7 +57,7 @@ module _ (L : Limits) (P number phase : ℕ) where
       (subst (SecondFits L P number k) (sym (list-at width (λ k. noSecond) k _ h))
       (record { awaits = λ e. clash (sym e); agreed = refl; issued = refl }))
 
-  -- "Fresh", in any phase
+  -- fresh, in any phase
   pub fresh-facts : badBoard L P ≡ false → number < P → Valid L new
   fresh-facts b h =
       record {

@@ -30,7 +30,7 @@ use Rattle.node.proofs.Depends.{Alike, tally-same, alike, sent-up, take
 
 -- ---- T in pass 2
 
--- "It is never the last dimension": somebody is awaited there
+-- rule T5: nobody is alone in the last dimension
 last-awaits : (P k a : ℕ) → suc k ≡ dimension P → a < P → isNone (awaited P k a) ≡ false
 last-awaits P k a e h = go (awaited P k a) refl
   where
@@ -194,7 +194,7 @@ module _ (L : Limits) (n : Node) where
       go (IdleWay.refused x s) h = refl
       go (IdleWay.done o) h = clash (sym h)
 
-  -- "A late frame is accepted and dropped, without effect": whatever is not done
+  -- a frame that is dropped leaves the state too: whatever is not done
   pub frame-back : (bs : List ℕ) → frameIn L n bs .answer ≢ done → frameIn L n bs .node ≡ n
   frame-back bs = go (frame-way L n bs)
     where
@@ -217,7 +217,7 @@ module _ (L : Limits) (n : Node) where
       go (CallWay.leaves o b d z g l e) h = clash (sym h)
       go (CallWay.single o b z) h = clash (sym h)
 
--- "the state it got, if any": fresh gets none
+-- fresh is handed no state, and gives none back
 pub fresh-back : (L : Limits) (P number x : ℕ) → fresh L P number .answer ≡ refused x → fresh L P number .node ≡ noNode
 fresh-back L P number x h = go (fresh-way L P number) (ap isRefused h)
   where

@@ -26,7 +26,6 @@ use Rattle.node.specs.Calls.{stepNumber}
 use Rattle.node.specs.declared.Stored.{Stored}
 use Rattle.node.specs.declared.Confirm.{Confirm}
 use Rattle.node.specs.declared.Node.{Node}
-use Rattle.node.proofs.Clauses.{Has}
 
 -- ---- steps counted through
 
@@ -287,12 +286,6 @@ Room (takenIn m) = m < width
 Room allSent = Unit {0}
 Room allTaken = Unit {0}
 
-pub has-room : (p k : ℕ) (f : Field) → p ≤ width → Has p k f → Room f
-has-room p k (sentIn m) l h = omega arith
-has-room p k (takenIn m) l h = omega arith
-has-room p k allSent l h = tt
-has-room p k allTaken l h = tt
-
 -- the place has the number: a frame is stored, of a dimension that has it
 abbrev pub holds : ℕ → ℕ → Stored → Field → Bool
 holds p k x (sentIn m) = both (x .present) (hasShell p k m)
@@ -395,34 +388,11 @@ module _ (L : Limits) (n : Node) (k : ℕ) where
 
   -- ---- what the places say
 
-  alone-empty : (t : Bool) → isAlone n k ≡ true → (t ≡ true → Awaits (n .nodes) (n .number) k) → t ≡ false
-  alone-empty true a h = clash (sym a ∙ h refl .1)
-  alone-empty false a h = refl
-
-  -- an alone step has no frame stored
-  pub first-alone : firstOk L n k ≡ true → isAlone n k ≡ true → firstAt n k .present ≡ false
-  first-alone e a = alone-empty (firstAt n k .present) a (first-fits e .awaits)
-
-  pub second-alone : secondOk L n k ≡ true → isAlone n k ≡ true → secondAt n k .present ≡ false
-  second-alone e a = alone-empty (secondAt n k .present) a (second-fits e .awaits)
-
   -- every number of a place is within the field limit
   pub first-low : firstOk L n k ≡ true → (f : Field) → Room f → number (firstAt n k) f ≤ fieldLimit L
   first-low e f r = number-low L (holds (dims n) k (firstAt n k) f) _ (first-fits e .numbers f r)
-
-  pub second-agreed-low : secondOk L n k ≡ true → secondAt n k .agreed ≤ fieldLimit L
-  second-agreed-low e = number-low L (secondAt n k .present) _ (second-fits e .agreed)
-
-  pub second-issued-low : secondOk L n k ≡ true → secondAt n k .issued .0 ≤ fieldLimit L
-  second-issued-low e = number-low L (secondAt n k .present) _ (second-fits e .issued)
 
   -- a number that the place doesn't have is 0
   pub first-zero : firstOk L n k ≡ true → (f : Field) → Room f → holds (dims n) k (firstAt n k) f ≡ false
       → number (firstAt n k) f ≡ 0
   first-zero e f r h = number-absent L (holds (dims n) k (firstAt n k) f) _ (first-fits e .numbers f r) h
-
-  pub second-zero : secondOk L n k ≡ true → secondAt n k .present ≡ false
-      → (secondAt n k .agreed ≡ 0) × (secondAt n k .issued .0 ≡ 0)
-  second-zero e h =
-      let a = second-fits e in
-      (number-absent L (secondAt n k .present) _ (a .agreed) h, number-absent L (secondAt n k .present) _ (a .issued) h)

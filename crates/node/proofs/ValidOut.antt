@@ -1,4 +1,4 @@
--- From a state that passes the test every call gives one that passes it; a fresh node passes it, and one that has left.
+-- From a state that passes the test every call gives one that passes it; a fresh node passes it.
 use mathlib.Core.Path.{_≡_, sym, ap}
 use mathlib.Core.Bool.{true, false}
 use mathlib.Core.List.{List}
@@ -77,9 +77,6 @@ module _ (L : Limits) (n : Node) (ok : valid L n ≡ true) where
 
   left : Valid L (leaving n .node)
   left = fresh-facts L (n .nodes) (n .number) ((n .phase + 1) % 256) (v .board) (v .number)
-
-  pub left-valid : valid L (leaving n .node) ≡ true
-  left-valid = valid-good L _ left
 
   call-kept : L .nodes ≤ 2 ^ width → (bytes : ℕ) {r : Given Barrier} → CallWay L n bytes r → Valid L (r .node)
   call-kept room bytes (CallWay.refused x s) = v

@@ -14,7 +14,7 @@ use Rattle.base.specs.Choice.{choose, both}
 use Rattle.base.specs.Limits.{Limits, takenLimit}
 use Rattle.base.specs.Refusal.{Refusal, refused as unread, found, Check, when}
 use Rattle.base.proofs.Laws.{clash, choose-yes, choose-no, cases}
-use Rattle.base.proofs.Laws.{Passes, Stops, order-passes, order-stops, order-cases}
+use Rattle.base.proofs.Laws.{Passes, Stops, order-passes, order-stops, order-cases, checks-known}
 use Rattle.tree.specs.Tree.{awaited, distance}
 use Rattle.tree.specs.Lookups.{badBoard}
 use Rattle.frame.specs.Frame.{fieldsOf, readChecks, readFrame}
@@ -22,7 +22,6 @@ use Rattle.frame.specs.Timing.{difference, timing}
 use Rattle.frame.specs.declared.Frame.{Frame}
 use Rattle.frame.specs.declared.Timing.{Timing}
 use Rattle.frame.specs.declared.Timing.the-variants.{Now, Early, Late, Foreign}
-use Rattle.frame.proofs.RoundTripChecks.{checks-known}
 use Rattle.frame.proofs.RoundTripAccepted.{Read, read-known, read-good}
 use Rattle.node.specs.Sums.{dims, allSent, allTaken, tally, own}
 use Rattle.node.specs.Agree.{agrees}
@@ -176,15 +175,6 @@ module _ (L : Limits) (n : Node) where
   pub take-refuses : (a phase : ℕ) {x : ℕ} → Stops (takeChecks a phase) x → take L n a phase ≡ refusal n x
   unfolding take
   take-refuses a phase s = order-stops (refusal n) _ s
-
-  pub take-does : (a phase : ℕ) → valid L n ≡ true → a < n .nodes → a ≢ n .number → difference phase (n .phase) ≡ 0
-      → tally n allTaken < takenLimit L
-      → take L n a phase ≡ give (woken n (distance (n .nodes) (n .number) a)) Outcome.done
-  unfolding take
-  take-does a phase v h o d r =
-      let t = timing-now phase (n .phase) d in
-      order-passes (refusal n) (takeChecks a phase) _
-      (ap not v, (lt-leb _ _ h, (ne-eqb _ _ o, (ap isEarly t, (ap isForeignWork t, (lt-leb _ _ r, tt))))))
 
   -- ---- idle
 

@@ -1,4 +1,4 @@
--- When a step agrees: the clauses.
+-- When a step agrees: the clauses (rule N15).
 use mathlib.Core.Bool.{Bool, true, false, not}
 use mathlib.Core.Option.{Option, none, some}
 use mathlib.Core.List.{List, [], _∷_}
@@ -30,19 +30,19 @@ isWithin L x = leb x (fieldLimit L)
 -- 6 are of pass 2.
 unfoldable pub firstClauses : Limits → ℕ → ℕ → (Field → ℕ) → Stored → List Bool
 firstClauses L p k own x =
-    -- "0. no frame is stored"
+    -- 0: a frame is stored
     x .present
-    -- "1. pass 1: own sent for shell k is the frame's taken"
+    -- 1: what this side sent the other has taken
     ∷ eqb (own (sentIn k)) (number x (takenIn k))
-    -- "2. pass 1: own taken for shell k is the frame's sent"
+    -- 2: and the other way
     ∷ eqb (own (takenIn k)) (number x (sentIn k))
-    -- "3. no own sum with the frame's field added (shells above k and both totals ..) is above 16,776,960"
+    -- 3: with the frame's added, the sums of shells above k and both totals are within the limit
     ∷ both
     (every (suc k) (p - suc k)
     (λ m.
     both (isWithin L (own (sentIn m) + number x (sentIn m))) (isWithin L (own (takenIn m) + number x (takenIn m)))))
     (both (isWithin L (own allSent + number x allSent)) (isWithin L (own allTaken + number x allTaken)))
-    -- "4. pass 1, last dimension: total sent equals total taken, own and frame's added"
+    -- 4: in the last dimension as much is taken on the whole board as is sent
     ∷ choose (eqb (suc k) p) (eqb (own allSent + number x allSent) (own allTaken + number x allTaken)) true
     ∷ true
     ∷ true
@@ -54,12 +54,12 @@ secondClauses L p k issued agreed x =
     x .present
     ∷ true
     ∷ true
-    -- "3. .. in pass 2 total sent"
+    -- 3: with the frame's added, total sent is within the limit
     ∷ isWithin L (issued + x .issued .0)
     ∷ true
-    -- "5. pass 2: both T are equal"
+    -- 5: the other side has agreed on the same total
     ∷ eqb (x .agreed) agreed
-    -- "6. pass 2, last dimension: total sent, own and frame's added, is T."
+    -- 6: in the last dimension T is what the whole board has sent
     ∷ choose (eqb (suc k) p) (eqb (issued + x .issued .0) agreed) true
     ∷ []
 
@@ -72,10 +72,10 @@ abbrev pub allHold : List Bool → Bool
 allHold [] = true
 allHold (c ∷ cs) = both c (allHold cs)
 
--- "A step agrees when none of these clauses fails" .. "An alone step has no clause."
+-- rule N16: all its clauses hold; a step at which the node is alone has none
 unfoldable pub agrees : Limits → Node → ℕ → ℕ → Bool
 agrees L n pass k = choose (isAlone n k) true (allHold (clauses L n pass k))
 
--- "a wait names one that does, any of them", and 0 where no frame is stored, since "then no other is tried"
+-- rule N17: a wait may name any clause that fails, but 0 where no frame is stored
 unfoldable pub mayName : List Bool → ℕ → Bool
 mayName cs c = choose (getD cs 0 true) (not (getD cs c true)) (eqb c 0)

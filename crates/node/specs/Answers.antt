@@ -4,12 +4,10 @@ use Prim.Native.Nat.{ℕ}
 use Rattle.node.specs.declared.Node.{Node}
 use Rattle.node.specs.declared.Answer.{Answer}
 use Rattle.node.specs.declared.Answer.the-variants.{Done, Dropped, Refused}
-use Rattle.node.specs.declared.Reply.{Reply}
 use Rattle.node.specs.declared.Extra.{Extra}
 use Rattle.node.specs.declared.Extra.the-variants.{Nobody, Also}
 use Rattle.node.specs.declared.BarrierAnswer.{BarrierAnswer}
 use Rattle.node.specs.declared.BarrierAnswer.the-variants.{Sends, Waits, Moved, Left, Refused as NoBarrier}
-use Rattle.node.specs.declared.BarrierReply.{BarrierReply}
 
 -- the state that a call gives back, and its answer
 pub record Given (A : Type 0) : Type 0 where
@@ -29,7 +27,7 @@ pub data Barrier : Type 0 where
   waits moved left : Barrier
   barred : ℕ → Barrier
 
--- "Answers: a refusal, 0 done, 20 sent, 21 waits, 22 moved, 23 left, 24 dropped."
+-- the numbers of answers (rule N18)
 abbrev pub outcomeNumber : Outcome → ℕ
 outcomeNumber done = 0
 outcomeNumber dropped = 24
@@ -58,10 +56,3 @@ barrierOf (Waits clause) = waits
 barrierOf Moved = moved
 barrierOf Left = left
 barrierOf (NoBarrier x) = barred x
-
--- what a reply stands for
-abbrev pub replied : Reply → Given Outcome
-replied r = give (r .node) (outcomeOf (r .answer))
-
-abbrev pub barrierReplied : BarrierReply → Given Barrier
-barrierReplied r = give (r .node) (barrierOf (r .answer))

@@ -1,4 +1,4 @@
--- The barrier call, one step.
+-- The barrier call, one step (rule N9).
 use mathlib.Core.Bool.{Bool, true, false, not}
 use mathlib.Core.List.{List, [], _∷_, _++_}
 use Prim.Native.Nat.{ℕ, suc, _+_, _%_}
@@ -19,7 +19,7 @@ use Rattle.node.specs.declared.Node.{Node}
 use Rattle.node.specs.declared.BarrierAnswer.{BarrierAnswer}
 use Rattle.node.specs.declared.BarrierAnswer.the-variants.{Sends, Waits, Moved, Left, Refused}
 
--- ---- The frame for the node's position: its own sums
+-- ---- The frame for the node's position: its own sums (rule N10)
 
 abbrev pub firstFrame : Node → Frame
 firstFrame n =
@@ -63,37 +63,36 @@ abbrev pub isEmpty : List ℕ → Bool
 isEmpty [] = true
 isEmpty (a ∷ l) = false
 
--- "Flag 1 and someone to send to"
+-- the frame is yet to be sent, and there is somebody to send it to
 abbrev pub isDue : Node → Bool
 isDue n = both (n .flag) (not (isEmpty (receiversDue n)))
 
 -- ---- The step
 
--- "writes the frame, flag 0, answer sent, naming one or two receivers, the neighbour first"
+-- rule N10: the frame goes out, and the flag says so
 abbrev pub sending : Node → Given Barrier
 sending n = give (at n (n .pass) (n .dim) false (n .agreed)) (sent (receiversDue n) (lengthDue n))
 
--- "Leaving adds 1 to the phase, 255 going to 0, and makes the rest fresh."
+-- rule N13: the next phase, 255 going to 0, and the rest fresh
 abbrev pub leaving : Node → Given Barrier
 leaving n = give (freshIn (n .nodes) (n .number) ((n .phase + 1) % 256)) left
 
--- "it moves to the next dimension with flag 1; after the last dimension of pass 1 to (2, 0, 1) with T set; after the
--- last of pass 2 it leaves"
+-- rule N11: to the next dimension; from the last one of pass 1 to pass 2, with T; from the last one of pass 2 it leaves
 abbrev pub moving : Node → Given Barrier
 moving n =
     choose (ltb (suc (n .dim)) (dims n)) (give (at n (n .pass) (suc (n .dim)) true (n .agreed)) moved)
     (choose (eqb (n .pass) 1) (give (at n 2 0 true (own n (dims n) allTaken)) moved) (leaving n))
 
--- "Else it waits, the flag being 0 then."
+-- rule N12: nothing but the flag is altered
 abbrev pub waiting : Node → Given Barrier
 waiting n = give (at n (n .pass) (n .dim) false (n .agreed)) waits
 
--- flag 0, or nobody to send to; "With P = 1 an idle node leaves on its first call."
+-- nothing to send: it leaves a board of one node, moves where the step agrees, and else waits
 abbrev pub looking : Limits → Node → Given Barrier
 looking L n =
     choose (eqb (dims n) 0) (leaving n) (choose (agrees L n (n .pass) (n .dim)) (moving n) (waiting n))
 
--- "Barrier: 13, 12, 14.", with a buffer of so many bytes
+-- with a buffer of so many bytes; the order of refusals is that of rule R3
 unfoldable pub barrier : Limits → Node → ℕ → Given Barrier
 barrier L n room =
     inOrder (λ x. give n (barred x))
@@ -103,7 +102,7 @@ barrier L n room =
     ∷ [])
     (choose (isDue n) (sending n) (looking L n))
 
--- the clause that a wait names is one that fails
+-- the clause that a wait names is one that fails (rule N17)
 abbrev pub clauseFails : Limits → Node → BarrierAnswer → Bool
 clauseFails L n (Sends to length) = true
 clauseFails L n (Waits clause) = mayName (clauses L n (n .pass) (n .dim)) clause
@@ -111,7 +110,7 @@ clauseFails L n Moved = true
 clauseFails L n Left = true
 clauseFails L n (Refused x) = true
 
--- the lent bytes after the call: a frame that is sent stands at their start and touches its own bytes only
+-- the lent bytes after the call: a frame that is sent stands at their start and touches its own bytes only (rule F6)
 abbrev pub lentAfter : Node → List ℕ → Barrier → List ℕ
 lentAfter n buf (sent to len) = frameBytes (dims n) (frameDue n) ++ drop len buf
 lentAfter n buf waits = buf

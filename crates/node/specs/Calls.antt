@@ -1,4 +1,4 @@
--- The calls fresh, send, take, idle and frame in, each with its refusals in document 01's order.
+-- The calls fresh, send, take, idle and frame in, each with its refusals in the order of rule R3.
 use mathlib.Core.Bool.{Bool, true, false, not}
 use mathlib.Core.Option.{Option, none, some}
 use mathlib.Core.List.{List, [], _∷_, _++_}
@@ -23,7 +23,7 @@ use Rattle.node.specs.declared.Stored.{Stored}
 use Rattle.node.specs.declared.Confirm.{Confirm}
 use Rattle.node.specs.declared.Node.{Node}
 
--- "A refused call returns its number and the state it got"
+-- a refused call gives its number and leaves the state (rule R4)
 abbrev pub refusal : Node → ℕ → Given Outcome
 refusal n x = give n (refused x)
 
@@ -31,16 +31,16 @@ refusal n x = give n (refused x)
 abbrev pub badState : Limits → Node → Check
 badState L n = when (not (valid L n)) Refusal.state
 
--- ---- "Fresh: 1, 2."
+-- ---- Fresh (rule N4)
 
 unfoldable pub fresh : Limits → ℕ → ℕ → Given Outcome
 fresh L P number =
     inOrder (refusal noNode) (when (badBoard L P) Refusal.board ∷ when (leb P number) Refusal.stranger ∷ [])
     (give (freshIn P number 0) done)
 
--- ---- "Send: 13, 2, 3, 4, 5."
+-- ---- Send (rule N5)
 
--- "Send to a node adds 1 to the sent tally of its shell."
+-- one message more to shell m
 abbrev pub oneSent : Node → ℕ → Node
 oneSent n m = withSent n (set (n .sent) m (sentNumber (tally n (sentIn m) + 1)))
 
@@ -55,13 +55,13 @@ send L n b =
     ∷ [])
     (give (oneSent n (distance (n .nodes) (n .number) b)) done)
 
--- ---- "Take: 13, 2, 3, 7 or 8, 6."
+-- ---- Take (rule N6)
 
--- "Take from a node adds 1 to the taken tally of its shell, makes the node busy and sets position (1, 0, 1) and T to
--- 0."
+-- one message more from shell m
 abbrev pub oneTaken : Node → ℕ → Node
 oneTaken n m = withTaken n (set (n .taken) m (takenNumber (tally n (takenIn m) + 1)))
 
+-- the node is busy, and will sign in anew with flag 1, so that its new tally goes out
 abbrev pub woken : Node → ℕ → Node
 woken n m = at (withBusy (oneTaken n m) true) 1 0 true 0
 
@@ -71,7 +71,7 @@ isEarly Early = true
 isEarly Late = false
 isEarly Foreign = false
 
--- "foreign: difference 2 to 254; for work also 255"
+-- for work late is foreign too (rule R1)
 abbrev pub isForeignWork : Timing → Bool
 isForeignWork Now = false
 isForeignWork Early = false
@@ -90,12 +90,12 @@ take L n a phase =
     ∷ [])
     (give (woken n (distance (n .nodes) (n .number) a)) done)
 
--- ---- "Idle: 13." "Already idle: accepted, no effect."
+-- ---- Idle (rule N7)
 
 unfoldable pub idle : Limits → Node → Given Outcome
 idle L n = inOrder (refusal n) (badState L n ∷ []) (give (withBusy n false) done)
 
--- ---- "Frame: 13, 9 (under 4), 10 (pass, k), 9, 10 (numbers), 2, 3, 11, then phase."
+-- ---- Frame in (rule N8)
 
 -- steps counted through: pass 1, dimension k is step k; pass 2, dimension k is step p + k
 abbrev pub stepNumber : ℕ → ℕ → ℕ → ℕ
@@ -108,14 +108,13 @@ firstOf f =
 abbrev pub secondOf : Frame → Confirm
 secondOf f = record { present = true; agreed = f .agreed; issued = f .issued }
 
--- "Frame in stores the frame for its pass and dimension."
+-- the frame is stored for its pass and dimension, over an older one
 abbrev pub stored : Node → Frame → Node
 stored n f =
     choose (eqb (f .pass) 1) (withFirst n (set (n .first) (f .dim) (firstOf f)))
     (withSecond n (set (n .second) (f .dim) (secondOf f)))
 
--- "If that step is earlier than the node's position (pass first, then dimension), the position becomes that step with
--- flag 0, and T becomes 0 if the pass is 1."
+-- a frame of an earlier step takes the position back to that step, with flag 0; back in pass 1 there is no T
 unfoldable pub gotten : Node → Frame → Node
 gotten n f =
     choose (ltb (stepNumber (dims n) (f .pass) (f .dim)) (stepNumber (dims n) (n .pass) (n .dim)))
@@ -126,7 +125,7 @@ abbrev pub isAwaited : Option ℕ → ℕ → Bool
 isAwaited none a = false
 isAwaited (some w) a = eqb w a
 
--- now: stored; early: held back by the caller; "A late frame is accepted and dropped, without effect"; foreign
+-- rule R7: now is stored, early held back by the caller, late dropped without effect, foreign refused
 abbrev pub byTiming : Node → Frame → Timing → Given Outcome
 byTiming n f Now = give (gotten n f) done
 byTiming n f Early = refusal n 7

@@ -127,7 +127,7 @@ noFirst =
 abbrev pub noSecond : Confirm
 noSecond = record { present = false; agreed = 0; issued = sentNumber 0 }
 
--- "Fresh: phase 0, busy, tallies 0, nothing stored, position (1, 0, flag 1)", in any phase
+-- a fresh node (rule N4), in any phase
 abbrev pub freshIn : ℕ → ℕ → ℕ → Node
 freshIn P number phase =
     record {

@@ -1,4 +1,4 @@
--- The state test: "State is 13 when" one of these does not hold.
+-- The state test (rule R5, by its points): 13 where one of them does not hold.
 use mathlib.Core.Bool.{Bool, true, not}
 use mathlib.Core.List.{[], _∷_}
 use Prim.Native.Nat.{ℕ, _-_}
@@ -11,25 +11,23 @@ use Rattle.node.specs.Sums.{dims, firstAt, secondAt, sentIn, takenIn, al
 use Rattle.node.specs.Agree.{isAlone, agrees, allHold}
 use Rattle.node.specs.declared.Node.{Node}
 
--- "P, own number"
+-- 1: the board, and the own number
 unfoldable pub boardOk : Limits → Node → Bool
 boardOk L n = both (not (badBoard L (n .nodes))) (ltb (n .number) (n .nodes))
 
--- "pass (1 when p is 0), dimension (0 when p is 0)"
+-- 2: pass and dimension
 unfoldable pub positionOk : Node → Bool
 positionOk n =
     choose (eqb (dims n) 0) (both (eqb (n .pass) 1) (eqb (n .dim) 0))
     (both (either (eqb (n .pass) 1) (eqb (n .pass) 2)) (ltb (n .dim) (dims n)))
 
--- "tallies": the totals of a phase are within the limits; "Where a node .. is held with more shells than it has .. the
--- others are 0"
+-- 3: the totals of a phase are within the limits, and tallies of shells that the board doesn't have are 0
 unfoldable pub talliesOk : Limits → Node → Bool
 talliesOk L n =
     both (both (leb (tally n allSent) (L .sends)) (leb (tally n allTaken) (takenLimit L)))
     (every (dims n) (width - dims n) (λ m. both (eqb (tally n (sentIn m)) 0) (eqb (tally n (takenIn m)) 0)))
 
--- "T .. is outside the bounds above .. or T is not what its pass gives": 0 in pass 1, and in pass 2 the total of all
--- nodes, sent and taken being the same by clause 4
+-- 4: T is 0 in pass 1, and in pass 2 the total of all nodes, sent and taken being the same by clause 4
 unfoldable pub totalOk : Limits → Node → Bool
 totalOk L n =
     both (leb (n .agreed) (fieldLimit L)) (eqb (n .agreed) (choose (eqb (n .pass) 1) 0 (own n (dims n) allTaken)))
@@ -38,8 +36,8 @@ totalOk L n =
 abbrev pub awaitsFrame : Node → ℕ → Bool
 awaitsFrame n k = both (ltb k (dims n)) (not (isAlone n k))
 
--- "a stored field", "or a frame is stored for a step that awaits none", and numbers that the place doesn't have are 0:
--- those of other shells, and all where no frame is stored
+-- 5: a frame is stored only where one is awaited, its numbers are within the limit, and numbers that the place doesn't
+-- have are 0: those of other shells, and all where no frame is stored
 unfoldable pub firstOk : Limits → Node → ℕ → Bool
 firstOk L n k =
     let x = firstAt n k in
@@ -57,13 +55,13 @@ secondOk L n k =
     both (either (awaitsFrame n k) (not (x .present)))
     (both (numberOk L (x .present) (x .agreed)) (numberOk L (x .present) (x .issued .0)))
 
--- "or a step before the position doesn't agree"
+-- 6: every step before the position agrees
 unfoldable pub passedOk : Limits → Node → Bool
 passedOk L n =
     choose (eqb (n .pass) 1) (every 0 (n .dim) (agrees L n 1))
     (both (every 0 (dims n) (agrees L n 1)) (every 0 (n .dim) (agrees L n 2)))
 
--- "or a busy node is not at (1, 0, 1)"
+-- 7: a busy node is at (1, 0, 1)
 unfoldable pub busyOk : Node → Bool
 busyOk n = choose (n .busy) (both (eqb (n .pass) 1) (both (eqb (n .dim) 0) (n .flag))) true
 

@@ -1,4 +1,4 @@
--- The numbers of a node and of the frames that it has stored, and its own sums.
+-- The numbers of a node and of the frames that it has stored, and its own sums (rule N14).
 use mathlib.Core.Bool.{false}
 use mathlib.Core.List.{[]}
 use Prim.Native.Nat.{ℕ, zero, suc, _+_}
@@ -35,27 +35,26 @@ abbrev pub total : (ℕ → ℕ) → ℕ → ℕ
 total f zero = 0
 total f (suc n) = total f n + f n
 
--- "the node's tallies .. and its total sent and total taken"
+-- that number of a node: a tally, or the total over its shells
 abbrev pub tally : Node → Field → ℕ
 tally n (sentIn m) = sentAt (n .sent) m
 tally n (takenIn m) = takenAt (n .taken) m
 tally n allSent = total (sentAt (n .sent)) (dims n)
 tally n allTaken = total (takenAt (n .taken)) (dims n)
 
--- the same fields of a stored pass 1 frame
+-- that number of a stored pass 1 frame
 abbrev pub number : Stored → Field → ℕ
 number x (sentIn m) = sentAt (x .sent) m
 number x (takenIn m) = takenAt (x .taken) m
 number x allSent = x .issued .0
 number x allTaken = x .received .0
 
--- "The own sums for pass 1, dimension k are the node's tallies .. plus the same fields of the stored pass 1 frames of
--- dimensions below k."
+-- own sums of pass 1: the node's number, and that of each pass 1 frame stored for a dimension below k
 unfoldable pub own : Node → ℕ → Field → ℕ
 own n zero f = tally n f
 own n (suc k) f = own n k f + choose (firstAt n k .present) (number (firstAt n k) f) 0
 
--- "For pass 2 it is total sent plus that field of the stored pass 2 frames below k."
+-- own sum of pass 2: the node's total sent, and that of each pass 2 frame stored for a dimension below k
 unfoldable pub ownIssued : Node → ℕ → ℕ
 ownIssued n zero = tally n allSent
 ownIssued n (suc k) = ownIssued n k + choose (secondAt n k .present) (secondAt n k .issued .0) 0

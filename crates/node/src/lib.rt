@@ -49,11 +49,6 @@ pub enum Answer {
     Refused(u8),
 }
 
-pub struct Reply {
-    pub node: Node,
-    pub answer: Answer,
-}
-
 // A second receiver of a frame.
 pub enum Extra {
     Nobody,
@@ -74,9 +69,4 @@ pub enum BarrierAnswer {
     Moved,
     Left,
     Refused(u8),
-}
-
-pub struct BarrierReply {
-    pub node: Node,
-    pub answer: BarrierAnswer,
 }

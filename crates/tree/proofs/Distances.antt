@@ -148,7 +148,7 @@ distance-symmetric P a b ha hb ne =
     let v = other-way P b a hb ha (λ q. ne (sym q)) (suc (distance P b a)) y (omega arith) in
     omega arith
 
--- "Shell k of a node is all nodes at distance k."
+-- rule T7: b is in shell k of a
 abbrev pub InShell : ℕ → ℕ → ℕ → ℕ → Type 0
 InShell P k a b = (b < P) × (a ≢ b) × (distance P a b ≡ k)
 

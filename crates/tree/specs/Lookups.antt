@@ -1,4 +1,4 @@
--- The tree lookups as a caller meets them: any numbers in, an answer of document 01 out.
+-- The tree lookups as a caller meets them: any numbers in, a refusal or a value out.
 use mathlib.Core.Bool.{Bool}
 use mathlib.Core.List.{[], _∷_}
 use Prim.Native.Nat.{ℕ}
@@ -12,11 +12,11 @@ use Rattle.tree.specs.declared.Found.the-variants.{Is, Refused}
 use Rattle.tree.specs.declared.Placed.{Placed}
 use Rattle.tree.specs.declared.Placed.the-variants.{Alone, Hermit, Neighbour, Messenger, Refused as NotPlaced}
 
--- board: "P is 0 or above 256"
+-- no board has P nodes (rule T1)
 abbrev pub badBoard : Limits → ℕ → Bool
 badBoard L P = either (eqb P 0) (ltb (L .nodes) P)
 
--- "Tree lookups: 1, 2, then 10 (k) or, for a distance, 3."
+-- the orders of refusals are those of rule R3
 unfoldable pub dimensionLookup : Limits → ℕ → Answered ℕ
 dimensionLookup L P = inOrder refused (when (badBoard L P) Refusal.board ∷ []) (found (dimension P))
 
@@ -38,7 +38,7 @@ distanceLookup L P a b =
     ∷ [])
     (found (distance P a b))
 
--- what each case of an answer stands for: document 01's number of a refusal, or the value found
+-- what each case of an answer stands for: the number of a refusal (rule R1), or the value found
 abbrev pub foundAnswer : Found → Answered ℕ
 foundAnswer (Is x) = found x
 foundAnswer (Refused x) = refused x

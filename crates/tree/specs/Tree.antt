@@ -1,4 +1,4 @@
--- The tree of partners, in the order and words of document 01, "The tree".
+-- The tree of partners (rule T2 to rule T6).
 use mathlib.Core.Bool.{Bool}
 use mathlib.Core.Option.{Option, none, some}
 use mathlib.Core.List.{List, [], _∷_}
@@ -7,7 +7,7 @@ use lib.Dec.{ltb, leb, eqb}
 use Rattle.base.specs.Choice.{choose, both}
 use Rattle.tree.specs.declared.Run.{Run}
 
--- ---- "The dimension p is the smallest number with P ≤ 2^p, so 1 gives 0."
+-- ---- The dimension of a board of P nodes (rule T2)
 
 -- the smallest of from, from + 1, .. with P ≤ 2 ^ it, at most so many tried
 unfoldable pub smallestFrom : ℕ → ℕ → ℕ → ℕ
@@ -18,13 +18,13 @@ smallestFrom P from (suc tries) = let next = smallestFrom P (suc from) tries in 
 unfoldable pub dimension : ℕ → ℕ
 dimension P = smallestFrom P 0 P
 
--- ---- Runs: the nodes low to high
+-- ---- Runs: the nodes low to high (rule T3)
 
--- "The root, of dimension p, is the run 0 to P − 1."
+-- the whole board, the run of dimension p
 abbrev pub root : ℕ → Run
 root P = record { low = 0; high = P - 1 }
 
--- "A run i to j splits into i to floor((i + j) / 2) and the rest, each one dimension lower"
+-- a run splits after its middle into two siblings, one dimension lower
 abbrev pub middle : Run → ℕ
 middle r = (r .low + r .high) / 2
 
@@ -37,7 +37,7 @@ right r = record { low = middle r + 1; high = r .high }
 abbrev pub leftSize : Run → ℕ
 leftSize r = middle r + 1 - r .low
 
--- "a run of one node has no right part": then this is 0
+-- 0 for a run of one node, which has no right part
 abbrev pub rightSize : Run → ℕ
 rightSize r = r .high - middle r
 
@@ -54,24 +54,23 @@ runBelow P (suc splits) a = part (runBelow P splits a) a
 unfoldable pub runOf : ℕ → ℕ → ℕ → Run
 runOf P k a = runBelow P (dimension P - k) a
 
--- ---- The place of a node in a dimension below p
+-- ---- The place of a node in a dimension below p (rule T4)
 
--- hermit, messenger and alone are document 01's words
 pub data Place : Type 0 where
-  -- "A node whose run has no sibling is alone. It passes the step without a frame."
+  -- its run has no sibling: it passes the step without a frame
   alone : Place
-  -- a hermit "sends nothing and awaits the next node, the messenger"
+  -- the last of a longer left part: it sends nothing and awaits the next node, the messenger
   hermit : ℕ → Place
   -- neighbours each await the other's frame
   neighbour : ℕ → Place
-  -- the messenger "sends its frame to its own neighbour and to the hermit"
+  -- the messenger sends to its neighbour, whose frame it awaits, and to the hermit
   messenger : ℕ → ℕ → Place
 
--- "the left run is longer and its sibling exists"
+-- there is a right part, and the left one is longer
 abbrev pub uneven : Run → Bool
 uneven r = both (ltb 0 (rightSize r)) (ltb (rightSize r) (leftSize r))
 
--- "The m-th nodes of two sibling runs are neighbours": the node across from a
+-- the node across from a: the one that stands at a's place in the sibling run
 abbrev pub across : Run → ℕ → ℕ
 across r a = choose (leb a (middle r)) (middle r + 1 + (a - r .low)) (r .low + (a - (middle r + 1)))
 
@@ -105,7 +104,7 @@ awaited P k a = awaits (place P k a)
 unfoldable pub receivers : ℕ → ℕ → ℕ → List ℕ
 receivers P k a = sendsTo (place P k a)
 
--- ---- "The distance of two nodes is the largest dimension in which they are in different runs."
+-- ---- The distance of two nodes: the largest dimension in which their runs differ (rule T6)
 
 abbrev pub inside : Run → ℕ → Bool
 inside r b = both (leb (r .low) b) (leb b (r .high))

@@ -1,5 +1,5 @@
 // Who talks to whom on a board: the dimension of a board, the place of a node in a dimension, the distance of two nodes.
-// Any number may be handed to any of the three; what document 01 does not allow is refused with its number.
+// Any number may be handed to any of the three; what is not allowed is refused with its number (rule R3).
 ghost use mathlib.Core.Path.{_≡_};
 ghost use Prim.Native.Nat.{_+_, _≤_, _<_};
 ghost use Rattle.base.specs.Limits.{base, limitsOf};
@@ -200,31 +200,22 @@ pub fn distance_for(limits: Bounds, nodes: u32, a: u32, b: u32) -> Found
     Found::Is(parted_below(nodes, p, a, b))
 }
 
-// ---- The same with the limits of the largest build
-
-fn largest() -> Bounds
-    ensures { λ r. ⌜ limitsOf r ≡ base ⌝ }
-{
-    Bounds {
-        last: 255,
-        sends: 65535,
-    }
-}
+// ---- The same with the limits of this build
 
 pub fn dimension_of(nodes: u32) -> Found
     ensures { λ r. ⌜ foundAnswer r ≡ dimensionLookup base nodes ⌝ }
 {
-    dimension_for(largest(), nodes)
+    dimension_for(base::of_build(), nodes)
 }
 
 pub fn place_of(nodes: u32, dimension: u32, node: u32) -> Placed
     ensures { λ r. ⌜ placedAnswer r ≡ placeLookup base nodes dimension node ⌝ }
 {
-    place_for(largest(), nodes, dimension, node)
+    place_for(base::of_build(), nodes, dimension, node)
 }
 
 pub fn distance_of(nodes: u32, a: u32, b: u32) -> Found
     ensures { λ r. ⌜ foundAnswer r ≡ distanceLookup base nodes a b ⌝ }
 {
-    distance_for(largest(), nodes, a, b)
+    distance_for(base::of_build(), nodes, a, b)
 }

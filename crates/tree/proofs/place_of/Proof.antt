@@ -1,4 +1,4 @@
--- `place_of` answers `placeLookup` with the limits of the largest build.
+-- `place_of` answers `placeLookup` with the limits of this build.
 use borrow.Author.Needs.{needs}
 use mathlib.Core.Path.{ap, _∙_}
 use Rattle.tree.specs.Lookups.{placeLookup}
@@ -8,7 +8,7 @@ use Rattle.tree.proofs.place_of.Tie as tie
 returns : tie.Need-returns
 returns c =
     let a = c .before .before .args in
-    c .place-for .ensures ∙ ap (λ L. placeLookup L (a .nodes) (a .dimension) (a .node)) (c .before .largest .ensures)
+    c .place-for .ensures ∙ ap (λ L. placeLookup L (a .nodes) (a .dimension) (a .node)) (c .before .of-build .ensures)
 
 pub place-of-spec : {M : Type 1} → statement M
 place-of-spec = tie.close (tie.spec (λ c κs. search needs) (λ c κs. search needs) returns)
