@@ -1,7 +1,5 @@
-pub mod Runs
-pub mod Adding
-pub mod Frames
-pub mod Agreeing
+pub mod Settled
+pub mod Stepping
 pub mod Walking
 pub mod Scanning
 pub mod Known

@@ -3,41 +3,50 @@
 use mathlib.Core.Path.{_≡_, refl, sym, ap, _∙_}
 use mathlib.Core.Bool.{Bool, true, false}
 use mathlib.Core.List.{List}
-use Prim.Native.Nat.{ℕ, _+_, _-_, _*_, _≤_, _<_}
+use Prim.Native.Nat.{ℕ, zero, suc, _+_, _-_, _*_, _≤_, _<_}
 use native.Mathlib.Decide.{decLt}
 use native.Mathlib.Omega.{arith}
-use lib.Dec.{eqb, ltb, leb}
+use lib.Dec.{eqb, leb}
 use lib.ListN.{length}
-use borrow.Author.Tests.{lt-ltb, le-ltb, le-leb, eq-eqb, ltb-true, leb-true, eqb-true}
-use Rattle.base.specs.Choice.{choose, both, either}
+use borrow.Author.Tests.{lt-ltb, le-ltb, le-leb, eq-eqb, ltb-true, leb-true}
+use Rattle.base.specs.Choice.{choose, both}
 use Rattle.base.specs.Limits.{Limits, fieldLimit, takenLimit, Fits}
-use Rattle.base.proofs.Laws.{clash, choose-yes, choose-no, both-true, both-make, every-at, every-make}
-use Rattle.tree.specs.Lookups.{badBoard}
+use Rattle.base.proofs.Laws.{choose-yes, choose-no, both-true, both-make, every-at, every-make}
 use Rattle.frame.specs.Frame.{sentNumber, takenNumber, sentAt, takenAt}
 use Rattle.node.specs.Sums.{dims, Field, sentIn, takenIn, allSent, allTaken, tally, total, own, ownIssued}
-use Rattle.node.specs.State.{boardOk, positionOk, talliesOk, busyOk, valid}
+use Rattle.node.specs.State.{talliesOk, valid}
 use Rattle.node.specs.declared.Node.{Node}
-use Rattle.steps.specs.declared.Spot.{Spot}
-use Rattle.survey.specs.Walk.{headTest, spotAt, totalTest}
+use Rattle.node.proofs.Valid.{valid-known}
+use Rattle.survey.specs.declared.Spot.{Spot}
+use Rattle.survey.specs.Walk.{totalTest}
 use Rattle.survey.proofs.Valid.{fails, not-both}
 use Rattle.survey.proofs.Valid as survey
 use Rattle.survey.proofs.Sums.{sends-low, takes-low}
 use Rattle.survey.proofs.Tested.{stepAt, whole-step, step-past}
-use Rattle.survey.proofs.Exits.{bad-head, good-head, bad-total, good-total, found}
-use Rattle.layout.specs.Places.{atNodes, atPhase, atBusy, atFlag, atFirst, atSecond, stateWords, sumWords}
+use Rattle.survey.proofs.Exits.{bad-total, good-total, found}
+use Rattle.layout.specs.Places.{atFirst, atSecond, stateWords, sumWords}
 use Rattle.layout.specs.Held.{word, dimsOf, sumOf, unpacked, isMarked, isWhole, isReady}
 use Rattle.layout.proofs.Offsets.{first-above}
-use Rattle.layout.proofs.Whole.{whole, whole-made, few as few-of}
+use Rattle.layout.proofs.Whole.{whole, whole-made, few}
 use Rattle.layout.proofs.Reading.{sent-word, taken-word, first-word, second-word, first-past, second-past}
-use Rattle.scan.specs.Scan.{reach, passes, noScan, scanned, Below, Gathered}
-use Rattle.scan.specs.Walk.{headTested, totalTested, spotIn, stepIn, Started, Boarded, Tallied, Walking, WalkedAll}
-use Rattle.scan.specs.Walk.{Scanned}
+use Rattle.head.specs.Head.{spotIn}
+use Rattle.head.proofs.Heads.{dims-is, Passing}
+use Rattle.gather.specs.Gather.{Below, sentTotal, takenTotal, Started}
+use Rattle.gather.proofs.Room.{Tallied}
+use Rattle.scan.specs.Scan.{reach, passes, noScan, scanned, Gathered}
+use Rattle.scan.specs.Pieces.{totalTested, stepIn, Walking, WalkedAll, Scanned}
 use Rattle.scan.specs.declared.Scan.{Scan}
 use Rattle.scan.specs.declared.Walked.{Walked}
-use Rattle.scan.proofs.Runs.{total-same}
-use Rattle.scan.proofs.Walking.{dims-of}
 
--- ---- words that do not pass
+pub missed : (L : Limits) (ws before after : List ℕ) (r : Scan) → passes L (length before) ws ≡ false → r ≡ noScan
+    → length after ≡ length before → Scanned L ws before after r
+unfolding scanned
+missed L ws before after r e a b = (a ∙ sym (choose-no _ _ e), ((λ q. not-both q e), b))
+
+-- totals of equal summands
+total-same : (f g : ℕ → ℕ) (p : ℕ) → ((m : ℕ) → m < p → f m ≡ g m) → total f p ≡ total g p
+total-same f g zero h = refl
+total-same f g (suc p) h = rw (total-same f g p (λ m l. h m (omega arith)), h p (omega arith))
 
 module _ (L : Limits) (room : ℕ) (ws : List ℕ) where
   not-passing : (isWhole L ws ≡ true → valid L (unpacked ws) ≡ true → sumWords (dimsOf ws) ≤ room → ⊥)
@@ -49,272 +58,180 @@ module _ (L : Limits) (room : ℕ) (ws : List ℕ) where
       let r = both-true (isWhole L ws) (leb (sumWords (dimsOf ws)) room) (q .0) in
       f (r .0) (q .1) (leb-true _ _ (r .1)))
 
-  pub short : length ws < 8 → passes L room ws ≡ false
-  short l = not-passing (λ w v s. omega (arith, whole L ws w .long, first-above (dimsOf ws) (dimsOf ws)))
-
-  pub off-board : badBoard L (word ws atNodes) ≡ true → passes L room ws ≡ false
-  off-board e = not-passing (λ w v s. not-both e (whole L ws w .board))
-
-  pub too-short : (p : ℕ) → p ≡ dimsOf ws → length ws < stateWords p → passes L room ws ≡ false
-  too-short p e l = not-passing (λ w v s. omega (arith, ap stateWords e, whole L ws w .long))
-
-  pub no-room : (p : ℕ) → p ≡ dimsOf ws → room < sumWords p → passes L room ws ≡ false
-  no-room p e l = not-passing (λ w v s. omega arith)
-
-pub missed : (L : Limits) (ws before after : List ℕ) (r : Scan) → passes L (length before) ws ≡ false → r ≡ noScan
-    → length after ≡ length before → Scanned L ws before after r
-unfolding scanned
-missed L ws before after r e a b =
-    record { answer = a ∙ sym (choose-no _ _ e); sums = λ q. not-both q e; length = b }
-
--- the parts of a scan's contract
-pub told : (L : Limits) (ws before after : List ℕ) (r : Scan) → Scanned L ws before after r
-    → (r ≡ scanned L (length before) ws)
-    × ((passes L (length before) ws ≡ true → Gathered (unpacked ws) (reach (unpacked ws)) after)
-    × (length after ≡ length before))
-told L ws before after r s = (s .answer, (s .sums, s .length))
-
--- ---- the fields that are words
-
-module _ (ws : List ℕ) where
-  pass-is : unpacked ws .pass ≡ word ws 4
-  unfolding unpacked
-  pass-is = refl
-
-  agreed-is : unpacked ws .agreed ≡ word ws 7
-  unfolding unpacked
-  agreed-is = refl
-
-  nodes-is : unpacked ws .nodes ≡ word ws atNodes
-  unfolding unpacked
-  nodes-is = refl
-
-  spot-is : (L : Limits)
-      → spotAt L (dims (unpacked ws)) (word ws 0) (word ws 1) (word ws 4) (word ws 5) (word ws 7) ≡ spotIn L ws
-  unfolding unpacked
-  spot-is L = refl
-
-  abbrev headIn : ℕ → Bool
-  headIn p =
-      let n = unpacked ws in
-      headTest p (n .nodes) (n .number) (n .pass) (n .dim) (n .busy) (n .flag)
-
-  head-is : (p : ℕ)
-      → headTested p ws
-      ≡ both (ltb (word ws atPhase) 256)
-      (both (ltb (word ws atBusy) 2) (both (ltb (word ws atFlag) 2) (headIn p)))
-  unfolding headTested unpacked
-  head-is p = refl
-
--- the pass is 1 or 2
-pass-low : (n : Node) → positionOk n ≡ true → n .pass < 256
-unfolding positionOk
-pass-low n = go (eqb (dims n) 0)
-  where
-    one : (s t : Bool) → eqb (n .pass) 1 ≡ s → eqb (n .pass) 2 ≡ t → either s t ≡ true → n .pass < 256
-    one true t a b e = let q = eqb-true (n .pass) 1 a in omega arith
-    one false true a b e = let q = eqb-true (n .pass) 2 b in omega arith
-    one false false a b e = clash (sym e)
-
-    go : (t : Bool)
-        → choose t (both (eqb (n .pass) 1) (eqb (n .dim) 0))
-        (both (either (eqb (n .pass) 1) (eqb (n .pass) 2)) (ltb (n .dim) (dims n)))
-        ≡ true
-        → n .pass < 256
-    go true e = let q = eqb-true (n .pass) 1 (both-true (eqb (n .pass) 1) (eqb (n .dim) 0) e .0) in omega arith
-    go false e =
-        one (eqb (n .pass) 1) (eqb (n .pass) 2) refl refl
-        (both-true (either (eqb (n .pass) 1) (eqb (n .pass) 2)) (ltb (n .dim) (dims n)) e .0)
-
--- ---- the head and the tallies
-
-module _ (L : Limits) (room : ℕ) (ws : List ℕ) (p : ℕ) (b : Boarded L room ws p) where
-  same : p ≡ dims (unpacked ws)
-  same = b .dims ∙ sym (dims-of ws)
-
-  good : badBoard L (unpacked ws .nodes) ≡ false
-  good = ap (badBoard L) (nodes-is ws) ∙ b .board
-
-  pub head-fails : headTested p ws ≡ false → passes L room ws ≡ false
-  head-fails e =
-      not-passing L room ws
+  pub head-fails : (Passing L ws → ⊥) → passes L room ws ≡ false
+  head-fails f =
+      not-passing
       (λ w v s.
       let q = whole L ws w in
-      let z : headTested p ws ≡ headIn ws p =
-      head-is ws p ∙ rw (lt-ltb _ _ (q .phase), lt-ltb _ _ (q .busy), lt-ltb _ _ (q .flag)) in
-      not-both v (bad-head L (unpacked ws) p good same (sym z ∙ e)))
+      let n = survey.whole L (unpacked ws) v in
+      f
+      (record {
+        good = q .board;
+        long = q .long;
+        phase = q .phase;
+        busy = q .busy;
+        flag = q .flag;
+        board = n .board;
+        position = n .position;
+        work = n .busy;
+        agreed = valid-known L (unpacked ws) v .agreed;
+      }))
 
-  module _ (fit : Fits L) where
-    pub few-dims : p ≤ 8
-    few-dims = omega (arith, b .dims, few-of L fit ws (b .board))
+-- ---- once the head passes
 
-    sent-at : (m : ℕ) → m < p → sentAt (unpacked ws .sent) m ≡ word ws (8 + m)
-    sent-at m l =
-        sent-word ws m (omega (arith, few-dims)) ∙ choose-yes _ _ (lt-ltb m (dimsOf ws) (omega (arith, b .dims)))
-
-    taken-at : (m : ℕ) → m < p → takenAt (unpacked ws .taken) m ≡ word ws (8 + p + m)
-    taken-at m l =
-        taken-word ws m (omega (arith, few-dims))
-        ∙ choose-yes _ _ (lt-ltb m (dimsOf ws) (omega (arith, b .dims)))
-        ∙ ap (λ q. word ws (8 + q + m)) (sym (b .dims))
-
-    sends-are : total (λ m. word ws (8 + m)) p ≡ tally (unpacked ws) allSent
-    sends-are =
-        total-same (λ m. word ws (8 + m)) (sentAt (unpacked ws .sent)) p (λ m l. sym (sent-at m l))
-        ∙ ap (total (sentAt (unpacked ws .sent))) same
-
-    takes-are : total (λ m. word ws (8 + p + m)) p ≡ tally (unpacked ws) allTaken
-    takes-are =
-        total-same (λ m. word ws (8 + p + m)) (takenAt (unpacked ws .taken)) p (λ m l. sym (taken-at m l))
-        ∙ ap (total (takenAt (unpacked ws .taken))) same
-
-    pub many-sends : L .sends < total (λ m. word ws (8 + m)) p → passes L room ws ≡ false
-    many-sends l =
-        not-passing L room ws
-        (λ w v s.
-        omega (arith, sends-are, sends-low L (unpacked ws) (survey.whole L (unpacked ws) v .tallies)))
-
-    pub many-takes : takenLimit L < total (λ m. word ws (8 + p + m)) p → passes L room ws ≡ false
-    many-takes l =
-        not-passing L room ws
-        (λ w v s.
-        omega (arith, takes-are, takes-low L (unpacked ws) (survey.whole L (unpacked ws) v .tallies)))
-
--- ---- once head and tallies pass
-
-module _ (L : Limits) (fit : Fits L) (room : ℕ) (ws : List ℕ) (p x y : ℕ) (t : Tallied L room ws p x y) where
+module _ (L : Limits) (fit : Fits L) (room : ℕ) (ws : List ℕ) (head : Passing L ws) (here : Spot)
+    (spot : here ≡ spotIn L ws) where
   abbrev n : Node
   n = unpacked ws
 
-  abbrev on : Boarded L room ws p
-  on = t .boarded
+  abbrev p : ℕ
+  p = here .dims
 
-  bound : p ≤ 8
-  bound = few-dims L room ws p on fit
+  pub equal : p ≡ dims n
+  equal = ap (λ (s : Spot). s .dims) spot
 
-  equal : p ≡ dims n
-  equal = same L room ws p on
+  same : p ≡ dimsOf ws
+  same = equal ∙ dims-is ws
 
-  ranges : (word ws atPhase < 256) × (word ws atBusy < 2) × (word ws atFlag < 2) × (headIn ws p ≡ true)
-  ranges =
-      let a = both-true (ltb (word ws atPhase) 256) _ (sym (head-is ws p) ∙ t .head) in
-      let b = both-true (ltb (word ws atBusy) 2) _ (a .1) in
-      let c = both-true (ltb (word ws atFlag) 2) (headIn ws p) (b .1) in
-      (ltb-true _ _ (a .0), ltb-true _ _ (b .0), ltb-true _ _ (c .0), c .1)
+  pub few-dims : p ≤ 8
+  few-dims = omega (arith, same, few L fit ws (head .good))
 
-  heads : (boardOk L n ≡ true) × (positionOk n ≡ true) × (busyOk n ≡ true)
-  heads = good-head L n p (good L room ws p on) equal (ranges .3)
+  sent-at : (m : ℕ) → m < p → sentAt (n .sent) m ≡ word ws (8 + m)
+  sent-at m l =
+      sent-word ws m (omega (arith, few-dims)) ∙ choose-yes _ _ (lt-ltb m (dimsOf ws) (omega (arith, same)))
 
-  pub pass-small : word ws 4 < 256
-  pass-small = omega (arith, pass-is ws, pass-low n (heads .1))
+  taken-at : (m : ℕ) → m < p → takenAt (n .taken) m ≡ word ws (8 + p + m)
+  taken-at m l =
+      taken-word ws m (omega (arith, few-dims))
+      ∙ choose-yes _ _ (lt-ltb m (dimsOf ws) (omega (arith, same)))
+      ∙ ap (λ q. word ws (8 + q + m)) (sym same)
 
-  -- a shell that the board does not have
-  no-shell : (m : ℕ) → dims n ≤ m → m < 8 → (tally n (sentIn m) ≡ 0) × (tally n (takenIn m) ≡ 0)
-  no-shell m a c =
-      let e = le-ltb m (dimsOf ws) (omega (arith, dims-of ws)) in
-      (sent-word ws m c ∙ choose-no _ _ e, taken-word ws m c ∙ choose-no _ _ e)
+  sends-are : sentTotal p ws ≡ tally n allSent
+  sends-are =
+      total-same (λ m. word ws (8 + m)) (sentAt (n .sent)) p (λ m l. sym (sent-at m l))
+      ∙ ap (total (sentAt (n .sent))) equal
 
-  tallied : talliesOk L n ≡ true
-  unfolding talliesOk
-  tallied =
-      both-make
-      (both-make (le-leb (tally n allSent) (L .sends) (omega (arith, t .few-sends, t .sends, sends-are L room ws p on fit)))
-      (le-leb (tally n allTaken) (takenLimit L) (omega (arith, t .few-takes, t .takes, takes-are L room ws p on fit))))
-      (every-make (dims n) (8 - dims n) (λ m. both (eqb (tally n (sentIn m)) 0) (eqb (tally n (takenIn m)) 0))
-      (λ m a c.
-      let z = no-shell m a (omega arith) in
-      both-make (eq-eqb (tally n (sentIn m)) 0 (z .0)) (eq-eqb (tally n (takenIn m)) 0 (z .1))))
+  takes-are : takenTotal p ws ≡ tally n allTaken
+  takes-are =
+      total-same (λ m. word ws (8 + p + m)) (takenAt (n .taken)) p (λ m l. sym (taken-at m l))
+      ∙ ap (total (takenAt (n .taken))) equal
 
-  x-is : x ≡ tally n allSent
-  x-is = t .sends ∙ sends-are L room ws p on fit
-
-  y-is : y ≡ tally n allTaken
-  y-is = t .takes ∙ takes-are L room ws p on fit
-
-  gathered : (before after : List ℕ) → Started p before after ws x y → Gathered n 0 after
-  unfolding own
-  gathered before after s f h = rw (sym equal) (go f (rw (sym equal) at h))
-    where
-      go : (f : Field) → Below p f → sumOf p after f ≡ own n 0 f
-      go (sentIn m) h = s .tallies m (omega arith) ∙ sym (sent-at L room ws p on fit m h)
-      go (takenIn m) h =
-          let e : 8 + (p + m) ≡ 8 + p + m = omega arith in
-          s .tallies (p + m) (omega arith) ∙ ap (word ws) e ∙ sym (taken-at L room ws p on fit m h)
-      go allSent h = s .issued ∙ x-is
-      go allTaken h = s .received ∙ y-is
-
-  issued-start : x ≡ ownIssued n 0
-  unfolding ownIssued
-  issued-start = x-is
-
-  pub walking : (before after : List ℕ) → length before ≡ room → Started p before after ws x y → (here : Spot)
-      → here ≡ spotAt L p (word ws 0) (word ws 1) (word ws 4) (word ws 5) (word ws 7) → Walking L ws after here x
-  walking before after e s here q =
-      record {
-        board = heads .0;
-        position = heads .1;
-        tallies = tallied;
-        spot =
-            q
-            ∙ ap (λ d. spotAt L d (word ws 0) (word ws 1) (word ws 4) (word ws 5) (word ws 7)) equal
-            ∙ spot-is ws L;
-        long = omega (arith, ap stateWords equal, on .long);
-        room = omega (arith, equal, on .wide, s .length);
-        sums = gathered before after s;
-        sends = issued-start;
-      }
-
-  -- ---- the steps
-
-  marked : (k : ℕ) → k < dims n → isWhole L ws ≡ true → isMarked ws (dims n) k ≡ true
-  marked k l w =
-      let q = whole L ws w in
-      rw (dims-of ws)
-      (both-make (lt-ltb _ _ (q .first k (omega (arith, dims-of ws))))
-      (lt-ltb _ _ (q .second k (omega (arith, dims-of ws)))))
-
-  pub step-fails : (start after : List ℕ) (r : Walked) → WalkedAll L ws start after r → r .ok ≡ false
-      → passes L room ws ≡ false
-  unfolding stepIn
-  step-fails start after r w e =
+  pub tallies-fail : (Tallied L p ws room → ⊥) → passes L room ws ≡ false
+  tallies-fail f =
       not-passing L room ws
-      (λ u v s.
-      not-both
-      (every-make 0 (dims n) (stepIn L ws)
-      (λ k a c.
-      both-make (marked k (omega arith) u)
-      (whole-step L n (heads .0) k (omega (arith, equal, bound)) (survey.whole L n v))))
-      (sym (w .ok) ∙ e))
+      (λ w v s.
+      let ok = survey.whole L n v .tallies in
+      f
+      (record {
+        room =
+            record {
+              few = few-dims;
+              long = omega (arith, ap stateWords same, head .long, first-above p p);
+              wide = omega (arith, same, s);
+            };
+        sends = omega (arith, sends-are, sends-low L n ok);
+        takes = omega (arith, takes-are, takes-low L n ok);
+      }))
 
-  module _ (start after : List ℕ) (r : Walked) (w : WalkedAll L ws start after r) (ok : r .ok ≡ true) where
-    steps : (k : ℕ) → k < dims n → (isMarked ws (dims n) k ≡ true) × (stepAt L n k ≡ true)
-    unfolding stepIn
-    steps k l =
-        both-true (isMarked ws (dims n) k) (stepAt L n k)
-        (every-at 0 (dims n) (stepIn L ws) (sym (w .ok) ∙ ok) k (omega arith) (omega arith))
+  -- ---- once the tallies pass
 
-    all-steps : (k : ℕ) → k < 8 → stepAt L n k ≡ true
-    all-steps k l = go (decLt k (dims n))
+  module _ (t : Tallied L p ws room) where
+    -- a shell that the board does not have
+    no-shell : (m : ℕ) → dims n ≤ m → m < 8 → (tally n (sentIn m) ≡ 0) × (tally n (takenIn m) ≡ 0)
+    no-shell m a c =
+        let e = le-ltb m (dimsOf ws) (omega (arith, dims-is ws)) in
+        (sent-word ws m c ∙ choose-no _ _ e, taken-word ws m c ∙ choose-no _ _ e)
+
+    tallies : talliesOk L n ≡ true
+    unfolding talliesOk
+    tallies =
+        both-make
+        (both-make (le-leb (tally n allSent) (L .sends) (omega (arith, t .sends, sends-are)))
+        (le-leb (tally n allTaken) (takenLimit L) (omega (arith, t .takes, takes-are))))
+        (every-make (dims n) (8 - dims n) (λ m. both (eqb (tally n (sentIn m)) 0) (eqb (tally n (takenIn m)) 0))
+        (λ m a c.
+        let z = no-shell m a (omega arith) in
+        both-make (eq-eqb (tally n (sentIn m)) 0 (z .0)) (eq-eqb (tally n (takenIn m)) 0 (z .1))))
+
+    gathered : (after : List ℕ) → Started p ws after → Gathered n 0 after
+    unfolding own
+    gathered after s f h = rw (sym equal) (go f (rw (sym equal) at h))
       where
-        go : Dec (k < dims n) → stepAt L n k ≡ true
-        go (yes c) = steps k c .1
-        go (no c) =
-            step-past L n k (omega arith)
-            (first-word ws k l ∙ first-past ws (dimsOf ws) k (omega (arith, dims-of ws)))
-            (second-word ws k l ∙ second-past ws (dimsOf ws) k (omega (arith, dims-of ws)))
+        go : (f : Field) → Below p f → sumOf p after f ≡ own n 0 f
+        go (sentIn m) h = s .tallies m (omega arith) ∙ sym (sent-at m h)
+        go (takenIn m) h =
+            let e : 8 + (p + m) ≡ 8 + p + m = omega arith in
+            s .tallies (p + m) (omega arith) ∙ ap (word ws) e ∙ sym (taken-at m h)
+        go allSent h = s .issued ∙ sends-are
+        go allTaken h = s .received ∙ takes-are
 
-    -- ---- T
+    pub walking : (after : List ℕ) → length after ≡ room → Started p ws after → (x : ℕ) → x ≡ sentTotal p ws
+        → Walking L ws after here x
+    unfolding ownIssued
+    walking after len s x e =
+        record {
+          board = head .board;
+          position = head .position;
+          tallies = tallies;
+          agreed = head .agreed;
+          spot = spot;
+          long = omega (arith, ap stateWords (dims-is ws), head .long);
+          room = omega (arith, equal, t .room .wide, len);
+          sums = gathered after s;
+          sends = e ∙ sends-are;
+        }
 
-    received : word after (2 * p + 1) ≡ own n (reach n) allTaken
-    received = ap (λ q. word after (2 * q + 1)) equal ∙ w .sums ok allTaken tt
+    -- ---- the steps
 
-    module _ (limit : ℕ) (e : limit ≡ fieldLimit L) where
+    marked : (k : ℕ) → k < dims n → isWhole L ws ≡ true → isMarked ws (dims n) k ≡ true
+    marked k l w =
+        let q = whole L ws w in
+        rw (dims-is ws)
+        (both-make (lt-ltb _ _ (q .first k (omega (arith, dims-is ws))))
+        (lt-ltb _ _ (q .second k (omega (arith, dims-is ws)))))
+
+    pub step-fails : (start after : List ℕ) (r : Walked) → WalkedAll L ws start after r → r .ok ≡ false
+        → passes L room ws ≡ false
+    unfolding stepIn
+    step-fails start after r w e =
+        not-passing L room ws
+        (λ u v s.
+        not-both
+        (every-make 0 (dims n) (stepIn L ws)
+        (λ k a c.
+        both-make (marked k (omega arith) u)
+        (whole-step L n (head .board) k (omega (arith, equal, few-dims)) (survey.whole L n v))))
+        (sym (w .ok) ∙ e))
+
+    module _ (start after : List ℕ) (r : Walked) (w : WalkedAll L ws start after r) (ok : r .ok ≡ true) where
+      steps : (k : ℕ) → k < dims n → (isMarked ws (dims n) k ≡ true) × (stepAt L n k ≡ true)
+      unfolding stepIn
+      steps k l =
+          both-true (isMarked ws (dims n) k) (stepAt L n k)
+          (every-at 0 (dims n) (stepIn L ws) (sym (w .ok) ∙ ok) k (omega arith) (omega arith))
+
+      all-steps : (k : ℕ) → k < 8 → stepAt L n k ≡ true
+      all-steps k l = go (decLt k (dims n))
+        where
+          go : Dec (k < dims n) → stepAt L n k ≡ true
+          go (yes c) = steps k c .1
+          go (no c) =
+              step-past L n k (omega arith)
+              (first-word ws k l ∙ first-past ws (dimsOf ws) k (omega (arith, dims-is ws)))
+              (second-word ws k l ∙ second-past ws (dimsOf ws) k (omega (arith, dims-is ws)))
+
+      -- ---- T
+
       abbrev test : Bool
-      test = totalTested limit (word ws 4) (word ws 7) (word after (2 * p + 1))
+      test = totalTested (here .pass) (here .agreed) (word after (2 * p + 1))
 
-      total-is : test ≡ totalTest L (n .pass) (n .agreed) (own n (dims n) allTaken)
+      total-is : both (leb (n .agreed) (fieldLimit L)) test ≡ totalTest L (n .pass) (n .agreed) (own n (dims n) allTaken)
       total-is =
-          (λ i. totalTested (e i) (sym (pass-is ws) i) (sym (agreed-is ws) i) (received i)) ∙ go (eqb (n .pass) 1)
+          (λ i.
+          both (leb (n .agreed) (fieldLimit L))
+          (totalTested (spot i .pass) (spot i .agreed) (word after (2 * spot i .dims + 1))))
+          ∙ ap (λ x. both (leb (n .agreed) (fieldLimit L)) (totalTested (n .pass) (n .agreed) x)) (w .sums ok allTaken tt)
+          ∙ go (eqb (n .pass) 1)
         where
           go : (u : Bool)
               → both (leb (n .agreed) (fieldLimit L))
@@ -323,55 +240,60 @@ module _ (L : Limits) (fit : Fits L) (room : ℕ) (ws : List ℕ) (p x y : ℕ) 
           go true = refl
           go false = refl
 
+      low-total : leb (n .agreed) (fieldLimit L) ≡ true
+      low-total = le-leb _ _ (head .agreed)
+
       pub total-fails : test ≡ false → passes L room ws ≡ false
       total-fails f =
           not-passing L room ws
-          (λ u v s. not-both v (bad-total L n (own n (dims n) allTaken) refl (sym total-is ∙ f)))
+          (λ u v s.
+          not-both v
+          (bad-total L n (own n (dims n) allTaken) refl
+          (sym total-is ∙ (λ i. both (low-total i) (f i)))))
 
       module _ (f : test ≡ true) where
         valid-state : valid L n ≡ true
         valid-state =
-            found L fit n (heads .0) all-steps (heads .1) tallied
-            (good-total L n (own n (dims n) allTaken) refl (sym total-is ∙ f)) (heads .2)
+            found L fit n (head .board) all-steps (head .position) tallies
+            (good-total L n (own n (dims n) allTaken) refl (sym total-is ∙ both-make low-total f)) (head .work)
 
         whole-words : isWhole L ws ≡ true
         whole-words =
             whole-made L ws
             (record {
-              board = on .board;
-              long = omega (arith, ap stateWords (on .dims), on .long);
-              phase = ranges .0;
-              busy = ranges .1;
-              flag = ranges .2;
+              board = head .good;
+              long = head .long;
+              phase = head .phase;
+              busy = head .busy;
+              flag = head .flag;
               first = λ k l. ltb-true _ _ (marks k l .0);
               second = λ k l. ltb-true _ _ (marks k l .1);
             })
           where
             marks : (k : ℕ) → k < dimsOf ws
-                → (ltb (word ws (atFirst (dimsOf ws) k)) 2 ≡ true) × (ltb (word ws (atSecond (dimsOf ws) k)) 2 ≡ true)
-            marks k l = both-true _ _ (rw (dims-of ws) at (steps k (omega (arith, dims-of ws)) .0))
+                → (lib.Dec.ltb (word ws (atFirst (dimsOf ws) k)) 2 ≡ true)
+                × (lib.Dec.ltb (word ws (atSecond (dimsOf ws) k)) 2 ≡ true)
+            marks k l = both-true _ _ (rw (dims-is ws) at (steps k (omega (arith, dims-is ws)) .0))
 
         passing : passes L room ws ≡ true
         passing =
             both-make
-            (both-make whole-words (le-leb (sumWords (dimsOf ws)) room (omega (arith, on .dims, on .wide)))) valid-state
+            (both-make whole-words (le-leb (sumWords (dimsOf ws)) room (omega (arith, same, t .room .wide)))) valid-state
 
-        pub scanned-all : (before : List ℕ) → length before ≡ room → length start ≡ length before
+        pub scanned-all : (before : List ℕ) → length before ≡ room → length after ≡ length before → (x y : ℕ)
+            → x ≡ sentTotal p ws → y ≡ takenTotal p ws
             → Scanned L ws before after
             (record { ok = true; dims = p; sends = sentNumber x; takes = takenNumber y; issued = r .issued })
         unfolding scanned
-        scanned-all before q s =
-            record {
-              answer =
-                  (λ i.
-                  record {
-                    ok = true;
-                    dims = equal i;
-                    sends = sentNumber (x-is i);
-                    takes = takenNumber (y-is i);
-                    issued = sentNumber (w .issued ok i);
-                  })
-                  ∙ sym (choose-yes _ _ (ap (λ m. passes L m ws) q ∙ passing));
-              sums = λ u. w .sums ok;
-              length = w .length ∙ s;
-            }
+        scanned-all before q len x y a b = (
+          (λ i.
+              record {
+                ok = true;
+                dims = equal i;
+                sends = sentNumber ((a ∙ sends-are) i);
+                takes = takenNumber ((b ∙ takes-are) i);
+                issued = sentNumber (w .issued ok i);
+              })
+              ∙ sym (choose-yes _ _ (ap (λ m. passes L m ws) q ∙ passing)),
+          ((λ u. w .sums ok), len),
+        )

@@ -1,9 +1,9 @@
 -- The walk over the stored frames: before dimension k the sums are the own sums for k, or for the position once that is
--- passed, and the words of dimension k begin where the walk is.
+-- passed, they are within the limit, and the words of dimension k begin where the walk is.
 use mathlib.Core.Path.{_≡_, refl, sym, ap, _∙_}
 use mathlib.Core.Bool.{Bool, true, false, not}
 use mathlib.Core.List.{List}
-use Prim.Native.Nat.{ℕ, suc, _+_, _-_, _*_, _≤_, _<_, _^_, min}
+use Prim.Native.Nat.{ℕ, suc, _+_, _-_, _*_, _≤_, _<_, min}
 use native.Mathlib.Decide.{decLt}
 use native.Mathlib.Nat.{add-zero}
 use native.Mathlib.Numerals.{add-one}
@@ -11,49 +11,42 @@ use native.Mathlib.Omega.{arith}
 use lib.Dec.{eqb, ltb}
 use lib.ListN.{length}
 use borrow.Author.Count.{below-more}
-use borrow.Author.Tests.{lt-ltb, le-ltb, ltb-true, eqb-true}
+use borrow.Author.Tests.{lt-ltb, le-ltb, ltb-true, eqb-true, not-true}
 use Rattle.base.specs.Choice.{choose, both, either, every}
-use Rattle.base.specs.Limits.{Limits, fieldLimit, Fits}
-use Rattle.base.proofs.Laws.{clash, choose-yes, choose-no, both-true, every-at, every-make}
-use Rattle.base.proofs.Limits.{field-low, mul-low}
-use Rattle.node.specs.Sums.{dims, firstAt, secondAt, Field, sentIn, takenIn, allSent, allTaken, number}
+use Rattle.base.specs.Limits.{Limits, fieldLimit, takenLimit, Fits}
+use Rattle.base.proofs.Laws.{clash, choose-yes, choose-no, both-true, both-make, every-at, every-make}
+use Rattle.base.proofs.Limits.{mul-low}
+use Rattle.tree.specs.Lookups.{badBoard}
+use Rattle.tree.proofs.Lookups.{board-good}
+use Rattle.frame.specs.Frame.{sentAt, takenAt}
+use Rattle.frame.specs.declared.Sent.{Sent}
+use Rattle.node.specs.Sums.{dims, firstAt, secondAt, Field, sentIn, takenIn, allSent, allTaken, number, tally}
 use Rattle.node.specs.Sums.{own, ownIssued}
-use Rattle.node.specs.State.{positionOk, firstOk, secondOk}
-use Rattle.frame.specs.Frame.{sentNumber}
+use Rattle.node.specs.Agree.{firstClauses, secondClauses, allHold}
+use Rattle.node.specs.State.{boardOk, positionOk, talliesOk, firstOk, secondOk}
 use Rattle.node.specs.declared.Stored.{Stored}
 use Rattle.node.specs.declared.Confirm.{Confirm}
 use Rattle.node.specs.declared.Node.{Node}
-use Rattle.steps.specs.Step.{awaitsAt, firstPast, secondPast, stepTest}
-use Rattle.steps.specs.declared.Spot.{Spot}
-use Rattle.steps.proofs.Stored.{Has}
+use Rattle.node.proofs.Clauses.{Has}
+use Rattle.node.proofs.Totals.{total-at}
+use Rattle.survey.specs.Step.{firstTest, secondTest, awaitsAt, firstPast, secondPast, firstHeld, secondHeld, stepTest}
+use Rattle.survey.specs.declared.Spot.{Spot}
 use Rattle.survey.proofs.Valid.{fails, not-both}
-use Rattle.survey.proofs.Sums.{own-more, own-low, issued-more, issued-low}
-use Rattle.survey.proofs.Steps.{few}
+use Rattle.survey.proofs.Sums.{own-more, issued-more, sends-low, takes-low}
+use Rattle.survey.proofs.Steps.{few, clauses-same}
 use Rattle.survey.proofs.Tested.{stepAt, step-first, step-second}
 use Rattle.layout.specs.Places.{atFirst, atSecond}
-use Rattle.layout.specs.Held.{word, firstFrom, secondFrom, firstIn, secondIn, sumOf, unpacked, dimsOf}
-use Rattle.layout.specs.Held.{isMarked}
-use Rattle.layout.proofs.Offsets.{first-more, first-inside, words-closed}
+use Rattle.layout.specs.Held.{word, firstFrom, secondFrom, firstIn, secondIn, sumOf, unpacked, isMarked}
+use Rattle.layout.proofs.Offsets.{first-more}
 use Rattle.layout.proofs.Reading.{first-word, second-word, first-in, second-in}
-use Rattle.scan.specs.Scan.{reach, confirmReach, Below, Gathered}
-use Rattle.scan.specs.Walk.{heldTest, stepWords, RoomFor, Small, Fitting, AddedWhere, spotIn, stepIn}
-use Rattle.scan.specs.Walk.{Walking, WalkedAll}
-use Rattle.scan.proofs.Frames.{held-low, room-for}
-use Rattle.scan.proofs.Agreeing.{step-words, step-reads}
-
-pub dims-of : (ws : List ℕ) → dims (unpacked ws) ≡ dimsOf ws
-unfolding unpacked
-dims-of ws = refl
-
-has : (p : ℕ) → p ≤ 8 → (f : Field) → Below p f → Has f
-has p l (sentIn m) h = omega arith
-has p l (takenIn m) h = omega arith
-has p l allSent h = tt
-has p l allTaken h = tt
-
--- the words of a board
-words-few : (p : ℕ) → p ≤ 8 → p * (p + 9) ≤ 136
-words-few p h = mul-low p 8 (p + 9) 17 h (omega arith)
+use Rattle.head.specs.Head.{spotIn}
+use Rattle.head.proofs.Heads.{dims-is}
+use Rattle.gather.specs.Gather.{Below}
+use Rattle.scan.specs.Scan.{reach, confirmReach, Gathered}
+use Rattle.scan.specs.Pieces.{Standing, Summed, firstWhole, secondWhole, FirstDone, SecondDone, stepIn}
+use Rattle.scan.specs.Pieces.{Told, Walking, WalkedAll}
+use Rattle.scan.specs.declared.Walked.{Walked}
+use Rattle.scan.proofs.Stepping.{has-below, in-below, sums-within, issued-within}
 
 -- ---- the frames of a dimension, by the walk's place
 
@@ -61,13 +54,13 @@ module _ (ws : List ℕ) (k : ℕ) (low : k < dims (unpacked ws)) (bound : dims 
   first-is : firstAt (unpacked ws) k ≡ firstFrom ws (dims (unpacked ws)) k (atFirst (dims (unpacked ws)) k)
   first-is =
       first-word ws k (omega arith)
-      ∙ ap (λ p. firstIn ws p k) (sym (dims-of ws))
+      ∙ ap (λ p. firstIn ws p k) (sym (dims-is ws))
       ∙ first-in ws (dims (unpacked ws)) k low
 
   second-is : secondAt (unpacked ws) k ≡ secondFrom ws (atSecond (dims (unpacked ws)) k)
   second-is =
       second-word ws k (omega arith)
-      ∙ ap (λ p. secondIn ws p k) (sym (dims-of ws))
+      ∙ ap (λ p. secondIn ws p k) (sym (dims-is ws))
       ∙ second-in ws (dims (unpacked ws)) k low
 
 -- ---- the position
@@ -102,21 +95,43 @@ module _ (n : Node) where
       go true = omega arith
       go false = dim-low e
 
-module _ (L : Limits) (ws : List ℕ) (k : ℕ) where
-  first-reach : k < dims (unpacked ws) → firstPast (spotIn L ws) k ≡ ltb k (reach (unpacked ws))
-  first-reach l = go (eqb (unpacked ws .pass) 1)
-    where
-      go : (t : Bool)
-          → either (not t) (ltb k (unpacked ws .dim)) ≡ ltb k (choose t (unpacked ws .dim) (dims (unpacked ws)))
-      go true = refl
-      go false = sym (lt-ltb k (dims (unpacked ws)) l)
+module _ (s : Spot) (k : ℕ) where
+  awaited : k < s .dims → awaitsAt s k ≡ not (both (eqb k 0) (s .alone))
+  unfolding awaitsAt
+  awaited l = ap (λ t. both t (not (both (eqb k 0) (s .alone)))) (lt-ltb k (s .dims) l)
 
-  second-reach : secondPast (spotIn L ws) k ≡ ltb k (confirmReach (unpacked ws))
-  second-reach = go (eqb (unpacked ws .pass) 1)
+  first-reach : k < s .dims → firstPast s k ≡ ltb k (choose (eqb (s .pass) 1) (s .dim) (s .dims))
+  first-reach l = go (eqb (s .pass) 1)
     where
-      go : (t : Bool) → both (not t) (ltb k (unpacked ws .dim)) ≡ ltb k (choose t 0 (unpacked ws .dim))
+      go : (t : Bool) → either (not t) (ltb k (s .dim)) ≡ ltb k (choose t (s .dim) (s .dims))
+      go true = refl
+      go false = sym (lt-ltb k (s .dims) l)
+
+  second-reach : secondPast s k ≡ ltb k (choose (eqb (s .pass) 1) 0 (s .dim))
+  second-reach = go (eqb (s .pass) 1)
+    where
+      go : (t : Bool) → both (not t) (ltb k (s .dim)) ≡ ltb k (choose t 0 (s .dim))
       go true = sym (le-ltb k 0 (omega arith))
       go false = refl
+
+  -- what the walk hands to a step
+  module _ (low : k < s .dims) (awaits : Bool) (a : awaits ≡ not (both (eqb k 0) (s .alone))) (tried : Bool) where
+    told : (past : Bool) (steps : ℕ) → past ≡ ltb k steps → tried ≡ both awaits (ltb k steps)
+        → Told s (s .dims) k awaits past tried
+    told past steps e t =
+        record {
+          dims = refl;
+          awaits = awaited low ∙ sym a;
+          tried = (λ i. both ((awaited low ∙ sym a) i) (e i)) ∙ sym t;
+        }
+
+    pub first-told : (steps : ℕ) → steps ≡ choose (eqb (s .pass) 1) (s .dim) (s .dims)
+        → tried ≡ both awaits (ltb k steps) → Told s (s .dims) k awaits (firstPast s k) tried
+    first-told steps e = told (firstPast s k) steps (first-reach low ∙ ap (ltb k) (sym e))
+
+    pub second-told : (steps : ℕ) → steps ≡ choose (eqb (s .pass) 1) 0 (s .dim) → tried ≡ both awaits (ltb k steps)
+        → Told s (s .dims) k awaits (secondPast s k) tried
+    second-told steps e = told (secondPast s k) steps (second-reach ∙ ap (ltb k) (sym e))
 
 -- a sum that grows up to a place: one step more
 grown : (f : ℕ → ℕ) (r k x y : ℕ) (t : Bool) → t ≡ ltb k r → x ≡ f (min k r) → (k < r → f (suc k) ≡ f k + y)
@@ -135,6 +150,94 @@ grown f r k x y t e a more = ap (λ u. x + choose u y 0) e ∙ go (decLt k r)
         let u : min k r ≡ min (k + 1) r = omega arith in
         ap (λ z. x + z) (choose-no y 0 (le-ltb k r (omega arith))) ∙ add-zero x ∙ a ∙ ap f u
 
+-- ---- the parts of a step are the step
+
+joined : (m n f s a g h : Bool)
+    → both (both m (both f (either a g))) (both n (both s (either a h)))
+    ≡ both (both m n) (both f (both s (either a (both g h))))
+joined false n f s a g h = refl
+joined true true false s a g h = refl
+joined true false false s a g h = refl
+joined true n true s true g h = refl
+joined true n true s false true h = refl
+joined true false true s false false h = refl
+joined true true true true false false h = refl
+joined true true true false false false h = refl
+
+module _ (L : Limits) (ws : List ℕ) (k : ℕ) where
+  abbrev firstPart : Bool
+  firstPart =
+      let n = unpacked ws in
+      firstWhole L (spotIn L ws) k (own n k) (word ws (atFirst (dims n) k)) (firstAt n k)
+
+  abbrev secondPart : Bool
+  secondPart =
+      let n = unpacked ws in
+      secondWhole L (spotIn L ws) k (ownIssued n k) (word ws (atSecond (dims n) k)) (secondAt n k)
+
+  parts : both firstPart secondPart ≡ stepIn L ws k
+  unfolding firstWhole secondWhole stepIn stepTest
+  parts =
+      let n = unpacked ws in
+      let s = spotIn L ws in
+      joined (ltb (word ws (atFirst (dims n) k)) 2) (ltb (word ws (atSecond (dims n) k)) 2)
+      (firstTest L (awaitsAt s k) (dims n) k (firstAt n k)) (secondTest L (awaitsAt s k) (secondAt n k))
+      (not (awaitsAt s k)) (firstHeld L s k (own n k) (firstAt n k)) (secondHeld L s k (ownIssued n k) (secondAt n k))
+
+-- a step reads the sums only where it is before the position
+module _ (L : Limits) (s : Spot) (k mark : ℕ) (low : k < s .dims) where
+  first-reads : (f g : Field → ℕ) (x : Stored)
+      → (firstPast s k ≡ true → (h : Field) → Has (s .dims) k h → f h ≡ g h)
+      → firstWhole L s k f mark x ≡ firstWhole L s k g mark x
+  unfolding firstWhole firstHeld
+  first-reads f g x same =
+      ap
+      (λ t. both (ltb mark 2) (both (firstTest L (awaitsAt s k) (s .dims) k x) (either (not (awaitsAt s k)) t)))
+      (go (firstPast s k) refl)
+    where
+      go : (t : Bool) → firstPast s k ≡ t
+          → either (not (firstPast s k)) (allHold (firstClauses L (s .dims) k f x))
+          ≡ either (not (firstPast s k)) (allHold (firstClauses L (s .dims) k g x))
+      go true q =
+          ap (λ cs. either (not (firstPast s k)) (allHold cs)) (clauses-same L (s .dims) k f g x low (same q))
+      go false q = rw q
+
+  second-reads : (i j : ℕ) (y : Confirm) → (secondPast s k ≡ true → i ≡ j)
+      → secondWhole L s k i mark y ≡ secondWhole L s k j mark y
+  unfolding secondWhole secondHeld
+  second-reads i j y alike =
+      ap (λ t. both (ltb mark 2) (both (secondTest L (awaitsAt s k) y) (either (not (awaitsAt s k)) t)))
+      (go (secondPast s k) refl)
+    where
+      go : (t : Bool) → secondPast s k ≡ t
+          → either (not (secondPast s k)) (allHold (secondClauses L (s .dims) k i (s .agreed) y))
+          ≡ either (not (secondPast s k)) (allHold (secondClauses L (s .dims) k j (s .agreed) y))
+      go true q =
+          ap (λ e. either (not (secondPast s k)) (allHold (secondClauses L (s .dims) k e (s .agreed) y))) (alike q)
+      go false q = rw q
+
+-- ---- the tallies are within the limit
+
+module _ (L : Limits) (n : Node) (board : boardOk L n ≡ true) (ok : talliesOk L n ≡ true) where
+  some-nodes : 0 < L .nodes
+  unfolding boardOk
+  some-nodes =
+      let q = both-true (not (badBoard L (n .nodes))) (ltb (n .number) (n .nodes)) board in
+      let g = board-good L (n .nodes) (not-true _ (q .0)) in
+      omega (arith, g .0, g .1)
+
+  tally-low : (f : Field) → Has (dims n) 0 f → tally n f ≤ fieldLimit L
+  tally-low =
+      go (mul-low 1 (L .nodes) (L .sends) (L .sends) some-nodes (omega arith))
+      (mul-low (L .nodes - 1) (L .nodes) (L .sends) (L .sends) (omega arith) (omega arith))
+    where
+      go : 1 * L .sends ≤ fieldLimit L → takenLimit L ≤ fieldLimit L → (f : Field) → Has (dims n) 0 f
+          → tally n f ≤ fieldLimit L
+      go a b (sentIn m) h = omega (arith, sends-low L n ok, total-at (sentAt (n .sent)) m (dims n) (h .1))
+      go a b (takenIn m) h = omega (arith, takes-low L n ok, total-at (takenAt (n .taken)) m (dims n) (h .1))
+      go a b allSent h = omega (arith, sends-low L n ok)
+      go a b allTaken h = omega (arith, takes-low L n ok)
+
 -- ---- before dimension k
 
 pub record Held (L : Limits) (ws start : List ℕ) (k at : ℕ) (l : List ℕ) (x : ℕ) : Type 0 where
@@ -142,29 +245,32 @@ pub record Held (L : Limits) (ws start : List ℕ) (k at : ℕ) (l : List ℕ) (
   pub place : at ≡ atFirst (dims (unpacked ws)) k
   pub length : length l ≡ length start
   pub sums : Gathered (unpacked ws) (min k (reach (unpacked ws))) l
+  pub within : (f : Field) → Has (dims (unpacked ws)) (min k (reach (unpacked ws))) f
+      → sumOf (dims (unpacked ws)) l f ≤ fieldLimit L
   pub issued : x ≡ ownIssued (unpacked ws) (min k (confirmReach (unpacked ws)))
+  pub issued-low : x ≤ fieldLimit L
   pub steps : (j : ℕ) → j < k → stepIn L ws j ≡ true
 
--- the same for any limits with this limit of a field
-abbrev pub Holding : ℕ → List ℕ → List ℕ → Spot → ℕ → ℕ → List ℕ → ℕ → Type 0
-Holding limit ws start here k at l x =
-    (L : Limits) → Fits L → limit ≡ fieldLimit L → (y : ℕ) → Walking L ws start here y → Held L ws start k at l x
-
-pub held-start : (L : Limits) (ws start : List ℕ) (here : Spot) (y : ℕ) → Walking L ws start here y → (x : ℕ)
-    → x ≡ ownIssued (unpacked ws) 0 → Held L ws start 0 (8 + 2 * here .dims) start x
-unfolding atFirst
-held-start L ws start here y w x e =
+pub held-start : (L : Limits) (ws start : List ℕ) (here : Spot) (x : ℕ) → Walking L ws start here x
+    → Held L ws start 0 (8 + 2 * here .dims) start x
+unfolding atFirst own ownIssued
+held-start L ws start here x w =
     let z : (r : ℕ) → 0 ≡ min 0 r = λ r. omega arith in
+    let n = unpacked ws in
     record {
       low = omega arith;
       place = ap (λ (s : Spot). 8 + 2 * s .dims) (w .spot);
       length = refl;
-      sums = λ f h. w .sums f h ∙ ap (λ j. own (unpacked ws) j f) (z (reach (unpacked ws)));
-      issued = e ∙ ap (ownIssued (unpacked ws)) (z (confirmReach (unpacked ws)));
+      sums = λ f h. w .sums f h ∙ ap (λ j. own n j f) (z (reach n));
+      within = λ f h.
+          let g : Has (dims n) 0 f = rw (sym (z (reach n))) at h in
+          omega (arith, w .sums f (in-below (dims n) 0 f g), tally-low L n (w .board) (w .tallies) f g);
+      issued = w .sends ∙ ap (ownIssued n) (z (confirmReach n));
+      issued-low = omega (arith, w .sends, tally-low L n (w .board) (w .tallies) allSent tt);
       steps = λ j l. absurd (omega arith);
     }
 
-module _ (L : Limits) (fit : Fits L) (ws start : List ℕ) (here : Spot) (first : ℕ) (w : Walking L ws start here first)
+module _ (L : Limits) (fit : Fits L) (ws start : List ℕ) (here : Spot) (sends : ℕ) (w : Walking L ws start here sends)
     (k at : ℕ) (sums : List ℕ) (issued : ℕ) (held : Held L ws start k at sums issued) where
   abbrev n : Node
   n = unpacked ws
@@ -172,176 +278,168 @@ module _ (L : Limits) (fit : Fits L) (ws start : List ℕ) (here : Spot) (first 
   bound : dims n ≤ 8
   bound = few L fit n (w .board)
 
-  step-at : (j : ℕ) → stepIn L ws j ≡ true → stepAt L n j ≡ true
-  unfolding stepIn
-  step-at j e = both-true (isMarked ws (dims n) j) (stepAt L n j) e .1
-
-  firsts : (j : ℕ) → j < k → firstOk L n j ≡ true
-  firsts j l = step-first L n (w .board) j (step-at j (held .steps j l))
-
-  seconds : (j : ℕ) → j < k → secondOk L n j ≡ true
-  seconds j l = step-second L n (w .board) j (step-at j (held .steps j l))
-
-  small : Small (dims n) sums
-  small f h =
-      let j : ℕ = min k (reach n) in
-      let q = own-low L fit n (w .tallies) j (λ i l. firsts i (omega arith)) f (has (dims n) bound f h) in
-      omega (arith, held .sums f h, held .low, bound)
-
-  pub issued-small : issued ≤ 150992640
-  issued-small =
-      let j : ℕ = min k (confirmReach n) in
-      let q = issued-low L fit n (w .tallies) j (λ i l. seconds i (omega arith)) in
-      omega (arith, held .issued, held .low, bound)
-
-  pub sums-small : Small (here .dims) sums
-  sums-small = rw (w .spot) small
-
   module _ (l : k < dims n) where
-    words-low : atFirst (dims n) k + (2 * (dims n - k) + 6) ≤ 144
-    words-low = omega (arith, first-inside (dims n) k l, words-closed (dims n), words-few (dims n) bound)
+    -- what the step is handed
+    standing' : Standing (dims n) k ws
+    standing' = record { low = l; few = bound; long = w .long }
 
-    pub fitting : Fitting (here .dims) k at ws sums
-    fitting = rw (w .spot) core
+    pub standing : Standing (here .dims) k ws
+    standing = rw (w .spot) standing'
+
+    pub summed : firstPast here k ≡ true → Summed L (here .dims) k sums
+    summed = rw (w .spot) core
       where
-        core : Fitting (dims n) k at ws sums
-        core =
+        core : firstPast (spotIn L ws) k ≡ true → Summed L (dims n) k sums
+        core e =
+            let r = ltb-true k (reach n) (sym (first-reach (spotIn L ws) k l) ∙ e) in
             record {
-              low = l;
-              few = bound;
-              near = omega (arith, held .place, words-low);
-              long = omega (arith, held .place, first-inside (dims n) k l, w .long);
               wide = omega (arith, held .length, w .room);
+              sent = held .within (sentIn k) (omega arith, l);
+              taken = held .within (takenIn k) (omega arith, l);
             }
 
-    -- the test of dimension k
-    pub step : stepWords (fieldLimit L) here k at ws sums issued ≡ stepIn L ws k
-    unfolding stepIn
-    step =
-        (λ i. stepWords (fieldLimit L) (w .spot i) k (held .place i) ws sums issued)
-        ∙ step-words L (spotIn L ws) k (atFirst (dims n) k) ws sums issued l bound
-        ∙ ap (both (isMarked ws (dims n) k))
-        (step-reads L (spotIn L ws) k (sumOf (dims n) sums) (own n k) issued (ownIssued n k)
-        (firstFrom ws (dims n) k (atFirst (dims n) k)) (secondFrom ws (atSecond (dims n) k)) l same alike
-        ∙ (λ i.
-        stepTest L (spotIn L ws) k (own n k) (ownIssued n k) (sym (first-is ws k l bound) i)
-        (sym (second-is ws k l bound) i)))
-      where
-        same : firstPast (spotIn L ws) k ≡ true → (f : Field) → Below (dims n) f → sumOf (dims n) sums f ≡ own n k f
-        same e f h =
-            let r = ltb-true k (reach n) (sym (first-reach L ws k l) ∙ e) in
-            let u : min k (reach n) ≡ k = omega arith in
-            held .sums f h ∙ ap (λ j. own n j f) u
+    pub place : at ≡ atFirst (here .dims) k
+    place = rw (w .spot) (held .place)
 
-        alike : secondPast (spotIn L ws) k ≡ true → issued ≡ ownIssued n k
-        alike e =
-            let r = ltb-true k (confirmReach n) (sym (second-reach L ws k) ∙ e) in
+    pub agreed-low : here .agreed ≤ fieldLimit L
+    agreed-low = rw (w .spot) (w .agreed)
+
+    -- the step does not pass
+    stopped : (after : List ℕ) (r : Walked) → length after ≡ length sums → r .ok ≡ false → stepIn L ws k ≡ false
+        → WalkedAll L ws start after r
+    stopped after r len bad e =
+        record {
+          ok =
+              bad
+              ∙ sym
+              (fails (every 0 (dims n) (stepIn L ws))
+              (λ q. not-both (every-at 0 (dims n) (stepIn L ws) q k (omega arith) (omega arith)) e));
+          issued = λ q. not-both q bad;
+          sums = λ q. not-both q bad;
+          length = len ∙ held .length;
+        }
+
+    -- ---- pass 1
+
+    module _ (after : List ℕ) (t : Bool) (done : FirstDone L ws here k sums after t) where
+      first-done : FirstDone L ws (spotIn L ws) k sums after t
+      first-done = rw (w .spot) at done
+
+      first-part : t ≡ firstPart L ws k
+      first-part =
+          first-done .ok
+          ∙ first-reads L (spotIn L ws) k (word ws (atFirst (dims n) k)) l (sumOf (dims n) sums) (own n k)
+          (firstFrom ws (dims n) k (atFirst (dims n) k))
+          (λ e f h.
+          let r = ltb-true k (reach n) (sym (first-reach (spotIn L ws) k l) ∙ e) in
+          let u : min k (reach n) ≡ k = omega arith in
+          held .sums f (in-below (dims n) k f h) ∙ ap (λ j. own n j f) u)
+          ∙ ap (firstWhole L (spotIn L ws) k (own n k) (word ws (atFirst (dims n) k))) (sym (first-is ws k l bound))
+
+      pub first-stops : t ≡ false → (x : Sent) → WalkedAll L ws start after (record { ok = false; issued = x })
+      first-stops e x =
+          stopped after _ (done .length) refl
+          (sym (parts L ws k) ∙ ap (λ b. both b (secondPart L ws k)) (sym first-part ∙ e))
+
+      -- ---- pass 2
+
+      module _ (one : t ≡ true) (r : Walked) (next : SecondDone L ws here k issued r) where
+        second-done : SecondDone L ws (spotIn L ws) k issued r
+        second-done = rw (w .spot) at next
+
+        second-part : r .ok ≡ secondPart L ws k
+        second-part =
+            second-done .ok
+            ∙ second-reads L (spotIn L ws) k (word ws (atSecond (dims n) k)) l issued (ownIssued n k)
+            (secondFrom ws (atSecond (dims n) k))
+            (λ e.
+            let r = ltb-true k (confirmReach n) (sym (second-reach (spotIn L ws) k) ∙ e) in
             let u : min k (confirmReach n) ≡ k = omega arith in
-            held .issued ∙ ap (ownIssued n) u
+            held .issued ∙ ap (ownIssued n) u)
+            ∙ ap (secondWhole L (spotIn L ws) k (ownIssued n k) (word ws (atSecond (dims n) k)))
+            (sym (second-is ws k l bound))
 
-    module _ (ok : stepIn L ws k ≡ true) where
-      abbrev second : ℕ
-      second = at + (2 * (here .dims - k) + 3)
+        step : r .ok ≡ stepIn L ws k
+        step = second-part ∙ ap (λ b. both b (secondPart L ws k)) (sym one ∙ first-part) ∙ parts L ws k
 
-      -- what is stored passes
-      stored : (heldTest (fieldLimit L) ws (awaitsAt here k) at second ≡ true)
-          × (heldTest (fieldLimit L) ws (awaitsAt here k) second (second + 3) ≡ true)
-      unfolding stepWords
-      stored =
-          let q = both-true (heldTest (fieldLimit L) ws (awaitsAt here k) at second) _ (step ∙ ok) in
-          (q .0, both-true (heldTest (fieldLimit L) ws (awaitsAt here k) second (second + 3)) _ (q .1) .0)
+        pub second-stops : r .ok ≡ false → WalkedAll L ws start after r
+        second-stops e = stopped after r (done .length) e (sym step ∙ e)
 
-      pub room : RoomFor (here .dims) k at ws sums
-      room =
-          let f = fitting in
-          room-for (fieldLimit L) ws sums (awaitsAt here k) (here .dims) k at (f .low) (f .few) sums-small
-          (field-low L fit) (stored .0)
+        module _ (two : r .ok ≡ true) where
+          ok : stepIn L ws k ≡ true
+          ok = sym step ∙ two
 
-      pub issued-room : issued + word ws (second + 2) < 2 ^ 32
-      issued-room =
-          omega (
-            arith,
-            issued-small,
-            field-low L fit,
-            held-low (fieldLimit L) ws (awaitsAt here k) second (second + 3) (stored .1) (second + 2) (omega arith)
-                (omega arith),
-          )
-
-      passes : (j : ℕ) → j < k + 1 → stepIn L ws j ≡ true
-      passes = below-more (λ j. stepIn L ws j ≡ true) k (held .steps) ok
-
-      first-ok : firstOk L n k ≡ true
-      first-ok = step-first L n (w .board) k (step-at k ok)
-
-      second-ok : secondOk L n k ≡ true
-      second-ok = step-second L n (w .board) k (step-at k ok)
-
-      pub held-more : (after : List ℕ) (x : ℕ)
-          → AddedWhere (firstPast here k) (here .dims) (firstFrom ws (here .dims) k at) sums after
-          → x ≡ issued + choose (secondPast here k) (word ws (second + 2)) 0
-          → Held L ws start (k + 1) (second + 3) after x
-      held-more after x added e =
-          record {
-            low = omega arith;
-            place = place;
-            length = added .length ∙ held .length;
-            sums = sums-more;
-            issued = issued-more';
-            steps = passes;
-          }
-        where
-          same : here .dims ≡ dims n
-          same = ap (λ (s : Spot). s .dims) (w .spot)
-
-          place : second + 3 ≡ atFirst (dims n) (k + 1)
-          place =
-              let q : atFirst (dims n) (k + 1) ≡ atFirst (dims n) (suc k) = ap (atFirst (dims n)) (add-one k) in
-              omega (arith, q, same, held .place, first-more (dims n) k)
-
-          again : AddedWhere (firstPast (spotIn L ws) k) (dims n) (firstFrom ws (dims n) k (atFirst (dims n) k)) sums after
-          again = rw (sym (held .place)) (rw (w .spot) at added)
+          step-at : stepAt L n k ≡ true
+          unfolding stepIn
+          step-at = both-true (isMarked ws (dims n) k) (stepAt L n k) ok .1
 
           sums-more : Gathered n (min (k + 1) (reach n)) after
           sums-more f h =
-              again .sums f h
+              first-done .sums one f h
               ∙ grown (λ j. own n j f) (reach n) k (sumOf (dims n) sums f)
               (number (firstFrom ws (dims n) k (atFirst (dims n) k)) f) (firstPast (spotIn L ws) k)
-              (first-reach L ws k l) (held .sums f h)
+              (first-reach (spotIn L ws) k l) (held .sums f h)
               (λ i.
-              own-more L n k first-ok f (has (dims n) bound f h)
+              own-more L n k (step-first L n (w .board) k step-at) f (has-below (dims n) bound f h)
               ∙ ap (λ (y : Stored). own n k f + number y f) (first-is ws k l bound))
 
-          issued-more' : x ≡ ownIssued n (min (k + 1) (confirmReach n))
+          within-more : (f : Field) → Has (dims n) (min (k + 1) (reach n)) f → sumOf (dims n) after f ≤ fieldLimit L
+          within-more f h = go (decLt k (reach n))
+            where
+              go : Dec (k < reach n) → sumOf (dims n) after f ≤ fieldLimit L
+              go (yes b) =
+                  let u : min (k + 1) (reach n) ≡ suc k = omega arith in
+                  let v : min k (reach n) ≡ k = omega arith in
+                  sums-within L ws sums (spotIn L ws) k (atFirst (dims n) k) standing' refl after t first-done one
+                  (first-reach (spotIn L ws) k l ∙ lt-ltb k (reach n) b)
+                  (λ g q. held .within g (rw (sym v) at q)) f (rw u at h)
+              go (no b) =
+                  let u : min (k + 1) (reach n) ≡ min k (reach n) = omega arith in
+                  let past = first-reach (spotIn L ws) k l ∙ le-ltb k (reach n) (omega arith) in
+                  omega (
+                    arith,
+                    first-done .sums one f (in-below (dims n) (min (k + 1) (reach n)) f h)
+                        ∙ ap
+                        (λ b.
+                        sumOf (dims n) sums f
+                        + choose b (number (firstFrom ws (dims n) k (atFirst (dims n) k)) f) 0)
+                        past,
+                    held .within f (rw u at h),
+                  )
+
+          issued-more' : r .issued .0 ≡ ownIssued n (min (k + 1) (confirmReach n))
           issued-more' =
-              e
-              ∙ (λ i.
-              issued
-              + choose (secondPast (w .spot i) k) (word ws (held .place i + (2 * (w .spot i .dims - k) + 3) + 2)) 0)
+              second-done .more two
               ∙ grown (ownIssued n) (confirmReach n) k issued (word ws (atSecond (dims n) k + 2))
-              (secondPast (spotIn L ws) k) (second-reach L ws k) (held .issued)
+              (secondPast (spotIn L ws) k) (second-reach (spotIn L ws) k) (held .issued)
               (λ i.
-              issued-more L n k second-ok
+              issued-more L n k (step-second L n (w .board) k step-at)
               ∙ ap (λ (y : Confirm). ownIssued n k + y .issued .0) (second-is ws k l bound))
 
-    pub stopped : stepIn L ws k ≡ false → WalkedAll L ws start sums (record { ok = false; issued = sentNumber 0 })
-    stopped e =
-        record {
-          ok =
-              sym
-              (fails (every 0 (dims n) (stepIn L ws))
-              (λ q. not-both (every-at 0 (dims n) (stepIn L ws) q k (omega arith) (omega arith)) e));
-          issued = λ q. clash (sym q);
-          sums = λ q. clash (sym q);
-          length = held .length;
-        }
+          pub held-more : Held L ws start (k + 1) (at + (2 * (here .dims - k) + 3) + 3) after (r .issued .0)
+          held-more =
+              let same = ap (λ (s : Spot). s .dims) (w .spot) in
+              let q : atFirst (dims n) (k + 1) ≡ atFirst (dims n) (suc k) = ap (atFirst (dims n)) (add-one k) in
+              record {
+                low = omega arith;
+                place = omega (arith, q, same, held .place, first-more (dims n) k);
+                length = done .length ∙ held .length;
+                sums = sums-more;
+                within = within-more;
+                issued = issued-more';
+                issued-low =
+                    issued-within L ws (spotIn L ws) k (atSecond (dims n) k) issued standing' refl r second-done two
+                    (held .issued-low);
+                steps = below-more (λ j. stepIn L ws j ≡ true) k (held .steps) ok;
+              }
 
-  pub ended : dims n ≤ k → WalkedAll L ws start sums (record { ok = true; issued = sentNumber issued })
-  ended l =
-      let e : k ≡ dims n = omega (arith, held .low) in
+  pub ended : dims n ≤ k → (r : Walked) → r .ok ≡ true → r .issued .0 ≡ issued → WalkedAll L ws start sums r
+  ended l r e i =
       record {
-        ok = sym (every-make 0 (dims n) (stepIn L ws) (λ j a b. held .steps j (omega arith)));
+        ok = e ∙ sym (every-make 0 (dims n) (stepIn L ws) (λ j a b. held .steps j (omega arith)));
         issued = λ q.
-            held .issued
+            i
+            ∙ held .issued
             ∙ ap (ownIssued n) (capped-at (confirmReach n) (confirm-reach-low n (w .position)));
         sums = λ q f h.
             held .sums f h ∙ ap (λ j. own n j f) (capped-at (reach n) (reach-low n (w .position)));

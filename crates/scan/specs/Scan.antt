@@ -2,15 +2,16 @@
 use mathlib.Core.Path.{_≡_}
 use mathlib.Core.Bool.{Bool, true, false}
 use mathlib.Core.List.{List}
-use Prim.Native.Nat.{ℕ, _<_}
+use Prim.Native.Nat.{ℕ}
 use lib.Dec.{eqb}
 use Rattle.base.specs.Choice.{choose, both}
 use Rattle.base.specs.Limits.{Limits}
 use Rattle.frame.specs.Frame.{sentNumber, takenNumber}
-use Rattle.node.specs.Sums.{dims, Field, sentIn, takenIn, allSent, allTaken, tally, own, ownIssued}
+use Rattle.node.specs.Sums.{dims, Field, allSent, allTaken, tally, own, ownIssued}
 use Rattle.node.specs.State.{valid}
 use Rattle.node.specs.declared.Node.{Node}
 use Rattle.layout.specs.Held.{unpacked, isReady, sumOf}
+pub use Rattle.gather.specs.Gather.{Below}
 use Rattle.scan.specs.declared.Scan.{Scan}
 
 -- the sums of pass 1 go to the node's dimension, and in pass 2 past the last
@@ -48,13 +49,6 @@ scanned L room ws =
       issued = sentNumber (ownIssued n (confirmReach n));
     })
     noScan
-
--- the fields of a board of p dimensions
-abbrev pub Below : ℕ → Field → Type 0
-Below p (sentIn m) = m < p
-Below p (takenIn m) = m < p
-Below p allSent = Unit
-Below p allTaken = Unit
 
 -- the words lent for the sums hold the own sums for pass 1, dimension k
 abbrev pub Gathered : Node → ℕ → List ℕ → Type 0

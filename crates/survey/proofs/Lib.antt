@@ -1,8 +1,8 @@
 pub mod Lists
+pub mod Clauses
+pub mod Stored
 pub mod Valid
 pub mod Sums
-pub mod Walks
 pub mod Steps
 pub mod Tested
 pub mod Exits
-pub mod Known

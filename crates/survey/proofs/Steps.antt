@@ -10,7 +10,7 @@ use lib.Dec.{ltb, eqb}
 use borrow.Author.Tests.{lt-ltb, le-ltb, lt-leb, eq-eqb, ne-eqb, ltb-true, eqb-true, not-true}
 use Rattle.base.specs.Choice.{choose, both, either, every}
 use Rattle.base.specs.Limits.{Limits, Fits}
-use Rattle.base.proofs.Laws.{clash, both-true, both-make, every-at, every-make}
+use Rattle.base.proofs.Laws.{clash, both-true, both-make, every-at, every-make, every-same}
 use Rattle.tree.specs.Tree.{dimension, Place, alone, hermit, neighbour, messenger, awaits, place, awaited}
 use Rattle.tree.specs.Lookups.{badBoard, placeLookup}
 use Rattle.tree.proofs.Dimension.{smallest}
@@ -18,33 +18,17 @@ use Rattle.tree.proofs.Lookups.{board-good}
 use Rattle.tree.proofs.Halves.{alone-lowest}
 use Rattle.node.specs.Sums.{dims, Field, sentIn, takenIn, allSent, allTaken, number}
 use Rattle.node.specs.declared.Stored.{Stored}
-use Rattle.node.specs.declared.Confirm.{Confirm}
 use Rattle.node.specs.Agree.{isNone, isAlone, firstClauses, agrees}
 use Rattle.node.specs.State.{boardOk, positionOk, passedOk, awaitsFrame}
 use Rattle.node.specs.declared.Node.{Node}
-use Rattle.agree.specs.Parts.{shellWithin, shellsWithin}
-use Rattle.steps.specs.Step.{firstTest, secondTest, awaitsAt, firstPast, secondPast, firstHeld, secondHeld, stepTest}
-use Rattle.steps.specs.declared.Spot.{Spot}
-use Rattle.steps.proofs.Stored.{Has}
+use Rattle.node.proofs.Clauses.{Has as InFrame}
+use Rattle.survey.specs.Parts.{shellWithin, shellsWithin}
+use Rattle.survey.specs.Step.{awaitsAt, firstPast, secondPast}
+use Rattle.survey.specs.declared.Spot.{Spot}
 use Rattle.survey.specs.Walk.{loneAnswer, lone, spotAt}
-use Rattle.survey.proofs.Lists.{every-same}
 
 abbrev pub spotOf : Limits → Node → Spot
 spotOf L n = spotAt L (dims n) (n .nodes) (n .number) (n .pass) (n .dim) (n .agreed)
-
--- the fields of a board of so many dimensions
-abbrev pub Below : ℕ → Field → Type 0
-Below p (sentIn m) = m < p
-Below p (takenIn m) = m < p
-Below p allSent = Unit
-Below p allTaken = Unit
-
--- such a board's fields have room in a state
-pub below-has : (p : ℕ) → p ≤ 8 → (f : Field) → Below p f → Has f
-below-has p l (sentIn m) h = omega arith
-below-has p l (takenIn m) h = omega arith
-below-has p l allSent h = tt
-below-has p l allTaken h = tt
 
 -- ---- whom a node awaits
 
@@ -91,38 +75,20 @@ awaits-same L n k ok = go (decLe (dims n) k)
         (ap not
         (alone-by L (n .nodes) (n .number) (not-true _ (q .0)) (ltb-true _ _ (q .1)) k (omega arith)))
 
--- ---- the clauses and the test read the sums of shells that there are
+-- ---- the clauses read the sums that a frame of the dimension has
 
 module _ (L : Limits) (p k : ℕ) (f g : Field → ℕ) (x : Stored) (l : k < p)
-    (same : (h : Field) → Below p h → f h ≡ g h) where
+    (same : (h : Field) → InFrame p k h → f h ≡ g h) where
   shells-same : shellsWithin L p k f x ≡ shellsWithin L p k g x
   unfolding shellWithin
   shells-same =
       every-same (suc k) (p - suc k) (shellWithin L f x) (shellWithin L g x)
-      (λ m a b. rw (same (sentIn m) (omega arith), same (takenIn m) (omega arith)))
+      (λ m a b. rw (same (sentIn m) (omega arith, omega arith), same (takenIn m) (omega arith, omega arith)))
 
   pub clauses-same : firstClauses L p k f x ≡ firstClauses L p k g x
   unfolding firstClauses shellWithin
   clauses-same =
-      rw (same (sentIn k) l, same (takenIn k) l, same allSent tt, same allTaken tt, shells-same)
-
-module _ (L : Limits) (s : Spot) (k : ℕ) (f g : Field → ℕ) (issued : ℕ) (x : Stored) (y : Confirm)
-    (same : (h : Field) → Below (s .dims) h → f h ≡ g h) where
-  abbrev held : (Field → ℕ) → Bool
-  held own = either (not (awaitsAt s k)) (both (firstHeld L s k own x) (secondHeld L s k issued y))
-
-  held-same : held f ≡ held g
-  unfolding awaitsAt firstHeld
-  held-same = go (decLe (s .dims) k)
-    where
-      go : Dec (s .dims ≤ k) → held f ≡ held g
-      go (yes l) = rw (le-ltb k (s .dims) l)
-      go (no l) = rw (clauses-same L (s .dims) k f g x (omega arith) same)
-
-  pub step-same : stepTest L s k f issued x y ≡ stepTest L s k g issued x y
-  unfolding stepTest
-  step-same =
-      ap (λ t. both (firstTest L (awaitsAt s k) (s .dims) k x) (both (secondTest L (awaitsAt s k) y) t)) held-same
+      rw (same (sentIn k) (omega arith, l), same (takenIn k) (omega arith, l), same allSent tt, same allTaken tt, shells-same)
 
 -- ---- the board and the position
 
@@ -150,10 +116,6 @@ module _ (n : Node) (position : positionOk n ≡ true) where
 
   before : (k : ℕ) → k < n .dim → k < dims n
   before k h = ⊎-elim (λ l. omega arith) (λ e. absurd (omega arith)) here
-
-pub low : (L : Limits) → Fits L → (n : Node) → boardOk L n ≡ true → positionOk n ≡ true → n .dim < 8
-low L fit n board position =
-    ⊎-elim (λ l. omega (arith, few L fit n board)) (λ e. omega arith) (here n position)
 
 -- ---- what the state test says of a step, and what the steps say of it
 

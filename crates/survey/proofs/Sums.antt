@@ -1,24 +1,22 @@
--- Laws of the own sums: one dimension more, how large they get, and where they stay.
+-- Laws of the own sums: one dimension more, and how large they get.
 use mathlib.Core.Path.{_≡_, refl, sym, ap, _∙_}
 use mathlib.Core.Bool.{Bool, true}
 use Prim.Native.Nat.{ℕ, zero, suc, _+_, _-_, _*_, _≤_, _<_}
 use native.Mathlib.Decide.{decLe}
-use native.Mathlib.Nat.{add-zero}
 use native.Mathlib.Omega.{arith}
 use lib.Dec.{leb, eqb}
-use borrow.Author.Tests.{leb-true, eqb-true, le-ltb}
+use borrow.Author.Tests.{leb-true, eqb-true}
 use Rattle.base.specs.Choice.{both, every}
 use Rattle.base.specs.Limits.{Limits, Fits, fieldLimit, takenLimit}
-use Rattle.base.proofs.Laws.{choose-no, both-true, every-at}
+use Rattle.base.proofs.Laws.{both-true, every-at}
 use Rattle.base.proofs.Limits.{field-low, taken-low}
 use Rattle.frame.specs.Frame.{sentAt, takenAt}
 use Rattle.node.specs.Sums.{dims, firstAt, secondAt, Field, sentIn, takenIn, allSent, allTaken, tally, number}
 use Rattle.node.specs.Sums.{own, ownIssued}
 use Rattle.node.specs.State.{talliesOk, firstOk, secondOk, awaitsFrame}
 use Rattle.node.specs.declared.Node.{Node}
-use Rattle.steps.specs.Step.{shellOk, firstTest, secondTest}
-use Rattle.steps.proofs.Stored.{Has, first-low, first-same, first-none, second-low, second-same}
-use Rattle.survey.specs.Walk.{spareZero, fits}
+use Rattle.survey.specs.Step.{shellOk, firstTest, secondTest}
+use Rattle.survey.proofs.Stored.{Has, first-low, first-same, second-low, second-same}
 use Rattle.survey.proofs.Lists.{total-has}
 
 -- the state test of a place is the test over pieces
@@ -42,15 +40,6 @@ module _ (L : Limits) (n : Node) (k : ℕ) (ok : firstOk L n k ≡ true) where
   unfolding own
   own-more f h = ap (λ x. own n k f + x) (first-same L (awaitsFrame n k) (dims n) k (firstAt n k) place f h)
 
-  -- past the last dimension nothing is stored
-  own-past : dims n ≤ k → (f : Field) → own n (suc k) f ≡ own n k f
-  unfolding own
-  own-past l f =
-      ap (λ x. own n k f + x)
-      (choose-no (number (firstAt n k) f) 0
-      (first-none L (awaitsFrame n k) (dims n) k (firstAt n k) place (rw (le-ltb k (dims n) l))))
-      ∙ add-zero (own n k f)
-
 module _ (L : Limits) (n : Node) (k : ℕ) (ok : secondOk L n k ≡ true) where
   confirmed : secondTest L (awaitsFrame n k) (secondAt n k) ≡ true
   confirmed = sym (second-test L n k) ∙ ok
@@ -62,18 +51,11 @@ module _ (L : Limits) (n : Node) (k : ℕ) (ok : secondOk L n k ≡ true) where
   unfolding ownIssued
   issued-more = ap (λ x. ownIssued n k + x) (second-same L (awaitsFrame n k) (secondAt n k) confirmed)
 
--- the sums of all dimensions
-pub own-end : (L : Limits) (n : Node) (k : ℕ) → ((j : ℕ) → j < k → firstOk L n j ≡ true) → dims n ≤ k → (f : Field)
-    → own n k f ≡ own n (dims n) f
-own-end L n zero ok l f = ap (λ j. own n j f) (omega arith)
-own-end L n (suc k) ok l f = go (decLe (dims n) k) (own-end L n k (λ j h. ok j (omega arith)))
-  where
-    go : Dec (dims n ≤ k) → (dims n ≤ k → (f : Field) → own n k f ≡ own n (dims n) f)
-        → own n (suc k) f ≡ own n (dims n) f
-    go (yes m) r = own-past L n k (ok k (omega arith)) m f ∙ r m f
-    go (no m) r = ap (λ j. own n j f) (omega arith)
-
 -- ---- how large they get
+
+-- the tallies of shell m are 0
+abbrev spareZero : Node → ℕ → Bool
+spareZero n m = both (eqb (sentAt (n .sent) m) 0) (eqb (takenAt (n .taken) m) 0)
 
 module _ (L : Limits) (n : Node) (ok : talliesOk L n ≡ true) where
   abbrev sendsLow : Bool
@@ -83,7 +65,7 @@ module _ (L : Limits) (n : Node) (ok : talliesOk L n ≡ true) where
   takesLow = leb (tally n allTaken) (takenLimit L)
 
   abbrev spare : Bool
-  spare = every (dims n) (8 - dims n) (spareZero (n .sent) (n .taken))
+  spare = every (dims n) (8 - dims n) (spareZero n)
 
   tests : (sendsLow ≡ true) × (takesLow ≡ true) × (spare ≡ true)
   unfolding talliesOk
@@ -101,7 +83,7 @@ module _ (L : Limits) (n : Node) (ok : talliesOk L n ≡ true) where
   zero-past : (m : ℕ) → dims n ≤ m → m < 8 → (sentAt (n .sent) m ≡ 0) × (takenAt (n .taken) m ≡ 0)
   zero-past m a b =
       let q = both-true (eqb (sentAt (n .sent) m) 0) (eqb (takenAt (n .taken) m) 0)
-      (every-at (dims n) (8 - dims n) (spareZero (n .sent) (n .taken)) (tests .2) m a (omega arith)) in
+      (every-at (dims n) (8 - dims n) (spareZero n) (tests .2) m a (omega arith)) in
       (eqb-true _ _ (q .0), eqb-true _ _ (q .1))
 
 -- in the largest build, and so in every one
@@ -142,24 +124,3 @@ module _ (L : Limits) (fit : Fits L) (n : Node) (ok : talliesOk L n ≡ true) wh
       let i = issued-low k (λ j l. second j (omega arith)) in
       let e = second k (omega arith) in
       omega (arith, field-low L fit, issued-more L n k e, confirm-low L n k e)
-
-  -- the frames of one dimension more have room
-  pub own-room : (k : ℕ) → k < 8 → ((j : ℕ) → j < suc k → firstOk L n j ≡ true) → (f : Field) → Has f
-      → fits (own n k f + number (firstAt n k) f)
-  own-room k l first f h =
-      omega (
-        arith,
-        field-low L fit,
-        own-low k (λ j i. first j (omega arith)) f h,
-        stored-low L n k (first k (omega arith)) f h,
-      )
-
-  pub issued-room : (k : ℕ) → k < 8 → ((j : ℕ) → j < suc k → secondOk L n j ≡ true)
-      → fits (ownIssued n k + secondAt n k .issued .0)
-  issued-room k l second =
-      omega (
-        arith,
-        field-low L fit,
-        issued-low k (λ j i. second j (omega arith)),
-        confirm-low L n k (second k (omega arith)),
-      )

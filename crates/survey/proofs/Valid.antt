@@ -1,14 +1,11 @@
--- The state test is the conjunction of its parts, and a survey is by the test.
+-- The state test is the conjunction of its parts.
 use mathlib.Core.Path.{_≡_, refl, sym, _∙_}
 use mathlib.Core.Bool.{Bool, true, false}
 use Rattle.base.specs.Choice.{every}
 use Rattle.base.specs.Limits.{Limits, width}
-use Rattle.base.proofs.Laws.{clash, choose-yes, choose-no, both-true, both-make}
+use Rattle.base.proofs.Laws.{clash, both-true, both-make}
 use Rattle.node.specs.State.{boardOk, positionOk, talliesOk, totalOk, firstOk, secondOk, passedOk, busyOk, valid}
-use Rattle.node.specs.Sums.{dims, allTaken, own, ownIssued}
 use Rattle.node.specs.declared.Node.{Node}
-use Rattle.survey.specs.Survey.{sumsOf, noSurvey, surveyed}
-use Rattle.survey.specs.Walk.{walkOf, surveyWith}
 
 pub record Whole (L : Limits) (n : Node) : Type 0 where
   pub board : boardOk L n ≡ true
@@ -62,12 +59,3 @@ not-both e f = clash (sym e ∙ f)
 
 pub invalid : (L : Limits) (n : Node) → (Whole L n → ⊥) → valid L n ≡ false
 invalid L n f = fails _ (λ e. f (whole L n e))
-
-pub refused : (L : Limits) (n : Node) → valid L n ≡ false → noSurvey ≡ surveyed L n
-unfolding surveyed
-refused L n e = sym (choose-no _ _ e)
-
-pub passed : (L : Limits) (n : Node) → valid L n ≡ true
-    → surveyWith (dims n) (walkOf n 0) (walkOf n (n .dim)) (own n (dims n) allTaken) ≡ surveyed L n
-unfolding surveyed sumsOf own ownIssued
-passed L n e = sym (choose-yes _ _ e)

@@ -1,2 +1,4 @@
-pub mod Survey
+pub mod Verdict
+pub mod Parts
+pub mod Step
 pub mod Walk

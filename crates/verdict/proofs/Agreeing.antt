@@ -10,7 +10,7 @@ use Rattle.base.specs.Choice.{both}
 use Rattle.base.specs.Limits.{Limits, fieldLimit}
 use Rattle.node.specs.Sums.{Field, sentIn, takenIn, allTaken, number}
 use Rattle.node.specs.declared.Stored.{Stored}
-use Rattle.agree.specs.Parts.{shellWithin}
+use Rattle.survey.specs.Parts.{shellWithin}
 use Rattle.layout.specs.Held.{word, firstFrom, sumOf}
 use Rattle.layout.proofs.Reading.{number-sent, number-taken}
 

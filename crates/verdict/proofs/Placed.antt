@@ -10,8 +10,8 @@ use Rattle.base.specs.Choice.{choose, both}
 use Rattle.base.proofs.Laws.{choose-yes, both-true}
 use Rattle.base.proofs.Limits.{mul-low}
 use Rattle.node.specs.Agree.{mayName}
-use Rattle.agree.specs.Verdict.{isVerdict}
-use Rattle.agree.specs.declared.Verdict.{Verdict}
+use Rattle.survey.specs.Verdict.{isVerdict}
+use Rattle.survey.specs.declared.Verdict.{Verdict}
 use Rattle.layout.specs.Places.{atFirst, stateWords}
 use Rattle.layout.proofs.Offsets.{words-closed, first-inside}
 use Rattle.verdict.specs.Tried.{hasPlace}

@@ -7,14 +7,15 @@ ghost use lib.ListN.{length};
 ghost use Rattle.base.specs.Choice.{both};
 ghost use Rattle.base.specs.Limits.{limitsOf};
 ghost use Rattle.node.specs.Agree.{firstClauses, secondClauses};
-ghost use Rattle.agree.specs.Verdict.{isVerdict};
-ghost use Rattle.agree.specs.Parts.{shellsWithin};
+ghost use Rattle.survey.specs.Verdict.{isVerdict};
+ghost use Rattle.survey.specs.Parts.{shellsWithin};
 ghost use Rattle.layout.specs.Held.{firstFrom, secondFrom, sumOf};
-ghost use Rattle.verdict.specs.Tried.{hasPlace, firstTried, secondTried, FirstAt, Shown};
-use agree::Verdict;
+ghost use Rattle.verdict.specs.Tried.{hasPlace, firstTried, secondTried};
+ghost use Rattle.verdict.specs.Pieces.{FirstAt, Shown};
 use base::Bounds;
 use frame::Sent;
 use frame::Taken;
+use survey::Verdict;
 
 // Own sums within the limit, with the tallies of a frame added, are both at most the limit.
 fn pair_within(limit: u32, sends: Sent, sent: Sent, takes: Taken, taken: Taken) -> bool

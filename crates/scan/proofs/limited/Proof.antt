@@ -5,7 +5,7 @@ use mathlib.Core.Path.{_≡_, refl, sym, _∙_}
 use Prim.Native.Nat.{_-_}
 use Rattle.base.specs.Choice.{every}
 use Rattle.base.proofs.Laws.{every-here, every-end}
-use Rattle.scan.specs.Walk.{isLow}
+use Rattle.stored.specs.Held.{isLow}
 use Rattle.scan.proofs.limited.Statement.{statement}
 use Rattle.scan.proofs.limited.Tie as tie
 

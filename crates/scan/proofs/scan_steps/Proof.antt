@@ -1,4 +1,4 @@
--- `scan_steps`: the sums before any frame, the walk over the steps, then T.
+-- `scan_steps`: the walk over the steps, then T.
 use borrow.Author.Needs.{needs}
 use borrow.Author.Tests.{not-true, not-false}
 use denote.Ref.{now}
@@ -6,121 +6,103 @@ use native.Mathlib.Omega.{arith}
 use mathlib.Core.Path.{_≡_, refl, sym, _∙_}
 use mathlib.Core.Bool.{true}
 use mathlib.Core.List.{List}
-use Prim.Native.Nat.{ℕ, _+_, _≤_}
+use Prim.Native.Nat.{ℕ, _≤_}
 use lib.ListN.{length}
 use Rattle.base.specs.Limits.{Limits, Fits, limitsOf}
 use Rattle.base.proofs.Limits.{fits-of}
-use Rattle.layout.proofs.Offsets.{first-above}
-use Rattle.scan.proofs.Scanning.{missed, few-dims, pass-small, walking, step-fails, total-fails, scanned-all}
+use Rattle.survey.specs.declared.Spot.{Spot}
+use Rattle.head.proofs.Heads.{Passing, head-known}
+use Rattle.gather.proofs.Room.{Tallied, tallied-known}
+use Rattle.scan.proofs.Scanning.{missed, walking, step-fails, total-fails, scanned-all}
 use Rattle.scan.proofs.scan_steps.Statement.{statement}
 use Rattle.scan.proofs.scan_steps.Tie as tie
 
 -- what is handed
 module _ (s : tie.Start) where
-  abbrev limits : Limits
-  limits = limitsOf (s .args .b)
+  abbrev L : Limits
+  L = limitsOf (s .args .b)
 
   abbrev ws : List ℕ
   ws = now (s .args .s)
 
-  abbrev p : ℕ
-  p = s .args .p
+  abbrev before : List ℕ
+  before = now (s .args .sums)
 
-  abbrev room : ℕ
-  room = length (now (s .args .sums))
+  abbrev here : Spot
+  here = s .args .spot
 
-  fit : Fits limits
+  fit : Fits L
   fit = fits-of (s .args .b) (omega (arith, s .good .0)) (omega (arith, s .good .0))
 
-  low : p ≤ 8
-  low = few-dims limits room ws p (s .pre .boarded) fit
+  head : Passing L ws
+  head = head-known L ws (s .pre .head)
 
-  long : 8 + (p + p) ≤ length ws
-  long = omega (arith, s .pre .boarded .long, first-above p p)
-
-start-requires : tie.Need-start-requires
-start-requires c κs =
-    let s = c .before .before .before in
-    (low s, omega (arith, long s), omega (arith, s .pre .boarded .wide))
-
-spot-at-requires : tie.Need-spot-at-requires
-spot-at-requires c κs =
-    let s = c .before .before .before .before .before .before in
-    (omega (arith, long s), pass-small (limits s) (fit s) (room s) (ws s) (p s) _ _ (s .pre))
-
--- the walk
-module _ (c : tie.After-walk-arg) where
-  abbrev s : tie.Start
-  s = c .before .before .before .before .before .before .before .before
-
-  abbrev begun : tie.After-start
-  begun = c .before .before .before .before
-
-  same-room : length (begun .start .last .0) ≡ room s
-  same-room = begun .start .ensures .length
+  tallies : Tallied L (here .dims) ws (length before)
+  tallies = tallied-known L (here .dims) ws (length before) (s .pre .tallies)
 
 walk-requires : tie.Need-walk-requires
 walk-requires c κs =
-    walking (limits (s c)) (fit (s c)) (room (s c)) (ws (s c)) (p (s c)) _ _ (s c .pre) (now (s c .args .sums))
-    (begun c .start .last .0) refl (begun c .start .ensures) _ (c .before .spot-at .ensures)
+    let s = c .before .before .before in
+    walking (L s) (fit s) (length (before s)) (ws s) (head s) (here s) (s .pre .spot) (tallies s) (before s) refl
+    (s .pre .started) _ (s .pre .sent)
+
+abbrev begun : tie.After-walk → tie.Start
+begun w = w .before .before .before .before
 
 returns : tie.Need-returns
 returns c =
     let w = c .before .before .before .before .before in
-    let h = s (w .before) in
-    missed (limits h) (ws h) _ _ _
-    (step-fails (limits h) (fit h) (room h) (ws h) (p h) _ _ (h .pre) _ _ _ (w .walk .ensures)
-    (not-true _ (c .before .if1 .taken)))
-    (c .no-scan .ensures) (w .walk .ensures .length ∙ same-room (w .before))
+    let s = begun w in
+    missed (L s) (ws s) (before s) _ _
+    (step-fails (L s) (fit s) (length (before s)) (ws s) (head s) (here s) (s .pre .spot) (tallies s) _ _ _
+    (w .walk .ensures) (not-true _ (c .before .if1 .taken)))
+    (c .no-scan .ensures) (w .walk .ensures .length)
 
-abbrev handed : tie.After-field-limit → tie.Start
-handed c = s (c .before .before .before .before .before .before)
+-- all steps pass
+module _ (e : tie.Else1) where
+  abbrev walked : tie.After-walk
+  walked = e .before .before .before .before
 
-mul-total-ok : tie.Need-mul-total-ok
-mul-total-ok c = omega (arith, low (handed c))
+  abbrev s : tie.Start
+  s = begun walked
 
-add-total-ok : tie.Need-add-total-ok
-add-total-ok c = omega (arith, low (handed c))
+  all : walked .walk .result .ok ≡ true
+  all = not-false _ (e .if1 .left)
 
-shared-slice-read-total-ok : tie.Need-shared-slice-read-total-ok
-shared-slice-read-total-ok c = omega (arith, long (handed (c .before .before)))
+mul-t13 : tie.Need-mul-t13
+mul-t13 c = record { fits = omega (arith, tallies (s (c .before)) .room .few) }
 
-shared-slice-read-total-ok-2 : tie.Need-shared-slice-read-total-ok-2
-shared-slice-read-total-ok-2 c = omega (arith, long (handed (c .before .before .before)))
+add-t14 : tie.Need-add-t14
+add-t14 c = record { fits = omega (arith, tallies (s (c .before)) .room .few) }
 
--- after the walk
-module _ (c : tie.After-total-ok) where
-  abbrev limit : tie.After-field-limit
-  limit = c .before .before .before .before
-
-  abbrev w : tie.After-walk
-  w = limit .before .before .before .before .before
-
-  abbrev h : tie.Start
-  h = s (w .before)
-
-  all : w .walk .result .ok ≡ true
-  all = not-false _ (limit .before .if1 .left)
+slice-read-t18 : tie.Need-slice-read-t18
+slice-read-t18 c =
+    let e = c .before .before in
+    omega (arith, tallies (s e) .room .wide, walked e .walk .ensures .length)
 
 returns-2 : tie.Need-returns-2
 returns-2 c =
     let t = c .before .before in
-    missed (limits (h t)) (ws (h t)) _ _ _
-    (total-fails (limits (h t)) (fit (h t)) (room (h t)) (ws (h t)) (p (h t)) _ _ (h t .pre) _ _ _ (w t .walk .ensures)
-    (all t) _ (limit t .field-limit .ensures) (sym (t .total-ok .ensures) ∙ not-true _ (c .before .if2 .taken)))
-    (c .no-scan2 .ensures) (w t .walk .ensures .length ∙ same-room (w t .before))
+    let e = t .before .before .before in
+    missed (L (s e)) (ws (s e)) (before (s e)) _ _
+    (total-fails (L (s e)) (fit (s e)) (length (before (s e))) (ws (s e)) (head (s e)) (here (s e)) (s e .pre .spot)
+    (tallies (s e)) _ _ _ (walked e .walk .ensures) (all e)
+    (sym (t .total-ok .ensures) ∙ not-true _ (c .before .if2 .taken)))
+    (c .no-scan2 .ensures) (walked e .walk .ensures .length)
 
 returns-3 : tie.Need-returns-3
 returns-3 c =
-    let t = c .before .before in
-    scanned-all (limits (h t)) (fit (h t)) (room (h t)) (ws (h t)) (p (h t)) _ _ (h t .pre) _ _ _ (w t .walk .ensures)
-    (all t) _ (limit t .field-limit .ensures) (sym (t .total-ok .ensures) ∙ not-false _ (c .before .if2 .left))
-    (now (h t .args .sums)) refl (same-room (w t .before))
+    let d = c .before in
+    let t = d .before in
+    let e = t .before .before .before in
+    scanned-all (L (s e)) (fit (s e)) (length (before (s e))) (ws (s e)) (head (s e)) (here (s e)) (s e .pre .spot)
+    (tallies (s e)) _ _ _ (walked e .walk .ensures) (all e)
+    (sym (t .total-ok .ensures) ∙ not-false _ (d .if2 .left)) (before (s e)) refl (walked e .walk .ensures .length) _ _
+    (s e .pre .sent) (s e .pre .taken)
 
 pub scan-steps-spec : {M : Type 1} → statement M
 scan-steps-spec =
     tie.close
-    (tie.spec start-requires spot-at-requires walk-requires (λ c κs. search needs) (λ c. search needs) returns
-    (λ c κs. search needs) mul-total-ok add-total-ok (λ c. search needs) (λ c. search needs) (λ c. search needs)
-    shared-slice-read-total-ok shared-slice-read-total-ok-2 (λ c κs. search needs) (λ c κs. search needs)
-    (λ c. search needs) returns-2 (λ c. search needs) returns-3)
+    (tie.spec walk-requires (λ c κs. search needs) (λ c. search needs) returns mul-t13 add-t14 (λ c. search needs)
+    (λ c. search needs) slice-read-t18 (λ c κs. search needs) (λ c κs. search needs) (λ c. search needs) returns-2
+    (λ c. search needs) returns-3)

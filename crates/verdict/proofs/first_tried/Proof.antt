@@ -8,7 +8,7 @@ use Prim.Native.Nat.{ℕ, _+_, _-_}
 use Rattle.base.specs.Limits.{Limits, limitsOf}
 use Rattle.node.specs.Sums.{Field, sentIn, takenIn, number}
 use Rattle.node.specs.declared.Stored.{Stored}
-use Rattle.agree.proofs.Clauses.{first-0, first-1, first-2, first-3}
+use Rattle.survey.proofs.Clauses.{first-0, first-1, first-2, first-3}
 use Rattle.layout.specs.Held.{word, firstFrom, sumOf}
 use Rattle.verdict.proofs.Agreeing.{sent-first, taken-first}
 use Rattle.verdict.proofs.first_tried.Statement.{statement}

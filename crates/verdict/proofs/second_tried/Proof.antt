@@ -13,7 +13,7 @@ use Rattle.base.specs.Limits.{Limits, limitsOf, fieldLimit}
 use Rattle.base.proofs.Laws.{choose-yes, choose-no}
 use Rattle.node.specs.Agree.{secondClauses, allHold, mayName}
 use Rattle.node.specs.declared.Confirm.{Confirm}
-use Rattle.agree.proofs.Clauses.{second-0, second-3, second-5, second-6, second-agrees}
+use Rattle.survey.proofs.Clauses.{second-0, second-3, second-5, second-6, second-agrees}
 use Rattle.layout.specs.Held.{word, secondFrom}
 use Rattle.verdict.proofs.second_tried.Statement.{statement}
 use Rattle.verdict.proofs.second_tried.Tie as tie

@@ -9,7 +9,7 @@ use Prim.Native.Nat.{suc, _+_, _-_, _≤_, _<_}
 use Rattle.base.specs.Choice.{both, every}
 use Rattle.base.specs.Limits.{Limits, fieldLimit}
 use Rattle.base.proofs.Laws.{every-here, every-end}
-use Rattle.agree.specs.Parts.{shellWithin, shellsWithin}
+use Rattle.survey.specs.Parts.{shellWithin, shellsWithin}
 use Rattle.layout.specs.Held.{firstFrom, sumOf}
 use Rattle.verdict.proofs.Agreeing.{shell-is}
 use Rattle.verdict.proofs.shells_within.Statement.{statement}

@@ -15,7 +15,7 @@ use Rattle.base.proofs.Laws.{choose-yes, choose-no, both-true}
 use Rattle.node.specs.Sums.{Field, allTaken, number}
 use Rattle.node.specs.Agree.{isWithin, firstClauses, allHold}
 use Rattle.node.specs.declared.Stored.{Stored}
-use Rattle.agree.proofs.Clauses.{first-totals, first-4, first-agrees}
+use Rattle.survey.proofs.Clauses.{first-totals, first-4, first-agrees}
 use Rattle.layout.specs.Held.{word, firstFrom, sumOf}
 use Rattle.verdict.proofs.Agreeing.{received-at}
 use Rattle.verdict.proofs.totals_verdict.Statement.{statement}

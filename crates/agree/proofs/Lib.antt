@@ -1,2 +1,0 @@
-pub mod Shells
-pub mod Clauses

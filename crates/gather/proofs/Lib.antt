@@ -1,0 +1,4 @@
+pub mod Runs
+pub mod Adding
+pub mod Room
+pub mod Starting

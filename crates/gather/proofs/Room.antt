@@ -1,0 +1,147 @@
+-- What the tests of the lengths say, and what is answered where the tallies pass and where they do not.
+use mathlib.Core.Path.{_≡_, refl, sym, ap, _∙_}
+use mathlib.Core.Bool.{Bool, true, false}
+use mathlib.Core.List.{List}
+use Prim.Native.Nat.{ℕ, suc, _+_, _-_, _*_, _≤_, _<_}
+use native.Mathlib.Omega.{arith}
+use lib.Dec.{ltb, leb}
+use lib.ListN.{length}
+use borrow.Author.Tests.{ltb-true, leb-true, leb-false, lt-ltb, le-leb, lt-leb}
+use Rattle.base.specs.Choice.{choose, both}
+use Rattle.base.specs.Limits.{Limits, takenLimit}
+use Rattle.base.proofs.Laws.{clash, choose-yes, choose-no, cases, both-true, both-make}
+use Rattle.frame.specs.Frame.{sentNumber, takenNumber}
+use Rattle.gather.specs.Gather.{isFitting, hasRoom, sentTotal, takenTotal, tallied, noTallies, talliesOf}
+use Rattle.gather.specs.Pieces.{capped}
+use Rattle.gather.specs.declared.Tallies.{Tallies}
+
+-- ---- the words of a frame
+
+pub record Fitting (p k at words room : ℕ) : Type 0 where
+  pub low : k < p
+  pub few : p ≤ 8
+  pub near : at ≤ 144
+  pub long : at + (2 * (p - k) + 3) ≤ words
+  pub wide : 2 * p + 2 ≤ room
+
+pub fitting-known : (p k at words room : ℕ) → isFitting p k at words room ≡ true → Fitting p k at words room
+fitting-known p k at words room e =
+    let a = both-true (ltb k p) _ e in
+    let b = both-true (leb p 8) _ (a .1) in
+    let c = both-true (leb at 144) _ (b .1) in
+    let d = both-true (leb (at + (2 * (p - k) + 3)) words) (leb (2 * p + 2) room) (c .1) in
+    record {
+      low = ltb-true k p (a .0);
+      few = leb-true p 8 (b .0);
+      near = leb-true at 144 (c .0);
+      long = leb-true _ words (d .0);
+      wide = leb-true _ room (d .1);
+    }
+
+pub fitting-made : (p k at words room : ℕ) → Fitting p k at words room → isFitting p k at words room ≡ true
+fitting-made p k at words room f =
+    both-make (lt-ltb _ _ (f .low))
+    (both-make (le-leb _ _ (f .few))
+    (both-make (le-leb _ _ (f .near)) (both-make (le-leb _ _ (f .long)) (le-leb _ _ (f .wide)))))
+
+-- ---- the words of the tallies
+
+pub record Room (p words room : ℕ) : Type 0 where
+  pub few : p ≤ 8
+  pub long : 8 + 2 * p ≤ words
+  pub wide : 2 * p + 2 ≤ room
+
+pub room-known : (p words room : ℕ) → hasRoom p words room ≡ true → Room p words room
+room-known p words room e =
+    let a = both-true (leb p 8) _ e in
+    let b = both-true (leb (8 + 2 * p) words) (leb (2 * p + 2) room) (a .1) in
+    record { few = leb-true p 8 (a .0); long = leb-true _ words (b .0); wide = leb-true _ room (b .1) }
+
+pub room-made : (p words room : ℕ) → Room p words room → hasRoom p words room ≡ true
+room-made p words room r =
+    both-make (le-leb _ _ (r .few)) (both-make (le-leb _ _ (r .long)) (le-leb _ _ (r .wide)))
+
+-- ---- the tallies
+
+pub record Tallied (L : Limits) (p : ℕ) (ws : List ℕ) (lent : ℕ) : Type 0 where
+  pub room : Room p (length ws) lent
+  pub sends : sentTotal p ws ≤ L .sends
+  pub takes : takenTotal p ws ≤ takenLimit L
+
+module _ (L : Limits) (p : ℕ) (ws : List ℕ) (room : ℕ) where
+  abbrev test : Bool
+  test = tallied L p ws room
+
+  pub tallied-known : test ≡ true → Tallied L p ws room
+  unfolding tallied
+  tallied-known e =
+      let a = both-true (hasRoom p (length ws) room) _ e in
+      let b = both-true (leb (sentTotal p ws) (L .sends)) (leb (takenTotal p ws) (takenLimit L)) (a .1) in
+      record {
+        room = room-known p (length ws) room (a .0);
+        sends = leb-true _ _ (b .0);
+        takes = leb-true _ _ (b .1);
+      }
+
+  pub tallied-made : Tallied L p ws room → test ≡ true
+  unfolding tallied
+  tallied-made t =
+      both-make (room-made p (length ws) room (t .room)) (both-make (le-leb _ _ (t .sends)) (le-leb _ _ (t .takes)))
+
+  -- a test that can't hold
+  pub not-tallied : (Tallied L p ws room → ⊥) → test ≡ false
+  not-tallied f = go test refl
+    where
+      go : (t : Bool) → test ≡ t → test ≡ false
+      go true e = absurd (f (tallied-known e))
+      go false e = e
+
+  pub none-told : test ≡ false → noTallies ≡ talliesOf L p ws room
+  unfolding talliesOf
+  none-told e = sym (choose-no _ _ e)
+
+  pub all-told : test ≡ true → (x y : ℕ) → x ≡ sentTotal p ws → y ≡ takenTotal p ws
+      → record { ok = true; sends = sentNumber x; takes = takenNumber y } ≡ talliesOf L p ws room
+  unfolding talliesOf
+  all-told e x y a b =
+      (λ i. record { ok = true; sends = sentNumber (a i); takes = takenNumber (b i) }) ∙ sym (choose-yes _ _ e)
+
+-- ---- what an answer says
+
+module _ (L : Limits) (p : ℕ) (ws : List ℕ) (room : ℕ) (r : Tallies) (e : r ≡ talliesOf L p ws room) where
+  ok-is : r .ok ≡ tallied L p ws room
+  unfolding talliesOf
+  ok-is =
+      ap (λ (t : Tallies). t .ok) e
+      ∙ cases (λ (t : Tallies). t .ok ≡ tallied L p ws room) (tallied L p ws room) _ _ (λ q. sym q) (λ q. sym q)
+
+  pub missing : r .ok ≡ false → Tallied L p ws room → ⊥
+  missing q t = clash (sym (tallied-made L p ws room t) ∙ sym ok-is ∙ q)
+
+  pub passes : r .ok ≡ true → tallied L p ws room ≡ true
+  passes q = sym ok-is ∙ q
+
+  pub totals-known : r .ok ≡ true → (r .sends .0 ≡ sentTotal p ws) × (r .takes .0 ≡ takenTotal p ws)
+  unfolding talliesOf
+  totals-known q =
+      let z = e ∙ choose-yes _ _ (passes q) in
+      (ap (λ (t : Tallies). t .sends .0) z, ap (λ (t : Tallies). t .takes .0) z)
+
+-- ---- a total that is cut off above its limit
+
+module _ (limit x r : ℕ) (e : r ≡ capped limit x) where
+  pub capped-over : limit < r → limit < x
+  unfolding capped
+  capped-over h = go (leb x limit) refl (omega (arith, e))
+    where
+      go : (t : Bool) → leb x limit ≡ t → limit < choose t x (suc limit) → limit < x
+      go true q h = h
+      go false q h = leb-false x limit q
+
+  pub capped-under : r ≤ limit → r ≡ x
+  unfolding capped
+  capped-under h = e ∙ go (leb x limit) (omega (arith, e))
+    where
+      go : (t : Bool) → choose t x (suc limit) ≤ limit → choose t x (suc limit) ≡ x
+      go true h = refl
+      go false h = absurd (omega arith)

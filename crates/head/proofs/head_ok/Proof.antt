@@ -1,0 +1,93 @@
+-- `head_ok` is `headTested`: the tests in their order.
+use borrow.Author.Needs.{needs}
+use borrow.Author.Tests.{lt-ltb, le-ltb, le-leb, lt-leb, not-true, not-false}
+use mathlib.Core.Path.{sym}
+use Rattle.head.specs.Pieces.{headTested}
+use Rattle.head.proofs.head_ok.Statement.{statement}
+use Rattle.head.proofs.head_ok.Tie as tie
+
+returns : tie.Need-returns
+unfolding headTested
+returns c = rw (le-ltb _ _ (c .if1 .taken))
+
+returns-2 : tie.Need-returns-2
+unfolding headTested
+returns-2 c = rw (lt-ltb _ _ (c .before .before .if1 .left), le-ltb _ _ (c .if2 .taken))
+
+returns-3 : tie.Need-returns-3
+unfolding headTested
+returns-3 c =
+    let d = c .before .before in
+    rw (lt-ltb _ _ (d .before .before .if1 .left), lt-ltb _ _ (d .if2 .left), le-ltb _ _ (c .if3 .taken))
+
+returns-4 : tie.Need-returns-4
+unfolding headTested
+returns-4 c =
+    let e = c .before .before in
+    let d = e .before .before in
+    rw (
+      lt-ltb _ _ (d .before .before .if1 .left),
+      lt-ltb _ _ (d .if2 .left),
+      lt-ltb _ _ (e .if3 .left),
+      lt-leb _ _ (c .if4 .taken),
+    )
+
+returns-5 : tie.Need-returns-5
+unfolding headTested
+returns-5 c =
+    let f = c .before .before .before in
+    let e = f .before .before in
+    let d = e .before .before in
+    rw (
+      lt-ltb _ _ (d .before .before .if1 .left),
+      lt-ltb _ _ (d .if2 .left),
+      lt-ltb _ _ (e .if3 .left),
+      le-leb _ _ (f .if4 .left),
+      le-ltb _ _ (c .if5 .taken),
+    )
+
+returns-6 : tie.Need-returns-6
+unfolding headTested
+returns-6 c =
+    let q = c .before in
+    let g = q .before .before .before in
+    let f = g .before .before .before in
+    let e = f .before .before in
+    let d = e .before .before in
+    rw (
+      lt-ltb _ _ (d .before .before .if1 .left),
+      lt-ltb _ _ (d .if2 .left),
+      lt-ltb _ _ (e .if3 .left),
+      le-leb _ _ (f .if4 .left),
+      lt-ltb _ _ (g .if5 .left),
+      sym (q .position-ok .ensures),
+      not-true (q .position-ok .result) (c .if6 .taken),
+    )
+
+returns-7 : tie.Need-returns-7
+unfolding headTested
+returns-7 c =
+    let h = c .before .before .before .before .before in
+    let q = h .before in
+    let g = q .before .before .before in
+    let f = g .before .before .before in
+    let e = f .before .before in
+    let d = e .before .before in
+    rw (
+      lt-ltb _ _ (d .before .before .if1 .left),
+      lt-ltb _ _ (d .if2 .left),
+      lt-ltb _ _ (e .if3 .left),
+      le-leb _ _ (f .if4 .left),
+      lt-ltb _ _ (g .if5 .left),
+      sym (q .position-ok .ensures),
+      not-false (q .position-ok .result) (h .if6 .left),
+    )
+    (c .busy-ok .ensures)
+
+pub head-ok-spec : {M : Type 1} → statement M
+head-ok-spec =
+    tie.close
+    (tie.spec (λ c. search needs) returns (λ c. search needs) returns-2 (λ c. search needs) returns-3
+    (λ c. search needs) returns-4 (λ c. search needs) (λ c. search needs) returns-5 (λ c. search needs)
+    (λ c. search needs) (λ c κs. search needs) returns-6 (λ c. search needs) (λ c. search needs) (λ c. search needs)
+    (λ c. search needs) (λ c κs. search needs) returns-7)

@@ -1,0 +1,263 @@
+-- What the functions of a step do, by what the calls in them tell.
+use mathlib.Core.Path.{_≡_, refl, sym, ap, _∙_}
+use mathlib.Core.Bool.{Bool, true, false, not}
+use mathlib.Core.List.{List}
+use Prim.Native.Nat.{ℕ, suc, _+_, _-_, _*_, _≤_}
+use native.Mathlib.Nat.{add-zero}
+use native.Mathlib.Omega.{arith}
+use lib.Dec.{ltb}
+use lib.ListN.{length}
+use Rattle.base.specs.Choice.{choose, both, either}
+use Rattle.base.specs.Limits.{Limits, fieldLimit, Fits}
+use Rattle.base.proofs.Laws.{clash, both-true}
+use Rattle.frame.specs.Frame.{sentNumber}
+use Rattle.frame.specs.declared.Sent.{Sent}
+use Rattle.node.specs.Sums.{Field, sentIn, takenIn, allSent, allTaken, number}
+use Rattle.node.specs.Agree.{firstClauses, secondClauses, allHold}
+use Rattle.node.specs.declared.Stored.{Stored}
+use Rattle.node.specs.declared.Confirm.{Confirm}
+use Rattle.node.proofs.Clauses.{Has as InFrame, has-lower, first-known, second-known}
+use Rattle.survey.specs.Verdict.{isVerdict}
+use Rattle.survey.specs.declared.Verdict.{Verdict}
+use Rattle.layout.specs.Places.{atFirst, atSecond}
+use Rattle.layout.specs.Held.{word, firstFrom, secondFrom, sumOf}
+use Rattle.survey.specs.Step.{firstTest, secondTest, awaitsAt, firstPast, secondPast, firstHeld, secondHeld}
+use Rattle.survey.specs.declared.Spot.{Spot}
+use Rattle.survey.proofs.Stored.{Has, first-none, first-same, second-none, second-same}
+use Rattle.stored.specs.Held.{heldTest}
+use Rattle.gather.specs.Gather.{Below, isFitting, RoomFor, Added}
+use Rattle.verdict.specs.Tried.{firstTried, secondTried}
+use Rattle.scan.specs.Pieces.{isAgreed, Standing, Summed, FirstPassed, SecondPassed, firstWhole, secondWhole}
+use Rattle.scan.specs.Pieces.{FirstDone, SecondDone}
+use Rattle.scan.specs.declared.Walked.{Walked}
+use Rattle.scan.proofs.Settled.{agreed-is, first-tried, second-tried, fitting, room, first-settled, first-open}
+use Rattle.scan.proofs.Settled.{second-settled, second-open}
+
+-- ---- a step before the position
+
+module _ (L : Limits) (ws before : List ℕ) (p k at : ℕ) (s : Standing p k ws) (w : Summed L p k before)
+    (e : at ≡ atFirst p k) (v : Verdict) (told : isVerdict (firstTried L ws before p k) v ≡ true) where
+  abbrev x : Stored
+  x = firstFrom ws p k at
+
+  first-is : isAgreed v ≡ allHold (firstClauses L p k (sumOf p before) x)
+  first-is =
+      agreed-is _ v told
+      ∙ ap allHold (first-tried p k ws s L before (w .wide))
+      ∙ ap (λ a. allHold (firstClauses L p k (sumOf p before) (firstFrom ws p k a))) (sym e)
+
+  pub first-fails : isAgreed v ≡ false → FirstPassed L p k x before before false
+  first-fails q = record { ok = sym q ∙ first-is; sums = λ c. clash (sym c); length = refl }
+
+  pub first-passes : Fits L → isAgreed v ≡ true → (after : List ℕ)
+      → (isFitting p k at (length ws) (length before) ≡ true → RoomFor p k at ws before → Added p x before after)
+      → length after ≡ length before → FirstPassed L p k x before after true
+  first-passes fit q after f l =
+      record {
+        ok = sym q ∙ first-is;
+        sums = λ c.
+            f (ap (λ a. isFitting p k a (length ws) (length before)) e ∙ fitting p k ws s (length before) (w .wide))
+            (room L ws before p k at (s .low) (s .few) w
+            (first-known L p k (sumOf p before) x (sym first-is ∙ q)) fit);
+        length = l;
+      }
+
+module _ (L : Limits) (ws : List ℕ) (p k at issued agreed : ℕ) (s : Standing p k ws) (e : at ≡ atSecond p k) (v : Verdict)
+    (told : isVerdict (secondTried L ws p k issued agreed) v ≡ true) where
+  abbrev y : Confirm
+  y = secondFrom ws at
+
+  second-is : isAgreed v ≡ allHold (secondClauses L p k issued agreed y)
+  second-is =
+      agreed-is _ v told
+      ∙ ap allHold (second-tried p k ws s L issued agreed)
+      ∙ ap (λ a. allHold (secondClauses L p k issued agreed (secondFrom ws a))) (sym e)
+
+  pub second-fails : isAgreed v ≡ false → (i : Sent)
+      → SecondPassed L p k issued agreed y (record { ok = false; issued = i })
+  second-fails q i = record { ok = sym q ∙ second-is; more = λ c. clash (sym c) }
+
+  module _ (q : isAgreed v ≡ true) where
+    pub second-room : issued + word ws (at + 2) ≤ fieldLimit L
+    second-room = second-known L p k issued agreed y (sym second-is ∙ q) .within
+
+    pub second-passes : SecondPassed L p k issued agreed y
+        (record { ok = true; issued = sentNumber (issued + word ws (at + 2)) })
+    second-passes = record { ok = sym q ∙ second-is; more = λ c. refl }
+
+-- ---- any step
+
+-- the fields of a board have room in a state
+pub has-below : (p : ℕ) → p ≤ 8 → (f : Field) → Below p f → Has f
+has-below p l (sentIn m) h = omega arith
+has-below p l (takenIn m) h = omega arith
+has-below p l allSent h = tt
+has-below p l allTaken h = tt
+
+-- the fields of a frame are among those of the board
+pub in-below : (p k : ℕ) (f : Field) → InFrame p k f → Below p f
+in-below p k (sentIn m) h = h .1
+in-below p k (takenIn m) h = h .1
+in-below p k allSent h = tt
+in-below p k allTaken h = tt
+
+-- what is not before the position is not added
+no-more : (a b : ℕ) (t : Bool) → (t ≡ true → b ≡ 0) → a ≡ a + choose t b 0
+no-more a b true f = sym (ap (λ c. a + c) (f refl) ∙ add-zero a)
+no-more a b false f = sym (add-zero a)
+
+all-more : (a b : ℕ) (t : Bool) → t ≡ true → a + b ≡ a + choose t b 0
+all-more a b t e = ap (λ u. a + choose u b 0) (sym e)
+
+-- before the position only a step that awaits nobody is not tried
+nobody : (a b : Bool) → both a b ≡ false → b ≡ true → a ≡ false
+nobody true b e d = sym d ∙ e
+nobody false b e d = refl
+
+-- where no frame is stored all numbers are 0
+zero-none : (t : Bool) (x : ℕ) → t ≡ false → choose t x 0 ≡ x → x ≡ 0
+zero-none t x e f = sym f ∙ ap (λ u. choose u x 0) e
+
+module _ (L : Limits) (ws before : List ℕ) (spot : Spot) (k at : ℕ) (s : Standing (spot .dims) k ws)
+    (e : at ≡ atFirst (spot .dims) k) where
+  abbrev p : ℕ
+  p = spot .dims
+
+  abbrev first : ℕ → Stored
+  first a = firstFrom ws p k a
+
+  abbrev one : Stored
+  one = first (atFirst p k)
+
+  abbrev held : ℕ → ℕ → Bool → Bool
+  held a limit awaits = heldTest limit ws awaits a (a + (2 * (p - k) + 3))
+
+  -- where nobody is awaited nothing is stored
+  none-first : awaitsAt spot k ≡ false → firstWhole L spot k (sumOf p before) (word ws (atFirst p k)) one ≡ true
+      → (f : Field) → Below p f → number one f ≡ 0
+  unfolding firstWhole
+  none-first a r f h =
+      let m = both-true (ltb (word ws (atFirst p k)) 2) _ r in
+      let z = both-true (firstTest L (awaitsAt spot k) p k one) _ (m .1) in
+      zero-none (one .present) (number one f) (first-none L (awaitsAt spot k) p k one (z .0) a)
+      (first-same L (awaitsAt spot k) p k one (z .0) f (has-below p (s .few) f h))
+
+  pub first-open-done : both (awaitsAt spot k) (firstPast spot k) ≡ false → (t : Bool)
+      → t ≡ held at (fieldLimit L) (awaitsAt spot k) → FirstDone L ws spot k before before t
+  first-open-done a t q =
+      let whole = q ∙ ap (λ i. held i (fieldLimit L) (awaitsAt spot k)) e ∙ first-open L spot k ws s before a in
+      record {
+        ok = whole;
+        sums = λ r f h.
+            no-more _ _ (firstPast spot k) (λ d. none-first (nobody _ (firstPast spot k) a d) (sym whole ∙ r) f h);
+        length = refl;
+      }
+
+  pub first-passed-done : (w : Summed L p k before) → awaitsAt spot k ≡ true → firstPast spot k ≡ true
+      → (after : List ℕ) (t : Bool) → FirstPassed L p k (first at) before after t → FirstDone L ws spot k before after t
+  first-passed-done w a c after t d =
+      record {
+        ok =
+            d .ok
+            ∙ ap (λ i. allHold (firstClauses L p k (sumOf p before) (first i))) e
+            ∙ first-settled L spot k ws s before w a c;
+        sums = λ r f h.
+            d .sums r f h
+            ∙ ap (λ i. sumOf p before f + number (first i) f) e
+            ∙ all-more (sumOf p before f) (number (first (atFirst p k)) f) (firstPast spot k) c;
+        length = d .length;
+      }
+
+  -- the sums of the shells above k and the totals stay within the limit
+  pub sums-within : (after : List ℕ) (t : Bool) → FirstDone L ws spot k before after t → t ≡ true
+      → firstPast spot k ≡ true → ((f : Field) → InFrame p k f → sumOf p before f ≤ fieldLimit L) → (f : Field)
+      → InFrame p (suc k) f → sumOf p after f ≤ fieldLimit L
+  unfolding firstWhole firstHeld
+  sums-within after t d r c low f h = go (awaitsAt spot k) refl
+    where
+      now-is : sumOf p after f ≡ sumOf p before f + number one f
+      now-is = d .sums r f (in-below p (suc k) f h) ∙ sym (all-more _ (number one f) (firstPast spot k) c)
+
+      go : (u : Bool) → awaitsAt spot k ≡ u → sumOf p after f ≤ fieldLimit L
+      go true a =
+          let m = both-true (ltb (word ws (atFirst p k)) 2) _ (sym (d .ok) ∙ r) in
+          let z = both-true (firstTest L (awaitsAt spot k) p k one) _ (m .1) in
+          let q : allHold (firstClauses L p k (sumOf p before) one) ≡ true = rw (a, c) at (z .1) in
+          omega (arith, now-is, first-known L p k (sumOf p before) one q .within f h)
+      go false a =
+          omega (
+            arith,
+            now-is,
+            none-first a (sym (d .ok) ∙ r) f (in-below p (suc k) f h),
+            low f (has-lower p k (suc k) f (omega arith) h),
+          )
+
+module _ (L : Limits) (ws : List ℕ) (spot : Spot) (k at issued : ℕ) (s : Standing (spot .dims) k ws)
+    (e : at ≡ atSecond (spot .dims) k) where
+  abbrev there : ℕ
+  there = atSecond (spot .dims) k
+
+  abbrev two : Confirm
+  two = secondFrom ws there
+
+  abbrev kept : ℕ → ℕ → Bool → Bool
+  kept a limit awaits = heldTest limit ws awaits a (a + 3)
+
+  none-second : awaitsAt spot k ≡ false → secondWhole L spot k issued (word ws there) two ≡ true → two .issued .0 ≡ 0
+  unfolding secondWhole
+  none-second a r =
+      let m = both-true (ltb (word ws there) 2) _ r in
+      let u = both-true (secondTest L (awaitsAt spot k) two) _ (m .1) in
+      zero-none (two .present) (two .issued .0) (second-none L (awaitsAt spot k) two (u .0) a)
+      (second-same L (awaitsAt spot k) two (u .0))
+
+  pub second-open-done : both (awaitsAt spot k) (secondPast spot k) ≡ false → (t : Bool)
+      → t ≡ kept at (fieldLimit L) (awaitsAt spot k) → (i : Sent) → i .0 ≡ issued
+      → SecondDone L ws spot k issued (record { ok = t; issued = i })
+  second-open-done a t q i z =
+      let whole = q ∙ ap (λ j. kept j (fieldLimit L) (awaitsAt spot k)) e ∙ second-open L spot k ws s issued a in
+      record {
+        ok = whole;
+        more = λ r. z ∙ no-more _ _ (secondPast spot k) (λ d. none-second (nobody _ (secondPast spot k) a d) (sym whole ∙ r));
+      }
+
+  pub second-passed-done : issued ≤ fieldLimit L → spot .agreed ≤ fieldLimit L → awaitsAt spot k ≡ true
+      → secondPast spot k ≡ true → (r : Walked)
+      → SecondPassed L (spot .dims) k issued (spot .agreed) (secondFrom ws at) r → SecondDone L ws spot k issued r
+  second-passed-done low agreed a c r d =
+      record {
+        ok =
+            d .ok
+            ∙ ap (λ j. allHold (secondClauses L (spot .dims) k issued (spot .agreed) (secondFrom ws j))) e
+            ∙ second-settled L spot k ws s issued low agreed a c;
+        more = λ q.
+            d .more q
+            ∙ ap (λ j. issued + word ws (j + 2)) e
+            ∙ all-more issued (word ws (there + 2)) (secondPast spot k) c;
+      }
+
+  pub issued-within : (r : Walked) → SecondDone L ws spot k issued r → r .ok ≡ true → issued ≤ fieldLimit L
+      → r .issued .0 ≤ fieldLimit L
+  unfolding secondWhole secondHeld
+  issued-within r d q low = go (awaitsAt spot k) (secondPast spot k) refl refl
+    where
+      sum-is : r .issued .0 ≡ issued + choose (secondPast spot k) (word ws (there + 2)) 0
+      sum-is = d .more q
+
+      go : (u v : Bool) → awaitsAt spot k ≡ u → secondPast spot k ≡ v → r .issued .0 ≤ fieldLimit L
+      go u false a c = omega (arith, sum-is ∙ ap (λ t. issued + choose t (word ws (there + 2)) 0) c)
+      go true true a c =
+          let m = both-true (ltb (word ws there) 2) _ (sym (d .ok) ∙ q) in
+          let z = both-true (secondTest L (awaitsAt spot k) two) _ (m .1) in
+          let h : allHold (secondClauses L (spot .dims) k issued (spot .agreed) two) ≡ true = rw (a, c) at (z .1) in
+          omega (
+            arith,
+            sum-is ∙ ap (λ t. issued + choose t (word ws (there + 2)) 0) c,
+            second-known L (spot .dims) k issued (spot .agreed) two h .within,
+          )
+      go false true a c =
+          omega (
+            arith,
+            sum-is ∙ ap (λ t. issued + choose t (word ws (there + 2)) 0) c,
+            none-second a (sym (d .ok) ∙ q),
+          )

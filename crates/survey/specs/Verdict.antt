@@ -1,0 +1,11 @@
+-- What a verdict on a step says of its clauses.
+use mathlib.Core.Bool.{Bool}
+use mathlib.Core.List.{List}
+use Rattle.node.specs.Agree.{allHold, mayName}
+use Rattle.survey.specs.declared.Verdict.{Verdict}
+use Rattle.survey.specs.declared.Verdict.the-variants.{Agrees, Fails}
+
+-- all clauses hold, or the one that is named fails
+abbrev pub isVerdict : List Bool → Verdict → Bool
+isVerdict cs Agrees = allHold cs
+isVerdict cs (Fails clause) = mayName cs clause
