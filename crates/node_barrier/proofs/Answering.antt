@@ -10,34 +10,41 @@ use Rattle.node.specs.Answers.{Given, Barrier, barrierOf}
 use Rattle.node.specs.declared.BarrierAnswer.{BarrierAnswer}
 use Rattle.node.specs.declared.BarrierAnswer.the-variants.{Refused}
 use Rattle.layout.specs.Held.{unpacked, isReady, holding}
+use Rattle.node_turn.specs.Turn.{nodeAfter, answerOf}
+use Rattle.node_turn.specs.declared.Turn.{Turn}
 use Rattle.node_barrier.specs.On.{barrierOn, barrierWords, barrierLent, clauseOn}
-use Rattle.node_barrier.specs.Pieces.{nodeAfter, answerOf, Turns}
-use Rattle.node_barrier.specs.declared.Turn.{Turn}
+use Rattle.node_barrier.specs.Pieces.{Turns, Steps}
 
-module _ (L : Limits) (room : ℕ) (ws buf : List ℕ) where
-  -- the answer, the clause, the words and the bytes
-  abbrev pub On : BarrierAnswer → List ℕ → List ℕ → Type 0
-  On r words after =
-      (barrierOf r ≡ barrierOn L room ws (length buf))
-      × ((clauseOn L room ws r ≡ true)
-      × ((words ≡ barrierWords L room ws (length buf)) × (after ≡ barrierLent L room ws buf)))
+module _ (L : Limits) (ws buf : List ℕ) where
+  pub steps : {r : BarrierAnswer} (t : Turn) (words after : List ℕ) → r ≡ answerOf t → Turns L (unpacked ws) buf after t
+      → words ≡ holding ws (nodeAfter (unpacked ws) t) → Steps L ws buf words after r
+  steps t words after e h w =
+      rw e
+      (record {
+        answer = ap (λ (g : Given Barrier). g .answer) (h .reply);
+        clause = h .clause;
+        held = w ∙ ap (λ (g : Given Barrier). holding ws (g .node)) (h .reply);
+        bytes = h .bytes;
+      })
 
-  pub on-same : {a b : BarrierAnswer} {words after : List ℕ} → a ≡ b → On b words after → On a words after
-  on-same e x = rw e x
+  module _ (room : ℕ) where
+    -- the answer, the clause, the words and the bytes
+    abbrev pub On : BarrierAnswer → List ℕ → List ℕ → Type 0
+    On r words after =
+        (barrierOf r ≡ barrierOn L room ws (length buf))
+        × ((clauseOn L room ws r ≡ true)
+        × ((words ≡ barrierWords L room ws (length buf)) × (after ≡ barrierLent L room ws buf)))
 
-  pub no-state : isReady L room ws ≡ false → On (Refused 13) ws buf
-  no-state e =
-      (sym (choose-no _ _ e), (choose-no _ _ e, (sym (choose-no _ _ e), sym (choose-no _ _ e))))
+    pub no-state : isReady L room ws ≡ false → On (Refused 13) ws buf
+    no-state e =
+        (sym (choose-no _ _ e), (choose-no _ _ e, (sym (choose-no _ _ e), sym (choose-no _ _ e))))
 
-  pub on-turn : isReady L room ws ≡ true → (t : Turn) (words after : List ℕ) → Turns L (unpacked ws) buf after t
-      → words ≡ holding ws (nodeAfter (unpacked ws) t) → On (answerOf t) words after
-  on-turn e t words after h w = (
-    ap (λ (g : Given Barrier). g .answer) (h .reply) ∙ sym (choose-yes _ _ e),
-    (
-      choose-yes _ _ e ∙ h .clause,
+    pub on-state : isReady L room ws ≡ true → (r : BarrierAnswer) (words after : List ℕ) → Steps L ws buf words after r
+        → On r words after
+    on-state e r words after h = (
+      h .answer ∙ sym (choose-yes _ _ e),
       (
-        w ∙ ap (λ (g : Given Barrier). holding ws (g .node)) (h .reply) ∙ sym (choose-yes _ _ e),
-        h .bytes ∙ sym (choose-yes _ _ e),
+        choose-yes _ _ e ∙ h .clause,
+        (h .held ∙ sym (choose-yes _ _ e), h .bytes ∙ sym (choose-yes _ _ e)),
       ),
-    ),
-  )
+    )

@@ -4,14 +4,15 @@ use mathlib.Core.Path.{_≡_, refl, sym, ap, _∙_}
 use mathlib.Core.Logic.{_⊎_, inl, inr}
 use mathlib.Core.Bool.{Bool, true, false}
 use mathlib.Core.List.{List}
-use Prim.Native.Nat.{ℕ, suc, _+_, _-_, _*_, _≤_, _<_}
+use Prim.Native.Nat.{ℕ, suc, _+_, _-_, _^_, _≤_, _<_}
+use native.Mathlib.Nat.{mod-eq-of-lt}
 use native.Mathlib.Omega.{arith}
 use lib.ListN.{length}
 use borrow.Author.Tests.{lt-ltb, le-leb, eq-eqb, ne-eqb}
 use Rattle.base.specs.Choice.{choose}
 use Rattle.base.specs.Limits.{Limits, Fits, fieldLimit}
 use Rattle.base.proofs.Laws.{choose-yes, choose-no, both-make}
-use Rattle.base.proofs.Limits.{mul-low, field-low}
+use Rattle.base.proofs.Limits.{field-low}
 use Rattle.tree.proofs.Lookups.{board-good}
 use Rattle.node.specs.Sums.{dims, firstAt, secondAt, Field, allTaken, number, own, ownIssued}
 use Rattle.node.specs.Agree.{firstClauses, secondClauses, clauses}
@@ -22,11 +23,13 @@ use Rattle.node.proofs.Bound.{own-within}
 use Rattle.survey.proofs.Steps.{clauses-same}
 use Rattle.layout.specs.Places.{atFirst, stateWords, receivedPlace, sumWords, sumReceived}
 use Rattle.layout.specs.Held.{word, dimsOf, unpacked, isWhole, firstIn, secondIn, sumOf}
-use Rattle.layout.proofs.Offsets.{words-closed, first-above, first-inside}
+use Rattle.layout.proofs.Offsets.{first-above}
 use Rattle.layout.proofs.Reading.{first-word, second-word, first-in}
 use Rattle.layout.proofs.Whole.{Whole, whole, few}
+use Rattle.scan.proofs.Stepping.{in-below}
 use Rattle.scan.specs.Scan.{reach, Below}
 use Rattle.verdict.specs.Tried.{hasPlace, firstTried, secondTried}
+use Rattle.node_turn.specs.Turn.{totalWith}
 use Rattle.node_barrier.specs.Pieces.{Lent}
 
 -- a state has a head
@@ -50,10 +53,6 @@ module _ (L : Limits) (fit : Fits L) (ws sums : List ℕ) (p total : ℕ) (h : L
   pub low-dims : p ≤ 8
   low-dims = omega (arith, same-dims, few L fit ws (lies .board))
 
-  -- the words that there are
-  words-low : stateWords p ≤ 144
-  words-low = omega (arith, words-closed p, mul-low p 8 (p + 9) 17 low-dims (omega (arith, low-dims)))
-
   words-long : stateWords p ≤ length ws
   words-long = rw same-dims (lies .long)
 
@@ -65,13 +64,6 @@ module _ (L : Limits) (fit : Fits L) (ws sums : List ℕ) (p total : ℕ) (h : L
 
   pub dim-low : 0 < p → n .dim < p
   dim-low z = rw (h .dims) (held .dim (rw (sym (h .dims)) z))
-
-  module _ (l : n .dim < p) where
-    pub place-low : atFirst p (n .dim) + (2 * (p - n .dim) + 6) ≤ 144
-    place-low = omega (arith, first-inside p (n .dim) l, words-low)
-
-    pub place-inside : atFirst p (n .dim) + (2 * (p - n .dim) + 6) ≤ length ws
-    place-inside = omega (arith, first-inside p (n .dim) l, words-long)
 
   -- ---- the sums
 
@@ -97,7 +89,7 @@ module _ (L : Limits) (fit : Fits L) (ws sums : List ℕ) (p total : ℕ) (h : L
       let r = reach-low (held .pass) z in
       omega (arith, own-within L (fit .nodes) n held (reach n) (r .0) (r .1) f has, h .gathered f low)
 
-  pub received-low : 0 < p → word sums (sumReceived p) ≤ 16776960
+  received-low : 0 < p → word sums (sumReceived p) ≤ 16776960
   received-low z =
       rw (h .dims) (omega (arith, sum-low z allTaken tt tt, field-low L fit))
 
@@ -128,7 +120,7 @@ module _ (L : Limits) (fit : Fits L) (ws sums : List ℕ) (p total : ℕ) (h : L
     received-is : number (firstAt n (n .dim)) allTaken ≡ received
     received-is = ap (λ x. number x allTaken) (first-there ∙ first-in ws p (n .dim) l)
 
-    pub frame-low : received ≤ 16776960
+    frame-low : received ≤ 16776960
     frame-low =
         omega (
           arith,
@@ -151,7 +143,8 @@ module _ (L : Limits) (fit : Fits L) (ws sums : List ℕ) (p total : ℕ) (h : L
           choose-yes _ _ (both-make has-place (le-leb (sumWords p) (length sums) room))
           ∙ ap (firstClauses L p (n .dim) (sumOf p sums)) (sym first-there)
           ∙ rw (h .dims)
-          (clauses-same L (dims n) (n .dim) (sumOf (dims n) sums) (own n (n .dim)) (firstAt n (n .dim)) in-dims gathered)
+          (clauses-same L (dims n) (n .dim) (sumOf (dims n) sums) (own n (n .dim)) (firstAt n (n .dim)) in-dims
+          (λ f i. gathered f (in-below (dims n) (n .dim) f i)))
           ∙ sym (choose-yes _ _ (eq-eqb (n .pass) 1 first))
 
       -- where no frame is stored its total is 0
@@ -167,11 +160,17 @@ module _ (L : Limits) (fit : Fits L) (ws sums : List ℕ) (p total : ℕ) (h : L
       own-is : word sums (sumReceived p) ≡ own n (n .dim) allTaken
       own-is = rw (h .dims) (gathered allTaken tt)
 
+      added-low : word sums (sumReceived p) + received < 2 ^ 32
+      added-low = omega (arith, received-low (omega arith), frame-low)
+
       -- T
-      pub total-is : dims n ≤ suc (n .dim) → word sums (sumReceived p) + received ≡ own n (dims n) allTaken
+      pub total-is : dims n ≤ suc (n .dim) → totalWith ws sums p (n .dim) ≡ own n (dims n) allTaken
       total-is last =
           let e : suc (n .dim) ≡ dims n = omega (arith, in-dims) in
-          (λ i. own-is i + sym received-is i) ∙ sym one-more ∙ ap (λ k. own n k allTaken) e
+          mod-eq-of-lt added-low
+          ∙ (λ i. own-is i + sym received-is i)
+          ∙ sym one-more
+          ∙ ap (λ k. own n k allTaken) e
 
     -- ---- pass 2
 

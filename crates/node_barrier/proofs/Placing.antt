@@ -1,36 +1,29 @@
 -- Laws of a node's place: what the lookup of a node's position says of its receivers and of the node awaited.
-use mathlib.Core.Path.{_≡_, refl, sym, ap, _∙_, subst}
-use mathlib.Core.Logic.{_⊎_, inl, inr}
-use mathlib.Core.Bool.{Bool, true, false}
-use mathlib.Core.List.{List, [], _∷_, List·Memᴰ}
-use Prim.Native.Nat.{ℕ, _<_}
+use mathlib.Core.Path.{_≡_, sym, ap, _∙_}
+use Prim.Native.Nat.{_<_}
 use native.Mathlib.Decide.{ℕ-discrete}
 use native.Mathlib.Omega.{arith}
 use borrow.Author.Tests.{le-leb, lt-leb}
-use Rattle.base.specs.Choice.{choose}
-use Rattle.base.specs.Limits.{Limits, Fits}
+use Rattle.base.specs.Limits.{Limits}
 use Rattle.base.specs.Refusal.{Answered, refused, found}
-use Rattle.tree.specs.Tree.{Place, place}
+use Rattle.tree.specs.Tree.{Place, place, awaited, receivers}
 use Rattle.tree.specs.Lookups.{placeLookup}
-use Rattle.tree.specs.Tree.{awaited, receivers}
-use Rattle.tree.proofs.Lookups.{board-good}
-use Rattle.tree.proofs.Places.{receives-awaits}
+use Rattle.tree.proofs.Lookups.{place-found}
 use Rattle.node.specs.Sums.{dims}
 use Rattle.node.specs.Agree.{isNone, isAlone}
 use Rattle.node.specs.Barrier.{receiversDue}
 use Rattle.node.specs.declared.Node.{Node}
 use Rattle.node.proofs.Bound.{one-receivers, one-awaited}
 use Rattle.node.proofs.Valid.{Valid}
-use Rattle.node_barrier.specs.Pieces.{toWhom, isLone}
+use Rattle.due.specs.Due.{toWhom, isLone}
 
-module _ (L : Limits) (fit : Fits L) (n : Node) (h : Valid L n) where
+module _ (L : Limits) (n : Node) (h : Valid L n) where
   abbrev looked : Answered Place
   looked = placeLookup L (n .nodes) (n .dim) (n .number)
 
   module _ (d : n .dim < dims n) where
     there : looked ≡ found (place (n .nodes) (n .dim) (n .number))
-    unfolding placeLookup
-    there = rw (h .board, lt-leb (n .nodes) _ (h .number), lt-leb (dims n) _ d)
+    there = place-found L (n .nodes) (n .number) (n .dim) (h .board) (h .number) d
 
   module _ (z : dims n ≡ 0) where
     nowhere : looked ≡ refused 10
@@ -52,19 +45,3 @@ module _ (L : Limits) (fit : Fits L) (n : Node) (h : Valid L n) where
       go : Dec (dims n ≡ 0) → isLone looked ≡ isAlone n (n .dim)
       go (yes z) = ap isLone (nowhere z) ∙ ap isNone (sym (one-awaited (n .nodes) (n .dim) (n .number) z))
       go (no z) = ap isLone (there (h .dim (omega arith)))
-
-  -- a receiver's number is one byte
-  pub receivers-low : (b : ℕ) → List·Memᴰ b (toWhom looked) → b < 256
-  receivers-low b m =
-      let r = receives-awaits (n .nodes) (n .dim) (n .number) b (h .number) (subst (List·Memᴰ b) looked-whom m) in
-      omega (arith, board-good L (n .nodes) (h .board), r .0, fit .nodes)
-
--- ---- what the receivers that are due say of the flag and of those who receive
-
-pub some-due : (t : Bool) (l : List ℕ) {a : ℕ} {r : List ℕ} → a ∷ r ≡ choose t l [] → (t ≡ true) × (l ≡ a ∷ r)
-some-due true l e = (refl, sym e)
-some-due false l e = let z : _≡_ {A = ℕ} 0 1 = cc in absurd (omega arith)
-
-pub none-due : (t : Bool) (l : List ℕ) → [] ≡ choose t l [] → (t ≡ false) ⊎ (l ≡ [])
-none-due true l e = inr (sym e)
-none-due false l e = inl refl

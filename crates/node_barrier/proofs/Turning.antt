@@ -1,13 +1,13 @@
 -- Laws of turns: the state and the answer of a turn are the definition's, with a clause that may be named and the lent
 -- bytes.
-use mathlib.Core.Path.{_≡_, refl, sym, ap, _∙_}
+use mathlib.Core.Path.{_≡_, refl, sym, ap, _∙_, subst}
 use mathlib.Core.Bool.{Bool, true, false, not}
 use mathlib.Core.List.{List, [], _∷_, _++_}
 use Prim.Native.Nat.{ℕ, suc, _≤_, _<_}
 use native.Mathlib.Omega.{arith}
 use lib.Dec.{ltb, eqb}
 use lib.ListN.{length, drop}
-use borrow.Author.Tests.{lt-ltb, eqb-true, ltb-true, ltb-false}
+use borrow.Author.Tests.{lt-ltb, lt-leb, eqb-true, ltb-false}
 use Rattle.base.specs.Choice.{choose, both}
 use Rattle.base.specs.Limits.{Limits}
 use Rattle.base.specs.Refusal.{Refusal, when}
@@ -24,12 +24,13 @@ use Rattle.node.specs.Barrier.{lentAfter, barrierBytes}
 use Rattle.node.specs.declared.Node.{Node}
 use Rattle.node.specs.declared.Receivers.{Receivers}
 use Rattle.node.proofs.Ways.{callChecks, NoneDue, call-refuses, call-sends, call-looks}
-use Rattle.agree.specs.Verdict.{isVerdict}
-use Rattle.agree.proofs.Clauses.{named-fails}
-use Rattle.agree.specs.declared.Verdict.the-variants.{Agrees, Fails}
-use Rattle.node_barrier.specs.Pieces.{tried, onwardTurn, answerOf, turned, Looks, Turns, sendTurn, sendBytes}
-use Rattle.node_barrier.specs.declared.Turn.{Turn}
-use Rattle.node_barrier.specs.declared.Turn.the-variants.{Refuses, Sends, Waits, Leaves}
+use Rattle.survey.specs.Verdict.{isVerdict}
+use Rattle.survey.proofs.Clauses.{named-fails}
+use Rattle.survey.specs.declared.Verdict.the-variants.{Agrees, Fails}
+use Rattle.node_turn.specs.Turn.{onwardTurn, answerOf}
+use Rattle.node_turn.specs.declared.Turn.{Turn}
+use Rattle.node_turn.specs.declared.Turn.the-variants.{Refuses, Sends, Waits, Leaves}
+use Rattle.node_barrier.specs.Pieces.{tried, turned, Looks, Turns}
 
 module _ (L : Limits) (n : Node) where
   turns : (buf after : List ℕ) (t : Turn) → turned n t ≡ barrier L n (length buf)
@@ -56,30 +57,23 @@ module _ (L : Limits) (n : Node) where
 
       -- ---- the frame due
 
-      module _ (b : n .busy ≡ false) (f : n .flag ≡ true) (to : Receivers)
-          (r : receiversDue n ≡ to .first ∷ also (to .extra)) (bytes : List ℕ)
-          (is : bytes ≡ frameBytes (dims n) (frameDue n)) (long : length bytes ≡ lengthDue n) where
-        short : length buf < length bytes → Turns L n buf buf (Refuses 14)
-        short l =
-            let d : isDue n ≡ true = rw (f, r) in
-            let short = when (both (isDue n) (ltb (length buf) (lengthDue n))) Refusal.buffer in
-            refuses (later (ap not ok) (later b (here {c = short} (both-make d (lt-ltb (length buf) (lengthDue n) (omega arith))))))
+      module _ (b : n .busy ≡ false) where
+        pub short : isDue n ≡ true → length buf < lengthDue n → Turns L n buf buf (Refuses 14)
+        short d l =
+            let check = when (both (isDue n) (ltb (length buf) (lengthDue n))) Refusal.buffer in
+            refuses (later (ap not ok) (later b (here {c = check} (both-make d (lt-ltb (length buf) (lengthDue n) l)))))
 
-        fits : length bytes ≤ length buf → Turns L n buf (bytes ++ drop (length bytes) buf) (Sends to (length bytes))
-        fits l =
-            turns buf (bytes ++ drop (length bytes) buf) (Sends to (length bytes))
-            ((λ i. give (at n (n .pass) (n .dim) false (n .agreed)) (sent (sym r i) (long i)))
+        pub sends : (to : Receivers) (count : ℕ) (bytes : List ℕ) → n .flag ≡ true
+            → receiversDue n ≡ to .first ∷ also (to .extra)
+            → count ≡ lengthDue n
+            → count ≤ length buf
+            → bytes ≡ frameBytes (dims n) (frameDue n)
+            → Turns L n buf (bytes ++ drop count buf) (Sends to count)
+        sends to count bytes f r e l is =
+            turns buf (bytes ++ drop count buf) (Sends to count)
+            ((λ i. give (at n (n .pass) (n .dim) false (n .agreed)) (sent (sym r i) (e i)))
             ∙ sym (call-sends L n (length buf) _ _ ok b f r (omega arith)))
-            refl (ap (λ l. l ++ drop (length bytes) buf) is)
-
-        pub sends : Turns L n buf (sendBytes bytes buf) (sendTurn to bytes (length buf))
-        sends = go (ltb (length buf) (length bytes)) refl
-          where
-            go : (t : Bool) → ltb (length buf) (length bytes) ≡ t
-                → Turns L n buf (choose t buf (bytes ++ drop (length bytes) buf))
-                (choose t (Refuses 14) (Sends to (length bytes)))
-            go true e = short (ltb-true _ _ e)
-            go false e = fits (ltb-false _ _ e)
+            refl (ap (λ l. l ++ drop count buf) is)
 
   -- ---- verdicts
 
@@ -114,12 +108,13 @@ module _ (L : Limits) (n : Node) where
       record { reply = sym (choose-yes _ _ e); clause = refl; bytes = λ buf. refl }
 
   module _ (z : eqb (dims n) 0 ≡ false) where
-    pub looks-on : (t : ℕ) → (n .pass ≡ 1 → dims n ≤ suc (n .dim) → t ≡ own n (dims n) allTaken)
+    pub looks-on : n .dim < dims n → (t : ℕ) → (n .pass ≡ 1 → dims n ≤ suc (n .dim) → t ≡ own n (dims n) allTaken)
         → isVerdict (tried L n) Agrees ≡ true
         → Looks L n (onwardTurn (dims n) (n .pass) (n .dim) (n .agreed) t)
     unfolding onwardTurn
-    looks-on t same v =
-        cases (Looks L n) (ltb (suc (n .dim)) (dims n)) _ _
+    looks-on low t same v =
+        subst (Looks L n) (sym (choose-no _ _ (lt-leb (dims n) (n .dim) low)))
+        (cases (Looks L n) (ltb (suc (n .dim)) (dims n)) _ _
         (λ e. record { reply = sym (moves ∙ choose-yes _ _ e); clause = refl; bytes = λ buf. refl })
         (λ e.
         cases (Looks L n) (eqb (n .pass) 1) _ _
@@ -133,7 +128,7 @@ module _ (L : Limits) (n : Node) where
           bytes = λ buf. refl;
         })
         (λ f.
-        record { reply = sym (moves ∙ choose-no _ _ e ∙ choose-no _ _ f); clause = refl; bytes = λ buf. refl }))
+        record { reply = sym (moves ∙ choose-no _ _ e ∙ choose-no _ _ f); clause = refl; bytes = λ buf. refl })))
       where
         moves : looking L n ≡ moving n
         moves = choose-no _ _ z ∙ choose-yes _ _ (said-yes v)

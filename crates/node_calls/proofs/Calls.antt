@@ -1,13 +1,12 @@
--- Laws of the calls on words: what is answered where the words hold no state, what the head says, and what the words
--- become where a message is counted.
+-- Laws of the calls on words: what is answered where the words hold no state, and what they become where a message is
+-- counted.
 use mathlib.Core.Path.{_≡_, sym, ap, _∙_}
-use mathlib.Core.Logic.{_⊎_, inl, inr}
-use mathlib.Core.Bool.{true, false, not}
+use mathlib.Core.Bool.{true, not}
 use mathlib.Core.List.{List}
 use Prim.Native.Nat.{ℕ, _+_, _≤_, _<_}
 use native.Mathlib.Omega.{arith}
 use lib.ListN.{length, set}
-use borrow.Author.Tests.{eq-eqb, lt-ltb}
+use borrow.Author.Tests.{lt-ltb}
 use Rattle.base.specs.Limits.{Limits, Fits}
 use Rattle.base.proofs.Laws.{choose-yes}
 use Rattle.frame.specs.Frame.{sentNumber, takenNumber, sentAt, takenAt}
@@ -18,30 +17,25 @@ use Rattle.node.specs.Answers.{Given, Outcome, refused}
 use Rattle.node.specs.Calls.{refusal, oneSent, oneTaken, woken}
 use Rattle.node.specs.declared.Node.{Node}
 use Rattle.survey.proofs.Lists.{total-has}
-use Rattle.layout.specs.Places.{atBusy, atSent, atTaken}
-use Rattle.layout.specs.Held.{word, dimsOf, unpacked, isWhole, isReady, answerOn, wordsOn}
+use Rattle.layout.specs.Places.{atSent, atTaken}
+use Rattle.layout.specs.Held.{word, dimsOf, unpacked, isWhole, answerOn, wordsOn}
 use Rattle.layout.proofs.Offsets.{first-above}
 use Rattle.layout.proofs.Whole.{whole}
 use Rattle.layout.proofs.Reading.{sent-word, taken-word}
 use Rattle.layout.proofs.Becomes.{Becomes, becomes-then}
 use Rattle.layout.proofs.Writes.{put-busy, put-position, put-sent, put-taken}
-use Rattle.layout.proofs.Answers.{not-ready, refused-on}
+use Rattle.layout.proofs.Answers.{fails}
 use Rattle.scan.specs.Scan.{scanned}
 use Rattle.scan.specs.declared.Scan.{Scan}
 use Rattle.scan.proofs.Known.{failed}
-use Rattle.node_calls.specs.Woken.{wokenWords}
+use Rattle.node_calls.specs.Pieces.{wokenWords}
 
 -- no state: 13, and the words stay
 pub no-state : (L : Limits) → Fits L → (room : ℕ) (ws : List ℕ) (s : Scan) → s ≡ scanned L room ws
     → (call : Node → Given Outcome) → not (s .ok) ≡ true
     → (not (valid L (unpacked ws)) ≡ true → call (unpacked ws) ≡ refusal (unpacked ws) 13)
     → (refused 13 ≡ answerOn L room call ws) × (ws ≡ wordsOn L room call ws)
-no-state L fit room ws s r call o f = go (failed L room ws s r o)
-  where
-    go : (isReady L room ws ≡ false) ⊎ ((isReady L room ws ≡ true) × (not (valid L (unpacked ws)) ≡ true))
-        → (refused 13 ≡ answerOn L room call ws) × (ws ≡ wordsOn L room call ws)
-    go (inl e) = not-ready L fit room call ws e
-    go (inr e) = refused-on L fit room call ws (e .0) 13 (f (e .1))
+no-state L fit room ws s r call o f = fails L fit call ws room (failed L room ws s r o) f
 
 -- the same words, the same state
 becomes-is : {L : Limits} {ws after : List ℕ} {n m : Node} → n ≡ m → Becomes L ws after n → Becomes L ws after m
@@ -51,14 +45,6 @@ module _ (L : Limits) (ws : List ℕ) (e : isWhole L ws ≡ true) where
   -- the head and the tallies are there
   pub tallies-room : 8 + (dimsOf ws + dimsOf ws) ≤ length ws
   tallies-room = omega (arith, first-above (dimsOf ws) (dimsOf ws), whole L ws e .long)
-
-  pub busy-off : word ws atBusy ≡ 0 → not (unpacked ws .busy) ≡ true
-  unfolding unpacked
-  busy-off z = rw z
-
-  pub busy-on : (word ws atBusy ≡ 0 → ⊥) → unpacked ws .busy ≡ true
-  unfolding unpacked
-  busy-on f = eq-eqb (word ws atBusy) 1 (let b = whole L ws e .busy in omega arith)
 
   module _ (m : ℕ) (h : m < dimsOf ws) (l : m < 8) where
     sent-is : sentAt (unpacked ws .sent) m ≡ word ws (atSent m)

@@ -8,15 +8,15 @@ ghost use lib.ListN.{length, getD};
 ghost use Rattle.base.specs.Limits.{limitsOf};
 ghost use Rattle.tree.specs.Tree.{dimension, distance};
 ghost use Rattle.tree.specs.Lookups.{badBoard};
+ghost use Rattle.node.specs.Sums.{dims, allSent, allTaken, tally};
 ghost use Rattle.node.specs.Answers.{outcomeOf};
 ghost use Rattle.node.specs.Calls.{send, take, idle};
-ghost use Rattle.layout.specs.Held.{answerOn, wordsOn};
+ghost use Rattle.layout.specs.Held.{unpacked, answerOn, wordsOn, Passed, Answers};
 ghost use Rattle.node_calls.specs.Fresh.{freshOn, freshWords};
-ghost use Rattle.node_calls.specs.Woken.{wokenWords};
+ghost use Rattle.node_calls.specs.Pieces.{wokenWords};
 use base::Bounds;
 use frame::Sent;
 use frame::Taken;
-use frame::Timing;
 use node::Answer;
 use tree::Found;
 
@@ -49,6 +49,24 @@ fn shell_of(b: Bounds, nodes: u32, number: u32, other: u32) -> u32
     m
 }
 
+// One message more is sent to a node, by a state that passes the test.
+fn send_on(b: Bounds, state: &mut [u32], sends: Sent, to: u32) -> Answer
+    requires { ⌜ Passed (limitsOf b) (now state) × (sends .0 ≡ tally (unpacked (now state)) allSent) ⌝ }
+    ensures { λ r.
+        ⌜ Answers (limitsOf b) (λ n. send (limitsOf b) n to) (now (state .entry)) (now (state .exit)) r ⌝ }
+{
+    let nodes = state[layout::NODES];
+    let number = state[layout::NUMBER];
+    let no = refusals::send_no(b, nodes, number, state[layout::BUSY], sends, to);
+    if no != 0 {
+        return Answer::Refused(no);
+    }
+    let at = layout::HEAD + shell_of(b, nodes, number, to);
+    let sent = Sent(state[at as usize]);
+    state[at as usize] = sent.0 + 1;
+    Answer::Done
+}
+
 // One message more is sent to a node. Refuses 13, 2, 3, 4, 5.
 pub fn send_to(b: Bounds, state: &mut [u32], sums: &mut [u32], to: u32) -> Answer
     ensures answer { λ r.
@@ -62,24 +80,7 @@ pub fn send_to(b: Bounds, state: &mut [u32], sums: &mut [u32], to: u32) -> Answe
     if !known.ok {
         return Answer::Refused(13);
     }
-    let nodes = state[layout::NODES];
-    let number = state[layout::NUMBER];
-    if nodes <= to {
-        return Answer::Refused(2);
-    }
-    if to == number {
-        return Answer::Refused(3);
-    }
-    if state[layout::BUSY] == 0 {
-        return Answer::Refused(4);
-    }
-    if b.sends as u32 <= known.sends.0 {
-        return Answer::Refused(5);
-    }
-    let at = layout::HEAD + shell_of(b, nodes, number, to);
-    let sent = Sent(state[at as usize]);
-    state[at as usize] = sent.0 + 1;
-    Answer::Done
+    send_on(b, state, known.sends, to)
 }
 
 // Counts a message in the taken tally at a place, and makes the node busy, at (1, 0, 1) and with T 0.
@@ -96,6 +97,25 @@ fn wake(state: &mut [u32], at: u32)
     state[layout::AGREED] = 0;
 }
 
+// A message from a node is taken, by a state of p dimensions that passes the test.
+fn take_on(b: Bounds, state: &mut [u32], p: u32, takes: Taken, from: u32, phase: u8) -> Answer
+    requires { ⌜ Passed (limitsOf b) (now state)
+        × (p ≡ dims (unpacked (now state)))
+        × (takes .0 ≡ tally (unpacked (now state)) allTaken) ⌝ }
+    ensures { λ r.
+        ⌜ Answers (limitsOf b) (λ n. take (limitsOf b) n from phase) (now (state .entry)) (now (state .exit)) r ⌝ }
+{
+    let nodes = state[layout::NODES];
+    let number = state[layout::NUMBER];
+    let here = state[layout::PHASE] as u8;
+    let no = refusals::take_no(b, nodes, number, here, takes, from, phase);
+    if no != 0 {
+        return Answer::Refused(no);
+    }
+    wake(state, layout::HEAD + p + shell_of(b, nodes, number, from));
+    Answer::Done
+}
+
 // A message from a node, with its phase byte, is taken. Refuses 13, 2, 3, 7 or 8, 6.
 pub fn take_from(b: Bounds, state: &mut [u32], sums: &mut [u32], from: u32, phase: u8) -> Answer
     ensures answer { λ r.
@@ -109,29 +129,7 @@ pub fn take_from(b: Bounds, state: &mut [u32], sums: &mut [u32], from: u32, phas
     if !known.ok {
         return Answer::Refused(13);
     }
-    let nodes = state[layout::NODES];
-    let number = state[layout::NUMBER];
-    if nodes <= from {
-        return Answer::Refused(2);
-    }
-    if from == number {
-        return Answer::Refused(3);
-    }
-    let when = frame::timing_of(phase, state[layout::PHASE] as u8);
-    match when {
-        Timing::Now => {}
-        Timing::Early => return Answer::Refused(7),
-        Timing::Late => return Answer::Refused(8),
-        Timing::Foreign => return Answer::Refused(8),
-    }
-    if base::taken_limit(b) <= known.takes.0 {
-        return Answer::Refused(6);
-    }
-    wake(
-        state,
-        layout::HEAD + known.dims + shell_of(b, nodes, number, from),
-    );
-    Answer::Done
+    take_on(b, state, known.dims, known.takes, from, phase)
 }
 
 // The node has run out of work. Refuses 13.

@@ -1,4 +1,3 @@
-pub mod Lookups
 pub mod Placing
 pub mod Storing
 pub mod Intake

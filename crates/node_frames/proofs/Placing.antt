@@ -4,19 +4,20 @@ use mathlib.Core.List.{List, [], _∷_, _++_, append-assoc}
 use Prim.Native.Nat.{ℕ, suc, _+_, _-_, _*_, _≤_, _<_}
 use native.Mathlib.Numerals.{add-one}
 use native.Mathlib.Omega.{arith}
-use borrow.Author.Tests.{le-leb, ne-eqb}
+use borrow.Author.Tests.{ne-eqb}
 use borrow.Rule.Slice.PartMut.{putMid}
-use lib.ListN.{length, set, take, drop, length-drop, length-set}
-use lib.Seq.{drop-drop, length-take-le, set-split, append-snoc, getD-set-other, set-getD}
+use lib.ListN.{length, set, take, drop, length-set}
+use lib.Seq.{drop-drop, set-split, append-snoc, getD-set-other, set-getD}
 use Rattle.base.specs.Choice.{list}
-use Rattle.base.proofs.Laws.{choose-yes, length-list}
+use Rattle.base.proofs.Laws.{length-list}
 use Rattle.frame.specs.Frame.{numberAt}
 use Rattle.frame.specs.Parts.{pasted}
 use Rattle.frame.proofs.Pasting.{paste-more}
 use Rattle.layout.specs.Places.{atPass, atDim, atFlag, atAgreed}
 use Rattle.layout.specs.Held.{word}
 use Rattle.wire.specs.Wire.{numbersFrom}
-use Rattle.node_frames.specs.Words.{backWords}
+use Rattle.wire.proofs.Copies.{part-copied}
+use Rattle.node_frames.specs.Pieces.{backWords}
 
 -- a part that is put back is pasted
 part-pasted : (l ys : List ℕ) (from n : ℕ) → length ys ≡ n → putMid from n l ys ≡ pasted l from ys
@@ -36,10 +37,8 @@ pub frame-put : (ws bs ys : List ℕ) (at n from end : ℕ) → from ≡ at + 1 
 frame-put ws bs ys at n from end f g h r e =
     let z : end - from ≡ n = omega arith in
     let m : List ℕ = set ws at 1 in
-    let d : n ≤ length (drop from m) = simp (length-drop, length-set) (omega arith) in
-    let c : length (take (end - from) (drop from m)) ≡ n = rw z (length-take-le n (drop from m) d) in
     let y : ys ≡ list 0 n (numberAt bs) =
-    e ∙ choose-yes _ _ (le-leb (4 + 4 * length (take (end - from) (drop from m))) (length bs) (rw c r)) ∙ rw c in
+    part-copied bs m ys from n (simp length-set (omega arith)) r (rw z at e) in
     let w = length-list 0 n (numberAt bs) in
     rw (y, z)
     (part-pasted m (list 0 n (numberAt bs)) from n w

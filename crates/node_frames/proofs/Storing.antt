@@ -9,25 +9,26 @@ use lib.Dec.{ltb, eqb}
 use lib.ListN.{length, getD}
 use borrow.Author.Tests.{eq-eqb, ne-eqb}
 use Rattle.base.specs.Choice.{choose, list}
-use Rattle.base.specs.Limits.{Limits}
+use Rattle.base.specs.Limits.{Limits, Fits}
 use Rattle.base.proofs.Laws.{cases, length-list, list-at, list-same}
 use Rattle.frame.specs.Frame.{badStep, frameLength, numberAt, hasShell, shellAt}
 use Rattle.frame.specs.Frame.{sentNumber, takenNumber, firstFields, fieldsOf}
 use Rattle.frame.specs.declared.Frame.{Frame}
 use Rattle.frame.proofs.Shells.{shell-there, shell-gone}
 use Rattle.frame.proofs.Writing.{first-length, second-length}
-use Rattle.frame.proofs.RoundTripChecks.{step-known, shell-known}
-use Rattle.frame.proofs.RoundTripAccepted.{head-pass, head-dim}
+use Rattle.frame.proofs.RoundTripChecks.{step-known, step-good, shell-known}
+use Rattle.frame.proofs.RoundTripAccepted.{Read, head-pass, head-dim}
 use Rattle.wire.proofs.Within.{fields-first, fields-second}
 use Rattle.node.specs.Change.{at}
 use Rattle.node.specs.Calls.{stepNumber, firstOf, stored, gotten}
 use Rattle.node.specs.declared.Node.{Node}
-use Rattle.layout.specs.Places.{atPass, atDim, atAgreed}
+use Rattle.layout.specs.Places.{atNodes, atPass, atDim, atAgreed}
 use Rattle.layout.specs.Held.{word, dimsOf, firstFrom, unpacked, isWhole}
+use Rattle.layout.proofs.Whole.{few}
 use Rattle.layout.proofs.Becomes.{Becomes, becomes-then}
 use Rattle.layout.proofs.Writes.{put-position}
 use Rattle.layout.proofs.Stores.{put-first, put-second}
-use Rattle.node_frames.specs.Words.{keptWords, backWords, storedWords}
+use Rattle.node_frames.specs.Pieces.{keptWords, backWords, storedWords}
 
 -- ---- the words of a frame are those of what is stored
 
@@ -126,7 +127,7 @@ module _ (L : Limits) (ws bs : List ℕ) (e : isWhole L ws ≡ true) (eight : di
   unfolding gotten unpacked
   gotten-is = rw (head-pass p bs, head-dim p bs)
 
-  pub stored-words : Becomes L ws (storedWords p ws bs) (gotten (unpacked ws) got)
+  stored-words : Becomes L ws (storedWords p ws bs) (gotten (unpacked ws) got)
   unfolding storedWords
   stored-words = subst (Becomes L ws (storedWords p ws bs)) (sym gotten-is) (go earlier back kept)
     where
@@ -134,3 +135,21 @@ module _ (L : Limits) (ws bs : List ℕ) (e : isWhole L ws ≡ true) (eight : di
           → Becomes L ws (choose t a b) (choose t m n)
       go true x y = x
       go false x y = y
+
+-- ---- bytes that are read as a frame of the board
+
+module _ (L : Limits) (ws bs : List ℕ) (r : Read L (word ws atNodes) bs (fieldsOf (dimsOf ws) bs)) where
+  pub read-dim : getD bs 2 0 < dimsOf ws
+  read-dim = rw (head-dim (dimsOf ws) bs) at (r .accepted .dim)
+
+  pub read-pass : (getD bs 0 0 ≡ 1) ⊎ (getD bs 0 0 ≡ 2)
+  read-pass = rw (head-pass (dimsOf ws) bs) at (r .accepted .pass)
+
+  pub read-count : length bs ≡ frameLength (dimsOf ws) (getD bs 0 0) (getD bs 2 0)
+  read-count = rw (head-pass (dimsOf ws) bs, head-dim (dimsOf ws) bs) at (r .count)
+
+  pub put-read : Fits L → isWhole L ws ≡ true
+      → Becomes L ws (storedWords (dimsOf ws) ws bs) (gotten (unpacked ws) (fieldsOf (dimsOf ws) bs))
+  put-read fit e =
+      stored-words L ws bs e (few L fit ws (r .accepted .board))
+      (step-good (dimsOf ws) (getD bs 0 0) (getD bs 2 0) read-pass read-dim) read-count

@@ -9,8 +9,9 @@ ghost use Rattle.tree.specs.Lookups.{badBoard};
 ghost use Rattle.frame.specs.Parts.{pasted};
 ghost use Rattle.node.specs.Answers.{outcomeOf};
 ghost use Rattle.node.specs.Calls.{frameIn, stepNumber, isAwaited};
-ghost use Rattle.layout.specs.Held.{answerOn, wordsOn};
-ghost use Rattle.node_frames.specs.Words.{framePlace, frameWords, backWords, storedWords, Storable};
+ghost use Rattle.layout.specs.Held.{dimsOf, answerOn, wordsOn, Passed, Answers};
+ghost use Rattle.node_frames.specs.Pieces.{framePlace, frameWords, backWords, storedWords, Storable};
+ghost use Rattle.node_frames.specs.Pieces.{Judged};
 use base::Bounds;
 use frame::Outcome;
 use frame::Timing;
@@ -90,6 +91,51 @@ fn store(state: &mut [u32], p: u32, bytes: &[u8])
     go_back(&mut *state, pass, k);
 }
 
+// Whether a frame is stored, dropped or refused, by a state that passes the test.
+fn judge(b: Bounds, s: &[u32], bytes: &[u8]) -> Answer
+    requires { ⌜ Passed (limitsOf b) (now s) ⌝ }
+    ensures { λ r. ⌜ Judged (limitsOf b) (now (s .entry)) (now (bytes .entry)) r ⌝ }
+{
+    let nodes = s[layout::NODES];
+    let number = s[layout::NUMBER];
+    let answer = wire::checked(b, nodes, bytes);
+    if let Outcome::Refused(no) = answer {
+        return Answer::Refused(no);
+    }
+    let sender = bytes[3] as u32;
+    if sender == number {
+        return Answer::Refused(3);
+    }
+    if !is_awaited(b, nodes, number, bytes[2] as u32, sender) {
+        return Answer::Refused(11);
+    }
+    let when = frame::timing_of(bytes[1], s[layout::PHASE] as u8);
+    match when {
+        Timing::Now => Answer::Done,
+        Timing::Early => Answer::Refused(7),
+        Timing::Late => Answer::Dropped,
+        Timing::Foreign => Answer::Refused(8),
+    }
+}
+
+// A frame has come for a state of p dimensions that passes the test.
+fn frame_on(b: Bounds, state: &mut [u32], p: u32, bytes: &[u8]) -> Answer
+    requires { ⌜ Passed (limitsOf b) (now state) × (p ≡ dimsOf (now state)) ⌝ }
+    ensures { λ r.
+        ⌜ Answers (limitsOf b) (λ n. frameIn (limitsOf b) n (now (bytes .entry))) (now (state .entry))
+        (now (state .exit)) r ⌝ }
+{
+    let answer = judge(b, &*state, bytes);
+    match answer {
+        Answer::Done => {
+            store(state, p, bytes);
+            Answer::Done
+        }
+        Answer::Dropped => Answer::Dropped,
+        Answer::Refused(no) => Answer::Refused(no),
+    }
+}
+
 // A frame has come. Refuses 13, 9, 10, 2, 3, 11, 7, 8.
 pub fn frame_in(b: Bounds, state: &mut [u32], sums: &mut [u32], bytes: &[u8]) -> Answer
     ensures answer { λ r.
@@ -105,27 +151,5 @@ pub fn frame_in(b: Bounds, state: &mut [u32], sums: &mut [u32], bytes: &[u8]) ->
     if !known.ok {
         return Answer::Refused(13);
     }
-    let nodes = state[layout::NODES];
-    let number = state[layout::NUMBER];
-    let answer = wire::checked(b, nodes, bytes);
-    if let Outcome::Refused(no) = answer {
-        return Answer::Refused(no);
-    }
-    let sender = bytes[3] as u32;
-    if sender == number {
-        return Answer::Refused(3);
-    }
-    if !is_awaited(b, nodes, number, bytes[2] as u32, sender) {
-        return Answer::Refused(11);
-    }
-    let when = frame::timing_of(bytes[1], state[layout::PHASE] as u8);
-    match when {
-        Timing::Now => {
-            store(state, known.dims, bytes);
-            Answer::Done
-        }
-        Timing::Early => Answer::Refused(7),
-        Timing::Late => Answer::Dropped,
-        Timing::Foreign => Answer::Refused(8),
-    }
+    frame_on(b, state, known.dims, bytes)
 }

@@ -6,19 +6,18 @@ use native.Mathlib.Omega.{arith}
 use mathlib.Core.Path.{_≡_, sym, _∙_, subst}
 use mathlib.Core.Bool.{true, false}
 use mathlib.Core.List.{List}
-use Prim.Native.Nat.{ℕ, _+_, _-_, _*_, _≤_, _<_}
+use Prim.Native.Nat.{ℕ, _<_}
 use lib.Dec.{eqb}
-use lib.ListN.{length}
 use Rattle.base.specs.Limits.{Limits, Fits, limitsOf}
 use Rattle.base.proofs.Limits.{fits-of}
 use Rattle.node.specs.Sums.{dims}
 use Rattle.node.specs.declared.Node.{Node}
-use Rattle.agree.specs.Verdict.{isVerdict}
-use Rattle.agree.specs.declared.Verdict.the-variants.{Agrees}
-use Rattle.layout.specs.Places.{atFirst, receivedPlace, sumReceived}
+use Rattle.survey.specs.Verdict.{isVerdict}
+use Rattle.survey.specs.declared.Verdict.the-variants.{Agrees}
 use Rattle.layout.specs.Held.{word, unpacked}
-use Rattle.node_barrier.specs.Pieces.{Lent, tried, onwardTurn, Looks}
-use Rattle.node_barrier.proofs.Handed.{dim-low, place-low, place-inside, received-low, frame-low, total-is}
+use Rattle.node_turn.specs.Turn.{totalWith, onwardTurn}
+use Rattle.node_barrier.specs.Pieces.{Lent, tried, Looks}
+use Rattle.node_barrier.proofs.Handed.{dim-low, total-is}
 use Rattle.node_barrier.proofs.Turning.{looks-out, looks-on, looks-wait}
 use Rattle.node_barrier.proofs.look.Statement.{statement}
 use Rattle.node_barrier.proofs.look.Tie as tie
@@ -26,7 +25,7 @@ use Rattle.node_barrier.proofs.look.Tie as tie
 returns : tie.Need-returns
 returns c =
     let s = c .before .before .before in
-    looks-out (limitsOf (s .args .b)) (unpacked (now (s .args .s))) (sym (s .pre .3 .dims) ∙ c .if1 .taken)
+    looks-out (limitsOf (s .args .b)) (unpacked (now (s .args .s))) (sym (s .pre .2 .dims) ∙ c .if1 .taken)
 
 -- a board of some dimensions
 module _ (c : tie.Else1) where
@@ -55,7 +54,7 @@ module _ (c : tie.Else1) where
   fit = fits-of (s .args .b) (omega (arith, s .good .0)) (omega (arith, s .good .0))
 
   lent : Lent L ws sums p (s .args .issued .0)
-  lent = s .pre .3
+  lent = s .pre .2
 
   some : 0 < p
   some = omega (arith, c .if1 .left)
@@ -67,51 +66,29 @@ module _ (c : tie.Else1) where
   unfolding unpacked
   k-low = low
 
-  room : atFirst p k + (2 * (p - k) + 6) ≤ 144
-  unfolding unpacked
-  room = place-low L fit ws sums p (s .args .issued .0) lent low
-
-  inside : atFirst p k + (2 * (p - k) + 6) ≤ length ws
-  unfolding unpacked
-  inside = place-inside L fit ws sums p (s .args .issued .0) lent low
-
-  sum-low : word sums (sumReceived p) ≤ 16776960
-  sum-low = received-low L fit ws sums p (s .args .issued .0) lent some
-
-  number-low : word ws (receivedPlace p (atFirst p k) k) ≤ 16776960
-  unfolding unpacked
-  number-low = frame-low L fit ws sums p (s .args .issued .0) lent low
-
   not-none : eqb (dims n) 0 ≡ false
   not-none = ne-eqb (dims n) 0 (λ e. c .if1 .left (lent .dims ∙ e))
 
   -- on, where the step agrees
   onwards : isVerdict (tried L n) Agrees ≡ true
-      → Looks L n
-      (onwardTurn p (word ws 4) k (word ws 7) (word sums (sumReceived p) + word ws (receivedPlace p (atFirst p k) k)))
+      → Looks L n (onwardTurn p (word ws 4) k (word ws 7) (totalWith ws sums p k))
   unfolding unpacked
   onwards v =
-      subst
-      (λ q.
-      Looks L n
-      (onwardTurn q (word ws 4) k (word ws 7) (word sums (sumReceived p) + word ws (receivedPlace p (atFirst p k) k))))
-      (sym (lent .dims))
-      (looks-on L n not-none _ (λ e l. total-is L fit ws sums p (s .args .issued .0) lent low e l) v)
+      subst (λ q. Looks L n (onwardTurn q (word ws 4) k (word ws 7) (totalWith ws sums p k))) (sym (lent .dims))
+      (looks-on L n not-none (omega (arith, low, lent .dims)) _
+      (λ e l. total-is L fit ws sums p (s .args .issued .0) lent low e l) v)
 
 verdict-on-requires : tie.Need-verdict-on-requires
 verdict-on-requires c κs =
     let h = s c .pre in
-    (h .0, h .1, h .2, k-low c, h .3, h .4)
+    (h .0, h .1, k-low c, h .2, h .3)
 
-onward-requires : tie.Need-onward-requires
-onward-requires c κs =
-    let e = c .before .before .before in
-    let h = s e .pre in
-    (h .0, k-low e, h .1, omega (arith, room e), omega (arith, inside e), h .2, sum-low e, number-low e)
+cast-onward : tie.Need-cast-onward
+cast-onward c = record { fits = omega (arith, k-low (c .before .before .before .before)) }
 
 returns-2 : tie.Need-returns-2
 returns-2 c =
-    let t = c .before in
+    let t = c .before .before in
     let v = t .before .before in
     let e = v .before in
     subst (Looks (L e) (n e)) (sym (c .onward .ensures))
@@ -127,4 +104,5 @@ returns-3 c =
 pub look-spec : {M : Type 1} → statement M
 look-spec =
     tie.close
-    (tie.spec returns verdict-on-requires (λ c. search needs) onward-requires (λ c. search needs) returns-2 returns-3)
+    (tie.spec returns verdict-on-requires (λ c. search needs) (λ c. search needs) cast-onward (λ c κs. search needs)
+    (λ c. search needs) returns-2 returns-3)

@@ -1,9 +1,9 @@
 -- `step` answers `barrier` on the words.
 use borrow.Author.Needs.{needs}
-use borrow.Author.Tests.{eq-eqb, ne-eqb, leb-true}
+use borrow.Author.Tests.{leb-true}
 use denote.Ref.{now}
 use native.Mathlib.Omega.{arith}
-use mathlib.Core.Path.{_≡_, ap, _∙_}
+use mathlib.Core.Path.{_≡_, refl}
 use mathlib.Core.Logic.{_⊎_, inl, inr}
 use mathlib.Core.Bool.{true, false, not}
 use mathlib.Core.List.{List}
@@ -17,16 +17,15 @@ use Rattle.node.specs.State.{valid}
 use Rattle.node.specs.declared.Node.{Node}
 use Rattle.node.specs.declared.BarrierAnswer.the-variants.{Refused}
 use Rattle.layout.specs.Places.{sumWords}
-use Rattle.layout.specs.Held.{word, dimsOf, unpacked, isWhole, isReady}
-use Rattle.layout.proofs.Whole.{whole}
+use Rattle.layout.specs.Held.{dimsOf, unpacked, isWhole, isReady}
 use Rattle.scan.specs.declared.Scan.{Scan}
 use Rattle.scan.proofs.Known.{Known, failed, passed}
-use Rattle.node_barrier.specs.Pieces.{Lent, wordsAfter}
-use Rattle.node_barrier.specs.declared.Turn.the-variants.{Refuses}
+use Rattle.node_turn.specs.declared.Turn.the-variants.{Refuses}
+use Rattle.node_turn.proofs.Acting.{acted}
+use Rattle.node_barrier.specs.Pieces.{Lent}
 use Rattle.node_barrier.proofs.Handed.{head-room, low-dims}
-use Rattle.node_barrier.proofs.Acting.{acted}
-use Rattle.node_barrier.proofs.Turning.{refuses-state, refuses-busy}
-use Rattle.node_barrier.proofs.Answering.{On, on-same, no-state, on-turn}
+use Rattle.node_barrier.proofs.Turning.{refuses-state}
+use Rattle.node_barrier.proofs.Answering.{steps, On, no-state, on-state}
 use Rattle.node_barrier.proofs.step.Statement.{statement}
 use Rattle.node_barrier.proofs.step.Tie as tie
 
@@ -57,11 +56,12 @@ module _ (c : tie.After-struct-known) where
   fit = fits-of (start .args .b) (omega (arith, start .good .0)) (omega (arith, start .good .0))
 
   refused : (isReady L room ws ≡ false) ⊎ ((isReady L room ws ≡ true) × (not (valid L n) ≡ true))
-      → On L room ws buf (Refused 13) ws buf
-  refused (inl e) = no-state L room ws buf e
+      → On L ws buf room (Refused 13) ws buf
+  refused (inl e) = no-state L ws buf room e
   refused (inr e) =
       let w = both-true (isWhole L ws) (leb (sumWords (dimsOf ws)) room) (e .0) in
-      on-turn L room ws buf (e .0) (Refuses 13) ws buf (refuses-state L n buf (e .1)) (acted L fit ws (w .0) (Refuses 13))
+      on-state L ws buf room (e .0) (Refused 13) ws buf
+      (steps L ws buf (Refuses 13) ws buf refl (refuses-state L n buf (e .1)) (acted L fit ws (w .0) (Refuses 13)))
 
 returns : tie.Need-returns
 returns c =
@@ -114,57 +114,23 @@ module _ (e : tie.Else1) where
         dims-are,
       )
 
-slice-read-if2 : tie.Need-slice-read-if2
-slice-read-if2 c = omega (arith, long (c .before))
+cast-step-on : tie.Need-cast-step-on
+cast-step-on c = record { fits = omega (arith, few (c .before .before .before)) }
 
-busy : (e : tie.Else1) → word (ws (k e)) 3 ≡ 1 → n (k e) .busy ≡ true
-unfolding unpacked
-busy e q = eq-eqb _ 1 q
+step-on-requires : tie.Need-step-on-requires
+step-on-requires c κs =
+    let e = c .before .before .before .before in
+    (long e, enough e, lent e)
 
 returns-2 : tie.Need-returns-2
 returns-2 c =
-    let e = c .before .before in
+    let d = c .before .before .before .before in
+    let e = d .before .before .before .before .before in
     let s = k e in
-    let h = known e in
-    on-turn (L s) (room s) (ws s) (buf s) (h .ready) (Refuses 12) (ws s) (buf s)
-    (refuses-busy (L s) (n s) (buf s) (h .valid) (busy e (c .if2 .taken))) (acted (L s) (fit s) (ws s) (h .whole) (Refuses 12))
-
--- ---- an idle one
-
-decide-requires : tie.Need-decide-requires
-decide-requires c κs =
-    let i = c .before .before .before in
-    let e = i .before .before in
-    (long e, few e, enough e, ne-eqb _ 1 (i .if2 .left), lent e)
-
-abbrev passing : tie.After-decide → tie.Else1
-passing d = d .before .before .before .before .before .before
-
-cast-act : tie.Need-cast-act
-cast-act c = record { fits = omega (arith, few (passing (c .before .before .before .before))) }
-
-act-requires : tie.Need-act-requires
-act-requires c κs =
-    let e = passing (c .before .before .before .before) in
-    (long e, whole (L (k e)) (ws (k e)) (known e .whole) .phase)
-
-returns-3 : tie.Need-returns-3
-returns-3 c =
-    let a = c .before .before in
-    let d = a .before .before .before .before .before in
-    let e = passing d in
-    let s = k e in
-    let t = d .decide .result in
-    let words =
-    a .act .ensures .1
-    ∙ ap (λ p. wordsAfter (ws s) p t) (dims-are e)
-    ∙ acted (L s) (fit s) (ws s) (known e .whole) t in
-    on-same (L s) (room s) (ws s) (buf s) (a .act .ensures .0)
-    (on-turn (L s) (room s) (ws s) (buf s) (known e .ready) t _ _ (d .decide .ensures) words)
+    on-state (L s) (ws s) (buf s) (room s) (known e .ready) (d .step-on .result) _ _ (d .step-on .ensures)
 
 pub step-spec : {M : Type 1} → statement M
 step-spec =
     tie.close
-    (tie.spec (λ c κs. search needs) (λ c. search needs) (λ c. search needs) returns slice-read-if2
-    (λ c. search needs) (λ c. search needs) returns-2 decide-requires cast-act act-requires (λ c. search needs)
-    (λ c. search needs) (λ c. search needs) returns-3)
+    (tie.spec (λ c κs. search needs) (λ c. search needs) (λ c. search needs) returns cast-step-on step-on-requires (λ
+    c. search needs) (λ c. search needs) (λ c. search needs) returns-2)

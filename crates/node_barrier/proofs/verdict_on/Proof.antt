@@ -12,8 +12,8 @@ use Rattle.base.proofs.Laws.{choose-yes, choose-no}
 use Rattle.base.proofs.Limits.{fits-of}
 use Rattle.node.specs.Agree.{isAlone, clauses, allHold}
 use Rattle.node.specs.declared.Node.{Node}
-use Rattle.agree.specs.Verdict.{isVerdict}
-use Rattle.agree.specs.declared.Verdict.{Verdict}
+use Rattle.survey.specs.Verdict.{isVerdict}
+use Rattle.survey.specs.declared.Verdict.{Verdict}
 use Rattle.layout.specs.Held.{word, unpacked}
 use Rattle.verdict.specs.Tried.{firstTried, secondTried}
 use Rattle.node_barrier.specs.Pieces.{Lent, tried}
@@ -39,11 +39,11 @@ module _ (s : tie.Start) where
   fit = fits-of (s .args .b) (omega (arith, s .good .0)) (omega (arith, s .good .0))
 
   lent : Lent L ws (now (s .args .sums)) (s .args .p) (s .args .issued .0)
-  lent = s .pre .4
+  lent = s .pre .3
 
   low : n .dim < s .args .p
   unfolding unpacked
-  low = s .pre .3
+  low = s .pre .2
 
   -- pass 1
   module _ (e : word ws 4 ≡ 1) where
@@ -54,7 +54,7 @@ module _ (s : tie.Start) where
     clauses-first : firstTried L ws (now (s .args .sums)) (s .args .p) k ≡ clauses L n (n .pass) (n .dim)
     unfolding unpacked
     clauses-first =
-        first-clauses L fit ws (now (s .args .sums)) (s .args .p) (s .args .issued .0) lent low pass-one (s .pre .2)
+        first-clauses L fit ws (now (s .args .sums)) (s .args .p) (s .args .issued .0) lent low pass-one (s .pre .1)
 
   -- pass 2
   module _ (e : word ws 4 ≡ 1 → ⊥) where
@@ -74,7 +74,7 @@ module _ (s : tie.Start) where
   -- the step is alone, or its clauses are tried
   alone-is : s .args .alone ≡ isAlone n (n .dim)
   unfolding unpacked
-  alone-is = s .pre .5
+  alone-is = s .pre .4
 
   judged : s .args .alone ≡ false → (v : Verdict) (cs : List Bool) → cs ≡ clauses L n (n .pass) (n .dim)
       → isVerdict cs v ≡ true → isVerdict (tried L n) v ≡ true
@@ -103,5 +103,5 @@ returns-3 c =
 pub verdict-on-spec : {M : Type 1} → statement M
 verdict-on-spec =
     tie.close
-    (tie.spec returns (λ c. search needs) (λ c. search needs) (λ c. search needs) (λ c. search needs)
-    (λ c κs. search needs) returns-2 (λ c. search needs) (λ c. search needs) (λ c κs. search needs) returns-3)
+    (tie.spec returns (λ c. search needs) (λ c. search needs) (λ c. search needs) (λ c κs. search needs) returns-2 (λ
+    c. search needs) (λ c κs. search needs) returns-3)

@@ -10,9 +10,10 @@ use Rattle.base.specs.Limits.{Limits, Fits, limitsOf}
 use Rattle.base.proofs.Limits.{fits-of}
 use Rattle.base.proofs.Laws.{here}
 use Rattle.node.specs.Calls.{idle}
+use Rattle.node.specs.declared.Answer.the-variants.{Done}
 use Rattle.node.proofs.Ways.{idle-refuses, idle-does}
 use Rattle.layout.proofs.Writes.{put-busy}
-use Rattle.layout.proofs.Answers.{done-on}
+use Rattle.layout.proofs.Answers.{gives}
 use Rattle.scan.proofs.Known.{Known, passed}
 use Rattle.node_calls.proofs.Calls.{no-state, tallies-room}
 use Rattle.node_calls.proofs.go_idle.Statement.{statement}
@@ -50,8 +51,9 @@ slice-write-state c = omega (arith, tallies-room (limits c) (ws c) (known c .who
 
 returns-2 : tie.Need-returns-2
 returns-2 c =
-    done-on (limits c) (fit (start c)) (room c) (λ n. idle (limits c) n) (ws c) (known c .ready) _ _
-    (idle-does (limits c) _ (known c .valid)) (put-busy (limits c) (ws c) (known c .whole) false)
+    gives (limits c) (fit (start c)) (λ n. idle (limits c) n) (ws c) Done _ _ (idle-does (limits c) _ (known c .valid))
+    (put-busy (limits c) (ws c) (known c .whole) false)
+    .on (room c) (known c .ready)
 
 pub go-idle-spec : {M : Type 1} → statement M
 go-idle-spec =

@@ -10,8 +10,8 @@ use Rattle.base.proofs.Limits.{fits-of}
 use Rattle.tree.specs.Tree.{dimension, distance}
 use Rattle.tree.specs.Lookups.{foundAnswer}
 use Rattle.tree.proofs.Distances.{distance-below}
+use Rattle.tree.proofs.Lookups.{not-refused, found-same, distance-found}
 use Rattle.layout.proofs.Whole.{few}
-use Rattle.node_calls.proofs.Lookups.{not-refused, found-same, distance-found}
 use Rattle.node_calls.proofs.shell_of.Statement.{statement}
 use Rattle.node_calls.proofs.shell_of.Tie as tie
 

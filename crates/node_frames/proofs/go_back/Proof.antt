@@ -3,7 +3,7 @@ use borrow.Author.Needs.{needs}
 use borrow.Author.Tests.{eq-eqb}
 use native.Mathlib.Omega.{arith}
 use lib.ListN.{length-set}
-use Rattle.node_frames.specs.Words.{backWords}
+use Rattle.node_frames.specs.Pieces.{backWords}
 use Rattle.node_frames.proofs.Placing.{back-kept}
 use Rattle.node_frames.proofs.go_back.Statement.{statement}
 use Rattle.node_frames.proofs.go_back.Tie as tie

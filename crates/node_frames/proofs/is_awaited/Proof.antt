@@ -5,8 +5,8 @@ use Rattle.base.specs.Limits.{limitsOf}
 use Rattle.base.specs.Refusal.{found}
 use Rattle.tree.specs.Tree.{Place, place, awaits, awaited}
 use Rattle.tree.specs.Lookups.{placedAnswer}
+use Rattle.tree.proofs.Lookups.{not-refused, found-same, place-found}
 use Rattle.node.specs.Calls.{isAwaited}
-use Rattle.node_frames.proofs.Lookups.{not-refused, found-same, place-found}
 use Rattle.node_frames.proofs.is_awaited.Statement.{statement}
 use Rattle.node_frames.proofs.is_awaited.Tie as tie
 

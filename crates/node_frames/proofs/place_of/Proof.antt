@@ -6,7 +6,7 @@ use mathlib.Core.Path.{_≡_, sym, _∙_}
 use Prim.Native.Nat.{_+_, _-_, _*_}
 use Rattle.base.proofs.Laws.{choose-yes, choose-no}
 use Rattle.layout.specs.Places.{atFirst, atSecond}
-use Rattle.node_frames.proofs.Lookups.{first-end, first-found}
+use Rattle.layout.proofs.Offsets.{first-end, first-found}
 use Rattle.node_frames.proofs.place_of.Statement.{statement}
 use Rattle.node_frames.proofs.place_of.Tie as tie
 

@@ -10,7 +10,7 @@ use Rattle.base.proofs.Laws.{length-list}
 use Rattle.frame.specs.Frame.{numberAt}
 use Rattle.frame.specs.Parts.{pasted}
 use Rattle.frame.proofs.Pasting.{length-pasted}
-use Rattle.node_frames.specs.Words.{frameWords}
+use Rattle.node_frames.specs.Pieces.{frameWords}
 use Rattle.node_frames.proofs.Placing.{frame-put}
 use Rattle.node_frames.proofs.put_frame.Statement.{statement}
 use Rattle.node_frames.proofs.put_frame.Tie as tie

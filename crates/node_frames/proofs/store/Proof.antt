@@ -7,7 +7,7 @@ use denote.Ref.{now}
 use lib.ListN.{getD}
 use Rattle.base.proofs.Laws.{choose-yes, choose-no}
 use Rattle.frame.specs.Parts.{pasted}
-use Rattle.node_frames.specs.Words.{frameWords, keptWords, backWords, storedWords}
+use Rattle.node_frames.specs.Pieces.{frameWords, keptWords, backWords, storedWords}
 use Rattle.node_frames.proofs.store.Statement.{statement}
 use Rattle.node_frames.proofs.store.Tie as tie
 
