@@ -1,31 +1,16 @@
 -- Laws of the calls on words: this build's limits, and words for the sums of any of its boards.
-use mathlib.Core.Path.{_≡_, refl, ap, _∙_}
-use mathlib.Core.Bool.{Bool, true, false}
+use mathlib.Core.Path.{_≡_, ap, _∙_}
 use mathlib.Core.List.{List}
-use Prim.Native.Nat.{ℕ, _+_, _*_}
-use native.Mathlib.Omega.{arith}
-use lib.Dec.{leb}
-use borrow.Author.Tests.{le-leb}
-use Rattle.base.specs.Choice.{choose, both}
+use Prim.Native.Nat.{ℕ}
+use Rattle.base.specs.Choice.{choose}
 use Rattle.base.specs.Limits.{Limits, base}
 use Rattle.base.proofs.Laws.{cases}
-use Rattle.base.proofs.Limits.{fits-base}
 use Rattle.node.specs.Answers.{Given, Outcome, outcomeNumber, refused}
 use Rattle.node.specs.declared.Node.{Node}
 use Rattle.layout.specs.Held as held
-use Rattle.layout.specs.Held.{dimsOf, isWhole, isReady, unpacked, holding}
-use Rattle.layout.proofs.Whole.{whole, few}
+use Rattle.layout.specs.Held.{isWhole, unpacked, holding}
+use Rattle.layout.proofs.Whole.{roomy}
 use Rattle.barrier_c.specs.Exports.{answerOn, wordsOn}
-
--- the words lent for the sums are enough for every board
-pub roomy : (ws : List ℕ) → isReady base 18 ws ≡ isWhole base ws
-roomy ws = go (isWhole base ws) refl
-  where
-    go : (t : Bool) → isWhole base ws ≡ t → both t (leb (2 * dimsOf ws + 2) 18) ≡ t
-    go true e =
-        let l = few base fits-base ws (whole base ws e .board) in
-        le-leb (2 * dimsOf ws + 2) 18 (omega arith)
-    go false e = refl
 
 -- a call of the crates below on these words
 pub called : (L : Limits) → L ≡ base → (call : Limits → Node → Given Outcome) (ws after : List ℕ) (o : Outcome) (x : ℕ)

@@ -11,10 +11,10 @@ use Rattle.node.specs.Barrier.{barrier, barrierBytes, clauseFails}
 use Rattle.node.specs.declared.BarrierAnswer.{BarrierAnswer}
 use Rattle.node.specs.declared.BarrierAnswer.the-variants.{Sends, Waits, Moved, Left, Refused}
 use Rattle.layout.specs.Held.{isWhole, unpacked, holding}
+use Rattle.layout.proofs.Whole.{roomy}
 use Rattle.node_barrier.specs.On as below
 use Rattle.barrier_c.specs.Exports.{barrierOn, barrierState, barrierBuffer, detailWords, isClause}
-use Rattle.barrier_c.specs.Parts.{clauseOf}
-use Rattle.barrier_c.proofs.Called.{roomy}
+use Rattle.barrier_c.specs.Pieces.{clauseOf}
 
 -- what the exported call is to answer and to leave: the number, the words, the bytes, the details, the clause
 abbrev pub Crossed : List ℕ → List ℕ → List ℕ → ℕ → List ℕ → List ℕ → List ℕ → Type 0

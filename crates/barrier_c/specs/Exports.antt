@@ -1,21 +1,17 @@
 -- What the exported functions answer and leave in lent memory.
-use mathlib.Core.Bool.{Bool, true, not}
+use mathlib.Core.Bool.{Bool, true}
 use mathlib.Core.List.{List, [], _∷_}
 use Prim.Native.Nat.{ℕ}
 use lib.ListN.{length}
 use Rattle.base.specs.Choice.{choose}
 use Rattle.base.specs.Limits.{Limits}
-use Rattle.base.specs.Refusal.{Refusal, number, Answered, refused, found, when, inOrder}
-use Rattle.tree.specs.Lookups.{badBoard}
-use Rattle.tree.specs.Tree.{dimension, Place, alone, hermit, neighbour, messenger}
-use Rattle.frame.specs.Frame.{frameBytes, writeFrame, over}
-use Rattle.frame.specs.declared.Frame.{Frame}
+use Rattle.base.specs.Refusal.{Refusal, number, Answered, refused, found}
+use Rattle.tree.specs.Tree.{Place, alone, hermit, neighbour, messenger}
 use Rattle.node.specs.Agree.{clauses, mayName}
-use Rattle.node.specs.Answers.{Given, Outcome, outcomeNumber, Barrier, sent, waits, moved, left, barred, barrierNumber}
+use Rattle.node.specs.Answers.{Given, Outcome, outcomeNumber, Barrier, sent, waits, moved, left, barred}
 use Rattle.node.specs.Barrier.{barrier, barrierBytes}
 use Rattle.node.specs.declared.Node.{Node}
 use Rattle.layout.specs.Held.{unpacked, isWhole, holding}
-use Rattle.words.specs.Fields.{fieldWords, frameFrom, isFields}
 
 -- words that are no state, or too few for the board that they name, give 13
 abbrev pub noState : ℕ
@@ -81,20 +77,3 @@ isClause L ws clause waits =
 isClause L ws clause moved = true
 isClause L ws clause left = true
 isClause L ws clause (barred x) = true
-
--- ---- Frames on words
-
--- the writer: words of a frame's head that are no bytes give 10, after 1
-abbrev pub writeOn : Limits → ℕ → List ℕ → ℕ → Answered ℕ
-writeOn L P ws room =
-    inOrder refused (when (badBoard L P) Refusal.board ∷ when (not (isFields ws)) Refusal.field ∷ [])
-    (writeFrame L P (frameFrom ws) room)
-
--- the lent bytes after it
-abbrev pub writtenOn : Limits → ℕ → List ℕ → List ℕ → List ℕ
-writtenOn L P ws buf = over (frameBytes (dimension P) (frameFrom ws)) buf (writeOn L P ws (length buf))
-
--- what the reader leaves in lent words; they stay where it is refused
-abbrev pub frameWords : Answered Frame → List ℕ → List ℕ
-frameWords (refused x) ws = ws
-frameWords (found f) ws = fieldWords f

@@ -2,19 +2,16 @@
 ghost use mathlib.Core.Path.{_≡_};
 ghost use mathlib.Core.Bool.{true};
 ghost use lib.ListN.{length, getD};
-ghost use Rattle.base.specs.Choice.{choose};
-ghost use Rattle.base.specs.Limits.{base, limitsOf};
+ghost use Rattle.base.specs.Limits.{base};
 ghost use Rattle.tree.specs.Lookups.{dimensionLookup, placeLookup, distanceLookup, foundAnswer, placedAnswer};
-ghost use Rattle.tree.specs.Lookups.{badBoard};
 ghost use Rattle.frame.specs.Frame.{readFrame};
+ghost use Rattle.fields.specs.Fields.{writeOn, writtenOn, frameWords};
 ghost use Rattle.node.specs.Answers.{outcomeNumber, outcomeOf, barrierNumber, barrierOf};
 ghost use Rattle.node.specs.Calls.{send, take, idle, frameIn};
 ghost use Rattle.node_calls.specs.Fresh.{freshOn, freshWords};
 ghost use Rattle.barrier_c.specs.Exports.{answerOn, wordsOn, lookupNumber, numberWords, placeWords};
 ghost use Rattle.barrier_c.specs.Exports.{barrierOn, barrierState, barrierBuffer, detailWords, isClause};
-ghost use Rattle.barrier_c.specs.Exports.{writeOn, writtenOn, frameWords};
-ghost use Rattle.barrier_c.specs.Parts.{clauseOf};
-use base::Bounds;
+ghost use Rattle.barrier_c.specs.Pieces.{clauseOf};
 use frame::Outcome;
 use node::Answer;
 use node::BarrierAnswer;
@@ -24,16 +21,6 @@ use tree::Placed;
 
 // The words in which a call gathers the sums of the largest board.
 const SUMS: usize = 18;
-
-// The limits of this build.
-fn limits() -> Bounds
-    ensures { λ r. ⌜ limitsOf r ≡ base ⌝ }
-{
-    Bounds {
-        last: 255,
-        sends: 65535,
-    }
-}
 
 // ---- Exported: the calls on a state
 
@@ -54,7 +41,7 @@ pub extern "C" fn ocb_fresh(state: &mut [u32], nodes: u32, number: u32) -> u32
     ensures answer { λ r. ⌜ r ≡ outcomeNumber (freshOn base nodes number (now (state .entry))) ⌝ }
     ensures memory { λ r. ⌜ now (state .exit) ≡ freshWords base nodes number (now (state .entry)) ⌝ }
 {
-    number_of(node_calls::fresh(limits(), state, nodes, number))
+    number_of(node_calls::fresh(base::of_build(), state, nodes, number))
 }
 
 // One message more is sent to a node. Refuses 13, 2, 3, 4, 5.
@@ -64,7 +51,7 @@ pub extern "C" fn ocb_send(state: &mut [u32], to: u32) -> u32
     ensures memory { λ r. ⌜ now (state .exit) ≡ wordsOn base (λ n. send base n to) (now (state .entry)) ⌝ }
 {
     let mut sums = [0u32; SUMS];
-    number_of(node_calls::send_to(limits(), state, &mut sums, to))
+    number_of(node_calls::send_to(base::of_build(), state, &mut sums, to))
 }
 
 // A message from a node, with its phase byte, is taken. Refuses 13, 2, 3, 7 or 8, 6.
@@ -74,7 +61,7 @@ pub extern "C" fn ocb_take(state: &mut [u32], from: u32, phase: u8) -> u32
     ensures memory { λ r. ⌜ now (state .exit) ≡ wordsOn base (λ n. take base n from phase) (now (state .entry)) ⌝ }
 {
     let mut sums = [0u32; SUMS];
-    number_of(node_calls::take_from(limits(), state, &mut sums, from, phase))
+    number_of(node_calls::take_from(base::of_build(), state, &mut sums, from, phase))
 }
 
 // The node has run out of work. Refuses 13.
@@ -84,7 +71,7 @@ pub extern "C" fn ocb_idle(state: &mut [u32]) -> u32
     ensures memory { λ r. ⌜ now (state .exit) ≡ wordsOn base (λ n. idle base n) (now (state .entry)) ⌝ }
 {
     let mut sums = [0u32; SUMS];
-    number_of(node_calls::go_idle(limits(), state, &mut sums))
+    number_of(node_calls::go_idle(base::of_build(), state, &mut sums))
 }
 
 // A frame has come. Refuses 13, 9, 10, 2, 3, 11, 7, 8.
@@ -94,7 +81,7 @@ pub extern "C" fn ocb_frame_in(state: &mut [u32], bytes: &[u8]) -> u32
     ensures memory { λ r. ⌜ now (state .exit) ≡ wordsOn base (λ n. frameIn base n (now (bytes .entry))) (now (state .entry)) ⌝ }
 {
     let mut sums = [0u32; SUMS];
-    number_of(node_frames::frame_in(limits(), state, &mut sums, bytes))
+    number_of(node_frames::frame_in(base::of_build(), state, &mut sums, bytes))
 }
 
 // ---- Exported: the barrier call
@@ -151,7 +138,7 @@ pub extern "C" fn ocb_barrier(state: &mut [u32], buf: &mut [u8], details: &mut [
         ≡ true ⌝ }
 {
     let mut sums = [0u32; SUMS];
-    let answer = node_barrier::step(limits(), state, &mut sums, buf);
+    let answer = node_barrier::step(base::of_build(), state, &mut sums, buf);
     answer_barrier(answer, details)
 }
 
@@ -226,16 +213,6 @@ pub extern "C" fn ocb_distance(nodes: u32, a: u32, b: u32, found: &mut [u32; 1])
 
 // ---- Exported: frames, for tools and tests
 
-// The refusal where words hold no frame.
-fn no_fields(nodes: u32) -> u32
-    ensures { λ r. ⌜ r ≡ choose (badBoard base nodes) 1 10 ⌝ }
-{
-    match tree::dimension_of(nodes) {
-        Found::Is(_) => 10,
-        Found::Refused(no) => no as u32,
-    }
-}
-
 // Writes a frame. Refuses 1, 10, 2, 14.
 #[no_mangle]
 pub extern "C" fn ocb_frame_write(
@@ -250,13 +227,7 @@ pub extern "C" fn ocb_frame_write(
         ⌜ now (size .exit)
         ≡ numberWords (writeOn base nodes (now (fields .entry)) (length (now (buf .entry)))) (now (size .entry)) ⌝ }
 {
-    let held = words::unpack_frame(fields);
-    if !held.ok {
-        return no_fields(nodes);
-    }
-    let f = held.frame;
-    let answer = frame::write(nodes, f, buf);
-    answer_found(answer, size)
+    answer_found(fields::write(base::of_build(), nodes, fields, buf), size)
 }
 
 // Reads a frame. Refuses 1, 9, 10, 2.
@@ -265,14 +236,9 @@ pub extern "C" fn ocb_frame_read(nodes: u32, bytes: &[u8], fields: &mut [u32; 23
     ensures answer { λ r. ⌜ r ≡ lookupNumber (readFrame base nodes (now (bytes .entry))) ⌝ }
     ensures memory { λ r. ⌜ now (fields .exit) ≡ frameWords (readFrame base nodes (now (bytes .entry))) (now (fields .entry)) ⌝ }
 {
-    let reading = frame::read(nodes, bytes);
-    let answer = reading.answer;
-    let f = reading.frame;
+    let answer = fields_read::read(base::of_build(), nodes, bytes, fields);
     match answer {
-        Outcome::Done => {
-            words::pack_frame(fields, f);
-            0
-        }
+        Outcome::Done => 0,
         Outcome::Refused(no) => no as u32,
     }
 }

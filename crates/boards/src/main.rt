@@ -1,9 +1,6 @@
-// Prints document 01's boards to try: who talks to whom on boards of five and of six nodes, a line for each node and dimension;
-// the timing of phase bytes; and the frame writer and reader at the limit of a field.
-use frame::Frame;
+// Prints who talks to whom on boards of five and of six nodes (rule T8), a line for each node and dimension; the timing
+// of phase bytes; and the frame writer and reader at the limit of a field.
 use frame::Outcome;
-use frame::Sent;
-use frame::Taken;
 use frame::Timing;
 use libc::STDOUT_FILENO;
 use tree::Found;
@@ -90,21 +87,6 @@ fn print_timing(node: u8, other: u8) {
     }
 }
 
-// A pass 2 frame with a number as T.
-fn confirming(agreed: u32) -> Frame {
-    Frame {
-        pass: 2,
-        phase: 0,
-        dim: 0,
-        sender: 1,
-        sent: [Sent(0); 8],
-        taken: [Taken(0); 8],
-        issued: Sent(0),
-        received: Taken(0),
-        agreed: agreed,
-    }
-}
-
 fn print_found(answer: Found) {
     match answer {
         Found::Is(length) => {
@@ -130,13 +112,17 @@ fn print_outcome(answer: Outcome) {
     }
 }
 
-// A field of a frame, written on a board of two nodes.
+// A pass 2 frame with a number as T, written on a board of two nodes.
 fn print_written(agreed: u32) {
     io::write_all(STDOUT_FILENO, b"field");
     print_next(agreed);
     io::write_all(STDOUT_FILENO, b" written:");
+    let mut words = [0u32; 23];
+    words[fields::PASS] = 2;
+    words[fields::SENDER] = 1;
+    words[fields::AGREED] = agreed;
     let mut buffer = [0u8; 12];
-    print_found(frame::write(2, confirming(agreed), &mut buffer));
+    print_found(fields::write(base::of_build(), 2, &words, &mut buffer));
     io::write_all(STDOUT_FILENO, b"\n");
 }
 
@@ -146,9 +132,8 @@ fn print_read(more: u8) {
     print_next(more as u32);
     io::write_all(STDOUT_FILENO, b" read:");
     let bytes = [2, 0, 0, 1, more, 255, 255, 0, 0, 0, 0, 0];
-    let r = frame::read(2, &bytes);
-    let answer = r.answer;
-    print_outcome(answer);
+    let mut words = [0u32; 23];
+    print_outcome(fields_read::read(base::of_build(), 2, &bytes, &mut words));
     io::write_all(STDOUT_FILENO, b"\n");
 }
 

@@ -1,35 +1,20 @@
 -- Laws of the writer's and the reader's answers: each refusal in its order, and what is found when none is met.
-use mathlib.Core.Path.{_≡_, sym, ap, _∙_}
+use mathlib.Core.Path.{_≡_, refl}
 use mathlib.Core.Bool.{true, false}
 use mathlib.Core.List.{List}
-use Prim.Native.Nat.{ℕ, _+_, _≤_, _<_}
-use native.Mathlib.Nat.{zero-add, le-of-lt}
+use Prim.Native.Nat.{ℕ, _≤_, _<_}
+use native.Mathlib.Omega.{arith}
 use lib.ListN.{length, getD}
 use borrow.Author.Tests.{le-ltb, lt-ltb, le-leb, lt-leb, eq-eqb, ne-eqb}
-use Rattle.base.specs.Limits.{Limits, base}
-use Rattle.base.specs.Refusal.{refused, found}
+use Rattle.base.specs.Limits.{Limits}
+use Rattle.base.specs.Refusal.{Answered, refused, found}
 use Rattle.tree.specs.Tree.{dimension}
 use Rattle.tree.specs.Lookups.{badBoard}
-use Rattle.tree.proofs.Dimension.{smallest}
-use Rattle.tree.proofs.Lookups.{board-good}
 use Rattle.frame.specs.declared.Frame.{Frame}
-use Rattle.frame.specs.Frame.{badStep, frameLength, frameBytes, numbersOk, fieldsOf}
-use Rattle.frame.specs.Frame.{readFrame, writeFrame, written}
-use Rattle.frame.specs.Parts.{pasted}
-use Rattle.frame.proofs.RoundTripChecks.{step-known}
-use Rattle.frame.proofs.Writing.{length-frame}
-
--- a step that is not bad is one of the board, which has at most 8 shells
-pub step-fits : (P p pass k : ℕ) → badBoard base P ≡ false → p ≡ dimension P → badStep p pass k ≡ false
-    → (k ≤ p) × (p ≤ 8)
-step-fits P p pass k g e s =
-    (le-of-lt (step-known p pass k s .1), rw e (smallest P 8 (board-good base P g .1)))
+use Rattle.frame.specs.declared.Outcome.the-variants.{Done, Refused}
+use Rattle.frame.specs.Frame.{badStep, frameLength, numbersOk, fieldsOf, readFrame, writeFrame, answerOf}
 
 module _ (L : Limits) (P : ℕ) (f : Frame) (room : ℕ) where
-  pub write-board : badBoard L P ≡ true → writeFrame L P f room ≡ refused 1
-  unfolding writeFrame
-  write-board g = rw g
-
   module _ (p : ℕ) (g : badBoard L P ≡ false) (e : p ≡ dimension P) where
     pub write-step : badStep p (f .pass) (f .dim) ≡ true → writeFrame L P f room ≡ refused 10
     unfolding writeFrame
@@ -54,21 +39,6 @@ module _ (L : Limits) (P : ℕ) (f : Frame) (room : ℕ) where
               → writeFrame L P f room ≡ found (frameLength p (f .pass) (f .dim))
           unfolding writeFrame
           write-found r = rw (g, ← e, s, n, lt-leb P (f .sender) h, le-ltb room (frameLength p (f .pass) (f .dim)) r)
-
--- a refused call leaves the buffer
-pub write-no : (L : Limits) (P : ℕ) (f : Frame) (buf : List ℕ) (x : ℕ) → writeFrame L P f (length buf) ≡ refused x
-    → (refused x ≡ writeFrame L P f (length buf)) × (buf ≡ written L P f buf)
-unfolding written
-write-no L P f buf x e = (sym e, rw e)
-
--- an accepted call writes the frame's bytes and leaves the rest
-pub write-yes : (L : Limits) (P : ℕ) (f : Frame) (buf l : List ℕ) (p n : ℕ) → p ≡ dimension P
-    → n ≡ frameLength p (f .pass) (f .dim) → writeFrame L P f (length buf) ≡ found (frameLength p (f .pass) (f .dim))
-    → l ≡ pasted buf 0 (frameBytes p f) → (found n ≡ writeFrame L P f (length buf)) × (l ≡ written L P f buf)
-unfolding written pasted
-write-yes L P f buf l p n e m a r =
-    let z : 0 + length (frameBytes p f) ≡ frameLength p (f .pass) (f .dim) = zero-add _ ∙ length-frame p f in
-    (ap found m ∙ sym a, r ∙ rw (a, ← e, z))
 
 module _ (L : Limits) (P : ℕ) (bs : List ℕ) where
   pub read-board : badBoard L P ≡ true → readFrame L P bs ≡ refused 1
@@ -103,3 +73,13 @@ module _ (L : Limits) (P : ℕ) (bs : List ℕ) where
             pub read-found : getD bs 3 0 < P → readFrame L P bs ≡ found (fieldsOf p bs)
             unfolding readFrame
             read-found r = rw (g, le-ltb (length bs) 4 h, ← e, s, eq-eqb _ _ l, n, lt-leb P (getD bs 3 0) r)
+
+-- ---- what is answered beside the fields
+
+pub answer-refused : (r : Answered Frame) (x : ℕ) → answerOf r ≡ Refused x → r ≡ refused x
+answer-refused (refused y) x q = cc
+answer-refused (found f) x q = let z : _≡_ {A = ℕ} 0 1 = cc in absurd (omega arith)
+
+pub answer-done : (r : Answered Frame) → answerOf r ≡ Done → (f : Frame) × (r ≡ found f)
+answer-done (refused y) q = let z : _≡_ {A = ℕ} 0 1 = cc in absurd (omega arith)
+answer-done (found f) q = (f, refl)

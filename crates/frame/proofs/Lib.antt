@@ -2,7 +2,6 @@ pub mod Words
 pub mod Pasting
 pub mod Shells
 pub mod Writing
-pub mod Gathering
 pub mod Answers
 pub mod RoundTripRows
 pub mod RoundTripChecks

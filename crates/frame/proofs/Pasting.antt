@@ -1,16 +1,12 @@
--- Laws of a buffer that is being written: four bytes put, one paste after another, the numbers of shells one by one.
+-- Laws of a buffer that is being written: four bytes put, one paste after another.
 use mathlib.Core.Path.{_≡_, sym, ap, _∙_}
 use mathlib.Core.List.{List, [], _∷_, _++_, append-assoc, append-nil}
-use Prim.Native.Nat.{ℕ, suc, _+_, _-_, _*_, _≤_}
+use Prim.Native.Nat.{ℕ, suc, _+_, _≤_}
 use native.Mathlib.Nat.{add-zero}
 use native.Mathlib.Omega.{arith}
 use lib.ListN.{length, set, take, drop, length-append, length-drop, take-append-drop}
 use lib.Seq.{sets-eq, take-at, drop-drop, drop-append-add, length-take-le}
-use Rattle.base.specs.Choice.{list}
-use Rattle.base.proofs.Laws.{length-list, list-more}
-use Rattle.frame.specs.Numbers.{fourBytes, bytesOf}
 use Rattle.frame.specs.Parts.{pasted}
-use Rattle.frame.proofs.Words.{length-fourBytes, length-bytesOf, bytesOf-more}
 
 pub put-four : (l : List ℕ) (at a b c d : ℕ) → at + 4 ≤ length l
     → set (set (set (set l at a) (at + 1) b) (at + 2) c) (at + 3) d ≡ pasted l at (a ∷ b ∷ c ∷ d ∷ [])
@@ -42,21 +38,3 @@ paste-more l at n bs cs e h =
     rw (← lp)
     (drop-append-add p q (length cs) ∙ drop-drop (length cs) (at + length bs) l ∙ ap (λ (m : ℕ). drop m l) k) in
     rw (take-at p q (at + n) lp, d, append-assoc (take at l) bs cs)
-
--- one turn of a loop that writes the number f m of each shell m, from k on
-pub shell-more : (f : ℕ → ℕ) (k m at : ℕ) (d s t : List ℕ) → k ≤ m → at + 4 * (m - k) + 4 ≤ length d
-    → s ≡ pasted d at (bytesOf (list k (m - k) f)) → t ≡ pasted s (at + 4 * (m - k)) (fourBytes (f m))
-    → t ≡ pasted d at (bytesOf (list k (m + 1 - k) f))
-shell-more f k m at d s t h l e g =
-    let n : m + 1 - k ≡ (m - k) + 1 = omega arith in
-    let z : k + (m - k) ≡ m = omega arith in
-    let w : list k (m + 1 - k) f ≡ list k (m - k) f ++ (f m ∷ []) =
-    rw n (list-more k (m - k) f ∙ ap (λ (i : ℕ). list k (m - k) f ++ (f i ∷ [])) z) in
-    let c : length (bytesOf (list k (m - k) f)) ≡ 4 * (m - k) = simp (length-bytesOf, length-list) in
-    g ∙ rw (e, w, bytesOf-more)
-    (paste-more d at (4 * (m - k)) (bytesOf (list k (m - k) f)) (fourBytes (f m)) c (simp length-fourBytes l))
-
--- before the first turn
-pub shell-none : (f : ℕ → ℕ) (k at : ℕ) (d : List ℕ) → d ≡ pasted d at (bytesOf (list k (k - k) f))
-unfolding bytesOf
-shell-none f k at d = let n : k - k ≡ 0 = omega arith in rw n (paste-none d at)

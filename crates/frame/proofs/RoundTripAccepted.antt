@@ -10,16 +10,17 @@ use lib.Dec.{ltb, leb, eqb}
 use lib.ListN.{length, getD}
 use borrow.Author.Tests.{leb-false, ltb-false, eqb-true, lt-leb, le-ltb, eq-eqb, ne-eqb, not-false}
 use Rattle.base.specs.Limits.{Limits, fieldLimit, width, base}
-use Rattle.base.specs.Refusal.{Refusal, found, Check, when}
-use Rattle.base.proofs.Laws.{choose-yes, choose-no, cases}
+use Rattle.base.specs.Refusal.{Refusal, refused, found, Check, when}
+use Rattle.base.proofs.Laws.{choose-yes, choose-no, cases, Passes, order-passes, checks-known}
 use Rattle.tree.specs.Tree.{dimension}
 use Rattle.tree.specs.Lookups.{badBoard}
 use Rattle.tree.proofs.Dimension.{smallest}
 use Rattle.tree.proofs.Lookups.{board-good}
 use Rattle.frame.specs.Frame.{frameLength, firstFields, secondFields, fieldsOf}
 use Rattle.frame.specs.Frame.{badStep, numbersOk, readChecks, readFrame, writeFrame}
+use Rattle.frame.specs.Shapes.{Shaped}
 use Rattle.frame.specs.declared.Frame.{Frame}
-use Rattle.frame.proofs.RoundTripChecks.{Passes, checks-known, checks-good, step-known, step-good}
+use Rattle.frame.proofs.RoundTripChecks.{step-known, step-good}
 
 -- ---- acceptance
 
@@ -30,11 +31,6 @@ pub record Small (L : Limits) : Type 0 where
 
 pub small-base : Small base
 small-base = record { words = omega arith; shells = omega arith }
-
--- the array fields of the struct
-pub record Shaped (f : Frame) : Type 0 where
-  pub sent : length (f .sent) ≡ width
-  pub taken : length (f .taken) ≡ width
 
 -- a frame that the writer and the reader accept
 pub record Accepted (L : Limits) (P : ℕ) (f : Frame) : Type 0 where
@@ -112,7 +108,7 @@ module _ (L : Limits) (P : ℕ) (f : Frame) (room : ℕ) where
   unfolding writeFrame writeChecks
   write-good a h =
       let step = step-good _ _ _ (a .pass) (a .dim) in
-      checks-good (writeChecks L P f room) (size P f)
+      order-passes refused (writeChecks L P f room) (found (size P f))
       (a .board, (step, (ap not (a .numbers), (lt-leb P _ (a .sender), (le-ltb room (size P f) h, tt)))))
 
 -- ---- the reader
@@ -186,7 +182,7 @@ module _ (L : Limits) (P : ℕ) (bs : List ℕ) where
       let long : 4 ≤ length bs = omega (arith, size-low P (fieldsOf p bs)) in
       let sender = lt-leb P _ (rw (head-sender p bs) at (a .sender)) in
       let size-ok = ap not (eq-eqb (length bs) _ count) in
-      checks-good checks (fieldsOf p bs)
+      order-passes refused checks (found (fieldsOf p bs))
       (a .board, (le-ltb (length bs) 4 long, (step, (size-ok, (ap not (a .numbers), (sender, tt))))))
 
 -- ---- the length of a written frame
@@ -206,6 +202,6 @@ module _ (L : Limits) (P : ℕ) (f : Frame) (room n : ℕ) (wrote : writeFrame L
       let w = write-known L P f room n wrote in
       omega (arith, w .count, size-high P f (board-width L P small (w .accepted .board)))
 
--- "512 places of 76 bytes": no frame is longer
+-- rule F3: no frame is longer than 76 bytes
 pub longest-base : (P : ℕ) (f : Frame) (room n : ℕ) → writeFrame base P f room ≡ found n → n ≤ 76
 longest-base P f room n wrote = longest base P f room n wrote small-base

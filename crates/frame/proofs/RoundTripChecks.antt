@@ -1,37 +1,17 @@
--- Refusals in a stated order, and what the tests of a step and of the numbers say.
+-- What the tests of a step and of the numbers say.
 use mathlib.Core.Path.{_≡_, refl}
 use mathlib.Core.Logic.{_⊎_, inl, inr}
 use mathlib.Core.Bool.{Bool, true, false, not}
-use mathlib.Core.List.{List, [], _∷_}
 use Prim.Native.Nat.{ℕ, _≤_, _<_}
 use native.Mathlib.Omega.{arith}
 use lib.Dec.{ltb, leb, eqb}
 use borrow.Author.Tests.{leb-true, leb-false, ltb-true, eqb-true, le-leb, lt-leb, eq-eqb, ne-eqb}
-use Rattle.base.specs.Choice.{choose, either, every}
+use Rattle.base.specs.Choice.{either, every}
 use Rattle.base.specs.Limits.{Limits, fieldLimit, width}
-use Rattle.base.specs.Refusal.{refused, found, Check, inOrder, number}
-pub use Rattle.base.proofs.Laws.{Passes}
-use Rattle.base.proofs.Laws.{clash, both-true, both-make, every-at, every-make, order-passes}
+use Rattle.base.proofs.Laws.{clash, both-true, both-make, every-at, every-make}
 use Rattle.frame.specs.Frame.{sentAt, takenAt, hasShell, badStep, numberOk, numbersOk}
 use Rattle.frame.specs.Parts.{hasTallies, shellOk}
 use Rattle.frame.specs.declared.Frame.{Frame}
-
--- ---- refusals in order
-
--- what is found, is found because no check is met
-pub checks-known : {A : Type 0} (cs : List Check) (a b : A) → inOrder refused cs (found a) ≡ found b
-    → Passes cs × (a ≡ b)
-checks-known [] a b e = (tt, cc)
-checks-known (c ∷ cs) a b e = go (c .met) refl (checks-known cs a b) e
-  where
-    go : (t : Bool) → c .met ≡ t → (inOrder refused cs (found a) ≡ found b → Passes cs × (a ≡ b))
-        → choose t (refused (number (c .word))) (inOrder refused cs (found a)) ≡ found b
-        → ((c .met ≡ false) × Passes cs) × (a ≡ b)
-    go true m rest q = let z : _≡_ {A = ℕ} 0 1 = cc in absurd (omega arith)
-    go false m rest q = let r = rest q in ((m, r .0), r .1)
-
-pub checks-good : {A : Type 0} (cs : List Check) (a : A) → Passes cs → inOrder refused cs (found a) ≡ found a
-checks-good cs a h = order-passes refused cs (found a) h
 
 -- ---- a step: its pass and its dimension
 

@@ -3,17 +3,17 @@ use mathlib.Core.Path.{_≡_, refl, sym, ap, _∙_, subst}
 use mathlib.Core.List.{List, [], _∷_, _++_}
 use Prim.Native.Nat.{ℕ, zero, suc, _+_, _-_, _*_, _≤_, _<_}
 use native.Mathlib.Omega.{arith}
-use lib.ListN.{length, getD, length-append}
+use lib.ListN.{length, getD}
 use lib.Seq.{ext-getD}
-use borrow.Author.Tests.{eq-eqb, ne-eqb}
 use Rattle.base.specs.Choice.{list}
 use Rattle.base.specs.Limits.{width}
-use Rattle.base.proofs.Laws.{choose-yes, choose-no, length-list, list-at}
+use Rattle.base.proofs.Laws.{list-at}
 use Rattle.frame.specs.Frame.{sentNumber, takenNumber, sentAt, takenAt, numbersOf, numberAt, shellAt}
 use Rattle.frame.specs.declared.Sent.{Sent}
 use Rattle.frame.specs.declared.Taken.{Taken}
 use Rattle.frame.specs.declared.Frame.{Frame}
 use Rattle.frame.proofs.Shells.{shell-there}
+use Rattle.frame.proofs.Writing.{first-row, second-row}
 use Rattle.frame.proofs.RoundTripRows.{Gives, gives-join, gives-list, gives-rest}
 
 -- ---- arrays of tallies
@@ -85,32 +85,10 @@ module _ (p : ℕ) (f : Frame) where
   abbrev row : List ℕ
   row = list k d (sentAt (f .sent)) ++ (list k d (takenAt (f .taken)) ++ totals)
 
-  first-row : f .pass ≡ 1 → numbersOf p f ≡ row
-  unfolding numbersOf
-  first-row e = choose-yes _ _ (eq-eqb (f .pass) 1 e)
-
-  second-row : f .pass ≡ 2 → numbersOf p f ≡ f .agreed ∷ f .issued .0 ∷ []
-  unfolding numbersOf
-  second-row e = choose-no _ _ (ne-eqb (f .pass) 1 (λ q. omega arith))
-
-  pub first-row-length : f .pass ≡ 1 → length (numbersOf p f) ≡ 2 * (p - f .dim) + 2
-  first-row-length e =
-      rw (first-row e)
-      (omega (
-        arith,
-        length-append (list k d (sentAt (f .sent))) (list k d (takenAt (f .taken)) ++ totals),
-        length-append (list k d (takenAt (f .taken))) totals,
-        length-list k d (sentAt (f .sent)),
-        length-list k d (takenAt (f .taken)),
-      ))
-
-  pub second-row-length : f .pass ≡ 2 → length (numbersOf p f) ≡ 2
-  second-row-length e = rw (second-row e)
-
   module _ (g : ℕ → ℕ) where
     pub first-known : f .pass ≡ 1 → f .dim < p → Gives g (numbersOf p f) → First p f g
     first-known e low h =
-        let whole : Gives g row = subst (Gives g) (first-row e) h in
+        let whole : Gives g row = subst (Gives g) (first-row p f e) h in
         let rest = gives-rest g k d (sentAt (f .sent)) _ whole in
         let last = gives-rest (λ i. g (d + i)) k d (takenAt (f .taken)) totals rest in
         record {
@@ -125,7 +103,7 @@ module _ (p : ℕ) (f : Frame) where
 
     pub first-good : f .pass ≡ 1 → f .dim < p → First p f g → Gives g (numbersOf p f)
     first-good e low h =
-        subst (Gives g) (sym (first-row e))
+        subst (Gives g) (sym (first-row p f e))
         (gives-join g k d (sentAt (f .sent)) _
         (λ m a b. let z : 0 + (m - k) ≡ m - k = omega arith in h .sent m a (omega arith) ∙ ap g z)
         (gives-join (λ i. g (d + i)) k d (takenAt (f .taken)) totals (λ m a b. h .taken m a (omega arith)) last))
@@ -137,11 +115,11 @@ module _ (p : ℕ) (f : Frame) where
 
     pub second-known : f .pass ≡ 2 → Gives g (numbersOf p f) → Second f g
     second-known e h =
-        let whole : Gives g (f .agreed ∷ f .issued .0 ∷ []) = subst (Gives g) (second-row e) h in
+        let whole : Gives g (f .agreed ∷ f .issued .0 ∷ []) = subst (Gives g) (second-row p f (λ q. omega arith)) h in
         record { agreed = whole 0 (omega arith); issued = whole 1 (omega arith) }
 
     pub second-good : f .pass ≡ 2 → Second f g → Gives g (numbersOf p f)
-    second-good e h = subst (Gives g) (sym (second-row e)) both
+    second-good e h = subst (Gives g) (sym (second-row p f (λ q. omega arith))) both
       where
         both : Gives g (f .agreed ∷ f .issued .0 ∷ [])
         both zero l = h .agreed

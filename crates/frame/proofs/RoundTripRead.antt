@@ -16,7 +16,8 @@ use Rattle.frame.specs.Frame.{readFrame, writeFrame}
 use Rattle.frame.specs.declared.Frame.{Frame}
 use Rattle.frame.proofs.Words.{length-bytesOf}
 use Rattle.frame.proofs.Writing.{length-frame}
-use Rattle.frame.proofs.RoundTripRows.{Gives, Bytes, word-on, bytes-on, words-there}
+use Rattle.frame.specs.Shapes.{Bytes}
+use Rattle.frame.proofs.RoundTripRows.{Gives, word-on, bytes-on, words-there}
 use Rattle.frame.proofs.RoundTripAccepted.{Small, board-width, write-good, Read, read-known}
 use Rattle.frame.proofs.RoundTripAccepted.{head-pass, head-phase, head-dim, head-sender}
 use Rattle.frame.proofs.RoundTripNumbers.{sents, takens, array-reads}

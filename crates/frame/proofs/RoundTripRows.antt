@@ -9,6 +9,7 @@ use lib.Seq.{getD-append-add}
 use Rattle.base.specs.Choice.{list}
 use Rattle.base.proofs.Laws.{length-list, getD-list}
 use Rattle.frame.specs.Numbers.{fourBytes, bytesOf, wordAt}
+use Rattle.frame.specs.Shapes.{Bytes}
 use Rattle.frame.proofs.Words.{four-of-digits}
 
 -- ---- the numbers are g 0, g 1, ..
@@ -58,10 +59,6 @@ module _ (g : ℕ → ℕ) (start count : ℕ) (f : ℕ → ℕ) (rest : List �
   gives-rest h i l = sym (in-rest i) ∙ h (count + i) (omega (arith, total))
 
 -- ---- bytes
-
--- every entry is a byte
-abbrev pub Bytes : List ℕ → Type 0
-Bytes bs = (i : ℕ) → i < length bs → getD bs i 0 < 256
 
 -- four bytes, then others
 module _ (a b c d : ℕ) (l : List ℕ) where

@@ -16,12 +16,12 @@ use Rattle.frame.specs.Frame.{sentNumber, takenNumber, numbersOf, frameB
 use Rattle.frame.specs.Frame.{fieldsOf, numberOk, readFrame, writeFrame}
 use Rattle.frame.specs.declared.Frame.{Frame}
 use Rattle.frame.proofs.Words.{number-back}
-use Rattle.frame.proofs.Writing.{length-frame}
+use Rattle.frame.proofs.Writing.{first-row-length, second-row-length, length-frame}
 use Rattle.frame.proofs.RoundTripChecks.{shell-known, number-low, number-absent, tells, Numbers, numbers-known}
-use Rattle.frame.proofs.RoundTripAccepted.{Small, Shaped, Accepted, size, write-known, read-good}
+use Rattle.frame.specs.Shapes.{Shaped}
+use Rattle.frame.proofs.RoundTripAccepted.{Small, Accepted, size, write-known, read-good}
 use Rattle.frame.proofs.RoundTripNumbers.{Kind, sents, takens, Tallies, tallyAt, array, array-back}
 use Rattle.frame.proofs.RoundTripNumbers.{First, Second, first-known, second-known}
-use Rattle.frame.proofs.RoundTripNumbers.{first-row-length, second-row-length}
 
 -- frames are equal by their fields
 same-frame : {f g : Frame} → f .pass ≡ g .pass → f .phase ≡ g .phase → f .dim ≡ g .dim → f .sender ≡ g .sender
@@ -112,7 +112,7 @@ module _ (L : Limits) (small : Small L) (P : ℕ) (f : Frame) (shaped : Shaped f
   unfolding fieldsOf frameBytes
   second-back two =
       let t : Second f wrote = second-known p f wrote two (λ i l. refl) in
-      let n = second-row-length p f two in
+      let n = second-row-length p f (λ q. omega arith) in
       let low = number-low L (eqb (f .pass) 2) (f .agreed) (numbers .agreed) in
       let not-one = ne-eqb (f .pass) 1 (λ q. omega arith) in
       choose-no _ _ not-one

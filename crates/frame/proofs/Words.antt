@@ -1,10 +1,10 @@
 -- Laws of four-byte numbers: how long their bytes are, and that they are read back.
-use mathlib.Core.Path.{_≡_, refl, sym, ap, _∙_}
+use mathlib.Core.Path.{_≡_, refl}
 use mathlib.Core.List.{List, [], _∷_, _++_, append-assoc}
-use Prim.Native.Nat.{ℕ, zero, suc, _+_, _*_, _/_, _%_, _^_, _≤_, _<_}
+use Prim.Native.Nat.{ℕ, zero, suc, _+_, _*_, _/_, _%_, _^_, _<_}
 use native.Mathlib.Omega.{arith}
-use lib.ListN.{length, getD, take, drop, length-append, length-drop}
-use lib.Seq.{getD-append-add, getD-append-seam, getD-drop}
+use lib.ListN.{length, getD, length-append}
+use lib.Seq.{getD-append-add, getD-append-seam}
 use Rattle.frame.specs.Numbers.{fourBytes, bytesOf, wordAt}
 
 pub length-fourBytes : (x : ℕ) → length (fourBytes x) ≡ 4
@@ -25,10 +25,6 @@ bytesOf-append (x ∷ xs) ys = rw (bytesOf-append xs ys, append-assoc (fourBytes
 pub bytesOf-one : (x : ℕ) → bytesOf (x ∷ []) ≡ fourBytes x
 unfolding bytesOf fourBytes
 bytesOf-one x = refl
-
-pub bytesOf-two : (x y : ℕ) → bytesOf (x ∷ y ∷ []) ≡ fourBytes x ++ fourBytes y
-unfolding bytesOf fourBytes
-bytesOf-two x y = refl
 
 -- one number more at the end
 pub bytesOf-more : (xs : List ℕ) (x : ℕ) → bytesOf (xs ++ (x ∷ [])) ≡ bytesOf xs ++ fourBytes x
@@ -95,23 +91,3 @@ four-of-digits a b c d ha hb hc hd =
       low c d hc .1,
       n,
     )
-
--- the bytes at a place are those of the number read there
-pub bytes-back : (bs : List ℕ) (at : ℕ) → at + 4 ≤ length bs → ((i : ℕ) → getD bs i 0 < 256)
-    → fourBytes (wordAt bs at) ≡ take 4 (drop at bs)
-unfolding wordAt
-bytes-back bs at l h =
-    four-of-digits (getD bs at 0) (getD bs (at + 1) 0) (getD bs (at + 2) 0) (getD bs (at + 3) 0) (h at) (h (at + 1))
-    (h (at + 2)) (h (at + 3))
-    ∙ sym (parts (drop at bs) (simp length-drop (omega arith)) (getD-drop at bs))
-  where
-    parts : (l : List ℕ) → 4 ≤ length l → ((i : ℕ) (d : ℕ) → getD l i d ≡ getD bs (at + i) d)
-        → take 4 l ≡ getD bs at 0 ∷ getD bs (at + 1) 0 ∷ getD bs (at + 2) 0 ∷ getD bs (at + 3) 0 ∷ []
-    parts [] m g = absurd (omega arith)
-    parts (w ∷ []) m g = absurd (omega arith)
-    parts (w ∷ x ∷ []) m g = absurd (omega arith)
-    parts (w ∷ x ∷ y ∷ []) m g = absurd (omega arith)
-    parts (w ∷ x ∷ y ∷ z ∷ r) m g =
-        let e : at ≡ at + 0 = omega arith in
-        let f : getD bs at 0 ≡ w = ap (λ (i : ℕ). getD bs i 0) e ∙ sym (g 0 0) in
-        rw (f, ← g 1 0, ← g 2 0, ← g 3 0)

@@ -1,4 +1,4 @@
--- Frames: their length, their bytes, their fields, the writer and the reader, in the words of document 01, "Frames".
+-- Frames (rule F1 to rule F4): their length, their bytes, their fields, the writer and the reader.
 use mathlib.Core.Bool.{Bool, true, not}
 use mathlib.Core.List.{List, [], _∷_, _++_}
 use Prim.Native.Nat.{ℕ, _+_, _-_, _*_}
@@ -13,8 +13,8 @@ use Rattle.frame.specs.Numbers.{bytesOf, wordAt}
 use Rattle.frame.specs.declared.Sent.{Sent}
 use Rattle.frame.specs.declared.Taken.{Taken}
 use Rattle.frame.specs.declared.Frame.{Frame}
+use Rattle.frame.specs.declared.Outcome.{Outcome}
 use Rattle.frame.specs.declared.Outcome.the-variants.{Done, Refused}
-use Rattle.frame.specs.declared.Reading.{Reading}
 
 abbrev pub sentNumber : ℕ → Sent
 sentNumber x = record { 0 = x }
@@ -29,13 +29,13 @@ sentAt l m = getD l m (sentNumber 0) .0
 abbrev pub takenAt : List Taken → ℕ → ℕ
 takenAt l m = getD l m (takenNumber 0) .0
 
--- ---- "Pass 1: .. length 4 + 8(p − k) + 8. Pass 2: .. length 12."
+-- ---- Length and numbers, on a board of p dimensions (rule F3)
 
 unfoldable pub frameLength : ℕ → ℕ → ℕ → ℕ
 frameLength p pass k = choose (eqb pass 1) (4 + 8 * (p - k) + 8) 12
 
--- the numbers after the four head bytes
--- "Pass 1: sent for shells k to p − 1, taken for the same, total sent, total taken .. Pass 2: T, total sent"
+-- the numbers after the four head bytes: in pass 1 sent and taken for the frame's shells and both totals, in pass 2 T
+-- and total sent
 unfoldable pub numbersOf : ℕ → Frame → List ℕ
 numbersOf p f =
     choose (eqb (f .pass) 1)
@@ -43,7 +43,7 @@ numbersOf p f =
     ++ (list (f .dim) (p - f .dim) (takenAt (f .taken)) ++ (f .issued .0 ∷ f .received .0 ∷ [])))
     (f .agreed ∷ f .issued .0 ∷ [])
 
--- "Byte 0 the pass, byte 1 the phase, byte 2 the dimension k, byte 3 the sender"
+-- rule F1: four head bytes, then the numbers
 unfoldable pub frameBytes : ℕ → Frame → List ℕ
 frameBytes p f = f .pass ∷ f .phase ∷ f .dim ∷ f .sender ∷ bytesOf (numbersOf p f)
 
@@ -95,11 +95,11 @@ fieldsOf p bs = choose (eqb (getD bs 0 0) 1) (firstFields p bs) (secondFields bs
 
 -- ---- Refusals
 
--- field: "pass not 1 or 2, k not below p"
+-- field, of the step: the pass is not 1 or 2, or k is not below p
 abbrev pub badStep : ℕ → ℕ → ℕ → Bool
 badStep p pass k = either (not (either (eqb pass 1) (eqb pass 2))) (leb p k)
 
--- field: "a number above 16,776,960"; a number that the frame doesn't have is 0
+-- a number that the frame has is within the limit, and one that it doesn't have is 0 (rule F4); else field
 abbrev pub numberOk : Limits → Bool → ℕ → Bool
 numberOk L has x = choose has (leb x (fieldLimit L)) (eqb x 0)
 
@@ -113,8 +113,7 @@ numbersOk L p f =
     (both (numberOk L true (f .issued .0))
     (both (numberOk L (eqb (f .pass) 1) (f .received .0)) (numberOk L (eqb (f .pass) 2) (f .agreed))))
 
--- "Frame reader, given P: 1, then as Frame from 9 (under 4) to 2." Frame: "9 (under 4), 10 (pass, k), 9, 10
--- (numbers), 2"
+-- what reader and frame in ask of the bytes, in the order of rule R3: 9 under 4 bytes, 10 step, 9 length, 10 numbers, 2
 abbrev pub readChecks : Limits → ℕ → List ℕ → List Check
 readChecks L P bs =
     let p = dimension P in
@@ -129,7 +128,7 @@ unfoldable pub readFrame : Limits → ℕ → List ℕ → Answered Frame
 readFrame L P bs =
     inOrder refused (when (badBoard L P) Refusal.board ∷ readChecks L P bs) (found (fieldsOf (dimension P) bs))
 
--- "Frame writer, given P: 1, 10 (pass, k), 10 (numbers), 2, 14." The answer is the frame's length.
+-- the writer, in the order of rule R3, answers the frame's length
 unfoldable pub writeFrame : Limits → ℕ → Frame → ℕ → Answered ℕ
 writeFrame L P f room =
     let p = dimension P in
@@ -142,7 +141,7 @@ writeFrame L P f room =
     ∷ [])
     (found (frameLength p (f .pass) (f .dim)))
 
--- "A refused call returns its number ..; buffers stay. A written frame touches its own bytes only."
+-- refused, the buffer stays (rule R4); a written frame touches its own bytes only (rule F6)
 abbrev pub over : List ℕ → List ℕ → Answered ℕ → List ℕ
 over bytes buf (refused x) = buf
 over bytes buf (found n) = bytes ++ drop n buf
@@ -152,22 +151,7 @@ written L P f buf = over (frameBytes (dimension P) f) buf (writeFrame L P f (len
 
 -- ---- What the reader returns
 
--- what is returned beside a refusal
-abbrev pub noFrame : Frame
-noFrame =
-    record {
-      pass = 0;
-      phase = 0;
-      dim = 0;
-      sender = 0;
-      sent = list 0 width (λ m. sentNumber 0);
-      taken = list 0 width (λ m. takenNumber 0);
-      issued = sentNumber 0;
-      received = takenNumber 0;
-      agreed = 0;
-    }
-
--- what an answer stands for: the frame, or document 01's number of a refusal with no frame beside it
-abbrev pub reading : Answered Frame → Reading
-reading (refused x) = record { answer = Refused x; frame = noFrame }
-reading (found f) = record { answer = Done; frame = f }
+-- beside the fields: done, or the number of a refusal
+abbrev pub answerOf : Answered Frame → Outcome
+answerOf (refused x) = Refused x
+answerOf (found f) = Done

@@ -2,3 +2,4 @@ pub mod Numbers
 pub mod Frame
 pub mod Timing
 pub mod Parts
+pub mod Shapes

@@ -1,4 +1,4 @@
--- "four-byte numbers, low byte first"
+-- Numbers in frames: four bytes, the low byte first (rule F2).
 use mathlib.Core.List.{List, [], _∷_, _++_}
 use Prim.Native.Nat.{ℕ, _+_, _*_, _/_, _%_}
 use lib.ListN.{getD}

@@ -1,4 +1,4 @@
--- "The phase difference is frame (or message) minus node, modulo 256: 0 now, 1 early, 255 late, 2 to 254 foreign."
+-- The timing of an item, by its phase byte and the node's (rule F5).
 use Prim.Native.Nat.{ℕ, _+_, _-_, _%_}
 use lib.Dec.{eqb}
 use Rattle.base.specs.Choice.{choose}

@@ -1,4 +1,4 @@
--- "Boards to try (* proved)": the starred boards of document 01 as the rows of one table.
+-- The boards to try (rule T8), as the rows of one table.
 use mathlib.Core.Path.{_≡_}
 use mathlib.Core.List.{List, [], _∷_}
 use Prim.Native.Nat.{ℕ}
@@ -37,7 +37,7 @@ All (r ∷ rs) = Holds r × All rs
 
 abbrev pub table : List Row
 table =
-    -- "P 1, 2, 3, 5, 256: p 0, 1, 2, 3, 8. P 0 and 257: 1."
+    -- dimensions, and numbers of nodes that no board has
     dimension 1 (found 0)
     ∷ dimension 2 (found 1)
     ∷ dimension 3 (found 2)
@@ -45,19 +45,19 @@ table =
     ∷ dimension 256 (found 8)
     ∷ dimension 0 (refused (number Refusal.board))
     ∷ dimension 257 (refused (number Refusal.board))
-    -- "P 6, node 2: alone in 0; neighbour 0 and hermit 1 in 1; neighbour 5 in 2."
+    -- node 2 of 6 in each dimension
     ∷ place 6 0 2 (found alone)
     ∷ place 6 1 2 (found (messenger 0 1))
     ∷ place 6 2 2 (found (neighbour 5))
-    -- "P 5, node 2 in 2: hermit, awaits 3."
+    -- a hermit
     ∷ place 5 2 2 (found (hermit 3))
-    -- "P 6: distance of 1 and 2 is 1, of 2 and 5 is 2."
+    -- distances on a board of 6
     ∷ distance 6 1 2 (found 1)
     ∷ distance 6 2 5 (found 2)
-    -- "Pass 1 length: p 8, k 0: 76; p 3, k 2: 20."
+    -- lengths, the longest of all among them (rule F3)
     ∷ firstLength 8 0 76
     ∷ firstLength 3 2 20
-    -- "Node phase 0, frame 255: late. Node 255, frame 0: early."
+    -- phase bytes on either side of 255 (rule F5)
     ∷ phases 0 255 Late
     ∷ phases 255 0 Early
     ∷ []

@@ -1,1 +1,1 @@
-// The starred boards of document 01, proved of the definitions; there is no code here.
+// The boards to try (rule T8), proved of the definitions; there is no code here.

@@ -5,7 +5,7 @@ use Prim.Native.Nat.{ℕ, suc, _+_, _-_, _*_, _≤_, _<_}
 use native.Mathlib.Nat.{zero-add}
 use native.Mathlib.Numerals.{add-one}
 use native.Mathlib.Omega.{arith}
-use lib.ListN.{length, getD, set, take, drop}
+use lib.ListN.{length, getD, set, take, drop, length-drop}
 use lib.Seq.{take-suc, drop-cons, set-at, take-length, drop-length, length-take-le}
 use borrow.Author.Tests.{le-leb, lt-leb}
 use Rattle.base.specs.Choice.{list}
@@ -15,7 +15,7 @@ use Rattle.frame.specs.Frame.{numberAt}
 use Rattle.frame.specs.Parts.{pasted}
 use Rattle.frame.proofs.Words.{length-fourBytes, length-bytesOf, bytesOf-more}
 use Rattle.frame.proofs.Pasting.{paste-none, paste-more}
-use Rattle.wire.specs.Wire.{numbersFrom, putNumbers}
+use Rattle.wire.specs.Wire.{numbersFrom, putNumbers, part}
 
 -- ---- numbers into words
 
@@ -41,6 +41,13 @@ pub copy-yes : (bs ws l : List ℕ) (i : ℕ) → i ≡ length ws → 4 + 4 * le
     → l ≡ list 0 i (numberAt bs) ++ drop i ws → l ≡ numbersFrom bs ws
 copy-yes bs ws l i h r e =
     copy-all (numberAt bs) ws l i h e ∙ sym (choose-yes _ _ (le-leb (4 + 4 * length ws) (length bs) r))
+
+-- a part of words that got numbers
+pub part-copied : (bs ws ys : List ℕ) (at n : ℕ) → at + n ≤ length ws → 4 + 4 * n ≤ length bs
+    → ys ≡ numbersFrom bs (part ws at n) → ys ≡ list 0 n (numberAt bs)
+part-copied bs ws ys at n h r e =
+    let c : length (part ws at n) ≡ n = length-take-le n (drop at ws) (simp length-drop (omega arith)) in
+    e ∙ choose-yes _ _ (le-leb (4 + 4 * length (part ws at n)) (length bs) (rw c r)) ∙ rw c
 
 -- ---- words into bytes
 

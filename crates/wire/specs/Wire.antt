@@ -2,7 +2,7 @@
 use mathlib.Core.List.{List}
 use Prim.Native.Nat.{ℕ, _+_, _*_}
 use lib.Dec.{leb}
-use lib.ListN.{length}
+use lib.ListN.{length, take, drop}
 use Rattle.base.specs.Choice.{choose, list}
 use Rattle.frame.specs.Numbers.{bytesOf}
 use Rattle.frame.specs.Frame.{numberAt}
@@ -19,3 +19,7 @@ putAt buf at bs = choose (leb (at + length bs) (length buf)) (pasted buf at bs) 
 -- bytes with numbers from a place on
 abbrev pub putNumbers : List ℕ → ℕ → List ℕ → List ℕ
 putNumbers buf at ws = choose (leb (at + 4 * length ws) (length buf)) (pasted buf at (bytesOf ws)) buf
+
+-- so many words from a place on
+abbrev pub part : List ℕ → ℕ → ℕ → List ℕ
+part l at count = take count (drop at l)

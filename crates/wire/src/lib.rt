@@ -7,7 +7,7 @@ ghost use lib.ListN.{length};
 ghost use Rattle.base.specs.Choice.{every};
 ghost use Rattle.base.specs.Limits.{limitsOf};
 ghost use Rattle.frame.specs.Numbers.{fourBytes, wordAt};
-ghost use Rattle.frame.specs.Frame.{badStep, frameLength, numberAt, readFrame, reading};
+ghost use Rattle.frame.specs.Frame.{badStep, frameLength, numberAt, readFrame, answerOf};
 ghost use Rattle.frame.specs.Parts.{pasted};
 ghost use Rattle.wire.specs.Wire.{numbersFrom, putAt, putNumbers};
 use base::Bounds;
@@ -49,7 +49,7 @@ fn word_at(s: &[u8], at: usize) -> u32
 // ---- Whether bytes are a frame
 
 // The pass is not 1 or 2, or the dimension is not below p.
-fn step_bad(p: u32, pass: u8, k: u32) -> bool
+pub fn step_bad(p: u32, pass: u32, k: u32) -> bool
     ensures { λ r. ⌜ r ≡ badStep p pass k ⌝ }
 {
     match pass {
@@ -59,7 +59,7 @@ fn step_bad(p: u32, pass: u8, k: u32) -> bool
 }
 
 // How many numbers a frame has.
-fn count_of(p: u32, pass: u8, k: u32) -> u32
+fn count_of(p: u32, pass: u32, k: u32) -> u32
     requires { ⌜ (k ≤ p) × (p ≤ 8) ⌝ }
     ensures { λ r. ⌜ (4 + 4 * r ≡ frameLength p pass k) × (r ≤ 18) ⌝ }
 {
@@ -83,7 +83,7 @@ fn numbers_within(limit: u32, bytes: &[u8], count: u32) -> bool
 
 // Whether the bytes are a frame of the board. Refuses 1, 9, 10, 2.
 pub fn checked(b: Bounds, nodes: u32, bytes: &[u8]) -> Outcome
-    ensures { λ r. ⌜ r ≡ reading (readFrame (limitsOf b) nodes (now (bytes .entry))) .answer ⌝ }
+    ensures { λ r. ⌜ r ≡ answerOf (readFrame (limitsOf b) nodes (now (bytes .entry))) ⌝ }
 {
     let Found::Is(p) = tree::dimension_for(b, nodes) else {
         return Outcome::Refused(1);
@@ -91,7 +91,7 @@ pub fn checked(b: Bounds, nodes: u32, bytes: &[u8]) -> Outcome
     if bytes.len() < 4 {
         return Outcome::Refused(9);
     }
-    let pass = bytes[0];
+    let pass = wide(bytes[0]);
     let k = wide(bytes[2]);
     if step_bad(p, pass, k) {
         return Outcome::Refused(10);

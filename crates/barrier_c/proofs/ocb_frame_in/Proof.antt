@@ -11,7 +11,7 @@ returns c =
     let s = c .before .before .before .before in
     let l = s .before .before .before in
     let a = l .before .before .before .args in
-    called _ (l .limits .ensures) (λ L n. frameIn L n (now (a .bytes))) _ _ _ _ (s .frame-in .ensures) (c .number-of .ensures)
+    called _ (l .of-build .ensures) (λ L n. frameIn L n (now (a .bytes))) _ _ _ _ (s .frame-in .ensures) (c .number-of .ensures)
 
 pub ocb-frame-in-spec : {M : Type 1} → statement M
 ocb-frame-in-spec =

@@ -10,7 +10,7 @@ returns c =
     let s = c .before .before .before in
     let l = s .before .before in
     let e = s .fresh .ensures in
-    rw (← l .limits .ensures) (c .number-of .ensures ∙ ap outcomeNumber (e .0), e .1)
+    rw (← l .of-build .ensures) (c .number-of .ensures ∙ ap outcomeNumber (e .0), e .1)
 
 pub ocb-fresh-spec : {M : Type 1} → statement M
 ocb-fresh-spec = tie.close (tie.spec (λ c κs. search needs) (λ c κs. search needs) (λ c κs. search needs) (λ c. search needs) returns)

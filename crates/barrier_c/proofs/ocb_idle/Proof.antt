@@ -9,7 +9,7 @@ returns : tie.Need-returns
 returns c =
     let s = c .before .before .before .before in
     let l = s .before .before .before in
-    called _ (l .limits .ensures) idle _ _ _ _ (s .go-idle .ensures) (c .number-of .ensures)
+    called _ (l .of-build .ensures) idle _ _ _ _ (s .go-idle .ensures) (c .number-of .ensures)
 
 pub ocb-idle-spec : {M : Type 1} → statement M
 ocb-idle-spec =

@@ -10,7 +10,7 @@ returns c =
     let s = c .before .before .before .before in
     let l = s .before .before .before in
     let a = l .before .before .args in
-    called _ (l .limits .ensures) (λ L n. send L n (a .to)) _ _ _ _ (s .send-to .ensures) (c .number-of .ensures)
+    called _ (l .of-build .ensures) (λ L n. send L n (a .to)) _ _ _ _ (s .send-to .ensures) (c .number-of .ensures)
 
 pub ocb-send-spec : {M : Type 1} → statement M
 ocb-send-spec =

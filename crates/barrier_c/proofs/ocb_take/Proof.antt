@@ -10,7 +10,7 @@ returns c =
     let s = c .before .before .before .before in
     let l = s .before .before .before in
     let a = l .before .before .args in
-    called _ (l .limits .ensures) (λ L n. take L n (a .from) (a .phase)) _ _ _ _ (s .take-from .ensures) (c .number-of .ensures)
+    called _ (l .of-build .ensures) (λ L n. take L n (a .from) (a .phase)) _ _ _ _ (s .take-from .ensures) (c .number-of .ensures)
 
 pub ocb-take-spec : {M : Type 1} → statement M
 ocb-take-spec =

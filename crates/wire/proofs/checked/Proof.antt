@@ -11,14 +11,11 @@ use lib.ListN.{getD}
 use denote.Ref.{now}
 use Rattle.base.specs.Choice.{every}
 use Rattle.base.specs.Limits.{Limits, limitsOf}
-use Rattle.base.specs.Refusal.{Answered}
 use Rattle.base.proofs.Limits.{fits-of}
 use Rattle.tree.specs.Tree.{dimension}
 use Rattle.tree.specs.Lookups.{badBoard, foundAnswer}
 use Rattle.tree.proofs.Lookups.{dimension-refused, dimension-found}
-use Rattle.frame.specs.declared.Frame.{Frame}
-use Rattle.frame.specs.declared.Outcome.{Outcome}
-use Rattle.frame.specs.Frame.{badStep, frameLength, numberAt, numbersOk, fieldsOf, reading}
+use Rattle.frame.specs.Frame.{badStep, frameLength, numberAt, numbersOk, fieldsOf, answerOf}
 use Rattle.frame.proofs.RoundTripChecks.{step-known}
 use Rattle.frame.proofs.Answers.{read-board, read-short, read-step, read-length, read-numbers, read-stranger}
 use Rattle.frame.proofs.Answers.{read-found}
@@ -26,15 +23,12 @@ use Rattle.wire.proofs.Within.{few, within}
 use Rattle.wire.proofs.checked.Statement.{statement}
 use Rattle.wire.proofs.checked.Tie as tie
 
-abbrev said : Answered Frame → Outcome
-said r = reading r .answer
-
 returns : tie.Need-returns
 returns c =
     let d = c .before .before .dimension-for in
     let L = limitsOf (c .before .before .before .before .args .b) in
     let b = dimension-refused L _ _ (sym (d .ensures) ∙ ap foundAnswer (c .enum-told .given .1)) in
-    ap said (sym (read-board L _ _ b))
+    ap answerOf (sym (read-board L _ _ b))
 
 -- what is handed, and the dimension found
 abbrev limits : tie.After-known-told → Limits
@@ -62,62 +56,64 @@ eight k =
 returns-2 : tie.Need-returns-2
 returns-2 c =
     let k = c .before in
-    ap said (sym (read-short (limits k) _ _ _ (known k .0) (known k .1) (c .if1 .taken)))
+    ap answerOf (sym (read-short (limits k) _ _ _ (known k .0) (known k .1) (c .if1 .taken)))
 
 -- the test of pass and dimension, of the bytes
 tested : (c : tie.After-step-bad)
-    → let k = c .before .before .before .before .before in
+    → let k = c .before .before .before .before .before .before in
     c .step-bad .result ≡ badStep (dims k) (getD (bytes k) 0 0) (getD (bytes k) 2 0)
 tested c =
-    let k = c .before .before .before .before .before in
-    c .step-bad .ensures ∙ ap (λ d. badStep (dims k) (getD (bytes k) 0 0) d) (c .before .wide .ensures .0)
+    let k = c .before .before .before .before .before .before in
+    c .step-bad .ensures
+    ∙ (λ i. badStep (dims k) (c .before .before .before .wide .ensures .0 i) (c .before .wide2 .ensures .0 i))
 
 returns-3 : tie.Need-returns-3
 returns-3 c =
-    let h = c .before .before .before .before .before in
+    let h = c .before .before .before .before .before .before in
     let k = h .before in
-    ap said
+    ap answerOf
     (sym
     (read-step (limits k) _ _ _ (known k .0) (known k .1) (h .if1 .left) (sym (tested (c .before)) ∙ c .if2 .taken)))
 
 step : (c : tie.Else2)
-    → let k = c .before .before .before .before .before .before in
+    → let k = c .before .before .before .before .before .before .before in
     badStep (dims k) (getD (bytes k) 0 0) (getD (bytes k) 2 0) ≡ false
 step c = sym (tested (c .before)) ∙ c .if2 .left
 
 count-of-requires : tie.Need-count-of-requires
 count-of-requires c κs =
-    let k = c .before .before .before .before .before .before in
+    let k = c .before .before .before .before .before .before .before in
     let l = step-known (dims k) (getD (bytes k) 0 0) (getD (bytes k) 2 0) (step c) .1 in
-    let w = c .before .before .wide .ensures .0 in
+    let w = c .before .before .wide2 .ensures .0 in
     (omega arith, eight k)
 
 -- the length that the bytes state
 stated : (c : tie.After-count-of)
-    → let k = c .before .before .before .before .before .before .before in
+    → let k = c .before .before .before .before .before .before .before .before in
     4 + 4 * c .count-of .result ≡ frameLength (dims k) (getD (bytes k) 0 0) (getD (bytes k) 2 0)
 stated c =
     let w = c .before .before .before in
-    let k = w .before .before .before .before in
-    c .count-of .ensures .0 ∙ ap (λ d. frameLength (dims k) (getD (bytes k) 0 0) d) (w .wide .ensures .0)
+    let k = w .before .before .before .before .before in
+    c .count-of .ensures .0
+    ∙ (λ i. frameLength (dims k) (w .before .before .wide .ensures .0 i) (w .wide2 .ensures .0 i))
 
 returns-4 : tie.Need-returns-4
 returns-4 c =
     let q = c .before in
-    let h = q .before .before .before .before .before .before in
+    let h = q .before .before .before .before .before .before .before in
     let k = h .before in
-    ap said
+    ap answerOf
     (sym
     (read-length (limits k) _ _ _ (known k .0) (known k .1) (h .if1 .left) (step (q .before))
     (λ e. c .if3 .taken (e ∙ sym (stated q)))))
 
 -- the test of the numbers, of the bytes
 counted : (c : tie.After-numbers-within)
-    → let k = c .before .before .before .before .before .before .before .before .before .before in
+    → let k = c .before .before .before .before .before .before .before .before .before .before .before in
     c .numbers-within .result ≡ numbersOk (limits k) (dims k) (fieldsOf (dims k) (bytes k))
 counted c =
     let q = c .before .before .before in
-    let k = q .before .before .before .before .before .before .before in
+    let k = q .before .before .before .before .before .before .before .before in
     let n = q .count-of .result in
     c .numbers-within .ensures
     ∙ ap (λ x. every 0 n (λ i. leb (numberAt (bytes k) i) x)) (c .before .field-limit .ensures)
@@ -128,9 +124,9 @@ returns-5 c =
     let n = c .before in
     let e = n .before .before in
     let q = e .before in
-    let h = q .before .before .before .before .before .before in
+    let h = q .before .before .before .before .before .before .before in
     let k = h .before in
-    ap said
+    ap answerOf
     (sym
     (read-numbers (limits k) _ _ _ (known k .0) (known k .1) (h .if1 .left) (step (q .before))
     (e .if3 .left ∙ stated q) (sym (counted n) ∙ not-true _ (c .if4 .taken))))
@@ -142,13 +138,13 @@ returns-6 c =
     let n = m .before in
     let e = n .before .before in
     let q = e .before in
-    let h = q .before .before .before .before .before .before in
+    let h = q .before .before .before .before .before .before .before in
     let k = h .before in
-    ap said
+    ap answerOf
     (sym
     (read-stranger (limits k) _ _ _ (known k .0) (known k .1) (h .if1 .left) (step (q .before))
     (e .if3 .left ∙ stated q) (sym (counted n) ∙ not-false _ (m .if4 .left))
-    (rw (w .wide2 .ensures .0) at (c .if5 .taken))))
+    (rw (w .wide3 .ensures .0) at (c .if5 .taken))))
 
 returns-7 : tie.Need-returns-7
 returns-7 c =
@@ -157,18 +153,18 @@ returns-7 c =
     let n = m .before in
     let e = n .before .before in
     let q = e .before in
-    let h = q .before .before .before .before .before .before in
+    let h = q .before .before .before .before .before .before .before in
     let k = h .before in
-    ap said
+    ap answerOf
     (sym
     (read-found (limits k) _ _ _ (known k .0) (known k .1) (h .if1 .left) (step (q .before))
     (e .if3 .left ∙ stated q) (sym (counted n) ∙ not-false _ (m .if4 .left))
-    (rw (w .wide2 .ensures .0) at (c .if5 .left))))
+    (rw (w .wide3 .ensures .0) at (c .if5 .left))))
 
 pub checked-spec : {M : Type 1} → statement M
 checked-spec =
     tie.close
     (tie.spec (λ c κs. search needs) (λ c. search needs) (λ c. search needs) returns returns-2 (λ c. search needs)
-    (λ c. search needs) (λ c κs. search needs) (λ c κs. search needs) returns-3 count-of-requires (λ c. search needs)
-    (λ c. search needs) (λ c. search needs) returns-4 (λ c κs. search needs) (λ c κs. search needs) returns-5
-    (λ c. search needs) (λ c κs. search needs) returns-6 returns-7)
+    (λ c κs. search needs) (λ c. search needs) (λ c κs. search needs) (λ c κs. search needs) returns-3 count-of-requires
+    (λ c. search needs) (λ c. search needs) (λ c. search needs) returns-4 (λ c κs. search needs) (λ c κs. search needs)
+    returns-5 (λ c. search needs) (λ c κs. search needs) returns-6 returns-7)
