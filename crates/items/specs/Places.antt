@@ -1,4 +1,4 @@
--- "Items under way, at most 512, are kept as a list of headers lent by the caller, oldest first"
+-- The items under way: headers in a list that the caller lends, oldest first (rule S5).
 use mathlib.Core.Bool.{Bool}
 use mathlib.Core.List.{List}
 use Prim.Native.Nat.{ℕ, zero, suc, _+_, _-_, min}
@@ -28,8 +28,7 @@ unfoldable pub moved : List Item → ℕ → ℕ → List Item
 moved items i zero = items
 moved items i (suc count) = moved (set items i (getD items (i + 1) noItem)) (i + 1) count
 
--- "Removal closes the gap": of n items the one at a place goes, and those after it move down; the last place keeps
--- what it had
+-- rule S6: of n items the one at a place goes, and those after it move down; the last place keeps what it had
 abbrev pub removed : List Item → ℕ → ℕ → List Item
 removed items n at = moved items at (n - (at + 1))
 

@@ -1,5 +1,5 @@
--- What the crate's functions do, to a caller that keeps the slices: each contract as `Changes`, `Reads` or `Answers` of
--- `walks`. A caller's walk cites these at its calls.
+-- What the covered functions that are called do, to a caller that keeps the slices: each contract as `Changes`, `Reads`
+-- or `Answers` of `walks`. A caller's walk cites these at its calls.
 use mathlib.Core.Path.{_≡_, refl}
 use mathlib.Core.List.{List, [], _∷_}
 use Prim.Native.Nat.{ℕ, _<_, _^_}
@@ -38,23 +38,25 @@ use Rattle.script.proofs.Line as LineT
 use Rattle.script.proofs.Line.Laws as LineL
 use Rattle.script.proofs.Parsed as ParsedT
 use Rattle.script.proofs.Parsed.Laws as ParsedL
-use Rattle.turns.specs.declared.Stage.{Stage}
-use Rattle.turns.proofs.Stage as StageT
-use Rattle.turns.proofs.Stage.Laws as StageL
-use Rattle.turns.specs.declared.Acted.{Acted}
-use Rattle.turns.proofs.Acted as ActedT
-use Rattle.turns.proofs.Acted.Laws as ActedL
-use Rattle.rehearsal.proofs.Ends as EndsT
-use Rattle.rehearsal.proofs.Ends.Laws as EndsL
-use Rattle.rehearsal.proofs.Opened as OpenedT
-use Rattle.rehearsal.proofs.Opened.Laws as OpenedL
-use Rattle.rehearsal.specs.Lines.{opened, openingText, toldAt, endsOf, lineText}
-use Rattle.rehearsal.proofs.link_of as link-of
+use Rattle.stage.specs.declared.Stage.{Stage}
+use Rattle.stage.proofs.Stage as StageT
+use Rattle.stage.proofs.Stage.Laws as StageL
+use Rattle.stage.specs.declared.Acted.{Acted}
+use Rattle.stage.proofs.Acted as ActedT
+use Rattle.stage.proofs.Acted.Laws as ActedL
+use Rattle.lines.proofs.Ends as EndsT
+use Rattle.lines.proofs.Ends.Laws as EndsL
+use Rattle.opening.proofs.Opened as OpenedT
+use Rattle.opening.proofs.Opened.Laws as OpenedL
+use Rattle.opening.specs.Opens.{opened, openingText}
+use Rattle.lines.specs.Told.{toldAt, endsOf}
+use Rattle.lines.specs.Printed.{lineText}
+use Rattle.lines.proofs.link_of as link-of
 use Rattle.turns.proofs.act as act
-use Rattle.rehearsal.proofs.open_script as open-script
-use Rattle.rehearsal.proofs.put_opening as put-opening
-use Rattle.rehearsal.proofs.next_line as next-line
-use Rattle.rehearsal.proofs.put_line as put-line
+use Rattle.opening.proofs.open_script as open-script
+use Rattle.opening.proofs.put_opening as put-opening
+use Rattle.lines.proofs.next_line as next-line
+use Rattle.lines.proofs.put_line as put-line
 
 -- the contracts, as triples
 module _ {M : Type 1} (𝓤 : URA M) (H : Heap 𝓤) (A : Atoms 𝓤) (mem : Memory → SProp 𝓤) (run : Routine → Fun 𝓤) where

@@ -1,4 +1,4 @@
--- Document 01's worked script, from its bytes to the bytes that are printed, by computation.
+-- The worked script (rule S10), from its bytes to the bytes that are printed, by computation.
 use mathlib.Core.Path.{_≡_, refl}
 use mathlib.Core.List.{List, [], _∷_}
 use Prim.Native.Nat.{ℕ}
@@ -11,13 +11,17 @@ use Rattle.frame.specs.Timing.{timing}
 use Rattle.node.specs.Sums.{own, ownIssued}
 use Rattle.node.specs.Agree.{firstClauses, secondClauses, agrees}
 use Rattle.node.specs.State.{boardOk, positionOk, talliesOk, totalOk, firstOk, secondOk, passedOk, busyOk, valid}
-use Rattle.node.specs.Calls.{send, take, idle, gotten, frameIn}
+use Rattle.node.specs.Calls.{fresh, send, take, idle, gotten, frameIn}
 use Rattle.node.specs.Barrier.{frameDue, barrier}
+use Rattle.layout.specs.Places.{atFirst}
+use Rattle.layout.specs.Held.{firstIn, secondIn, unpacked, isWhole, firstList, secondList, joinedList, packed}
+use Rattle.node_calls.specs.Fresh.{freshOn, freshWords}
+use Rattle.states.specs.On.{freshState, onState, stepOn}
 use Rattle.script.specs.Script.{before, partsWithin, lineOf, lineAt}
 use Rattle.items.specs.Places.{noItem, placeFrom, moved}
-use Rattle.turns.specs.Frames.{closed, framed}
+use Rattle.stage.specs.Frames.{closed, framed}
 use Rattle.turns.specs.Events.{sendTurn, idleTurn, callTurn, deliverTurn}
-use Rattle.text.specs.Text.{digits, turnText, stopText}
+use Rattle.text.specs.Text.{digits, rowText, stopText}
 use Rattle.rehearsal.specs.Play.{playFrom, play}
 
 abbrev script : List ℕ
@@ -59,9 +63,10 @@ output =
 
 -- with four places lent
 pub worked : play script (replicate 4 noItem) (replicate 304 0) .text ≡ output
-unfolding smallestFrom dimension part runBelow runOf placeIn place awaited receivers distanceBelow distance fourBytes
-    bytesOf wordAt frameLength numbersOf frameBytes shellAt fieldsOf numbersOk timing own ownIssued firstClauses
-    secondClauses agrees boardOk positionOk talliesOk totalOk firstOk secondOk passedOk busyOk valid send take idle
-    gotten frameIn frameDue barrier before partsWithin lineOf lineAt placeFrom moved closed framed sendTurn idleTurn callTurn
-    deliverTurn digits turnText stopText playFrom play
+unfolding smallestFrom dimension part runBelow runOf placeIn place awaited receivers distanceBelow distance
+    fourBytes bytesOf wordAt frameLength numbersOf frameBytes shellAt fieldsOf numbersOk timing own ownIssued
+    firstClauses secondClauses agrees boardOk positionOk talliesOk totalOk firstOk secondOk passedOk busyOk valid
+    fresh send take idle gotten frameIn frameDue barrier atFirst firstIn secondIn unpacked isWhole firstList
+    secondList joinedList packed freshOn freshWords freshState onState stepOn before partsWithin lineOf lineAt
+    placeFrom moved closed framed sendTurn idleTurn callTurn deliverTurn digits rowText stopText playFrom play
 worked = refl

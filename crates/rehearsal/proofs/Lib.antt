@@ -1,8 +1,4 @@
 pub mod Examples
-pub mod Tags
-pub mod Starts
-pub mod Texts
-pub mod Sizes
 pub mod Values
 pub mod Does
 pub mod Played

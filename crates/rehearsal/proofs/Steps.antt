@@ -33,12 +33,12 @@ use Rattle.items.proofs.Item as ItemT
 use Rattle.script.specs.declared.Line.{Line}
 use Rattle.script.proofs.Line as LineT
 use Rattle.script.proofs.Line.Laws as LineL
-use Rattle.turns.specs.declared.Stage.{Stage}
-use Rattle.turns.proofs.Stage as StageT
-use Rattle.turns.proofs.Stage.Laws as StageL
-use Rattle.turns.specs.declared.Acted.{Acted}
-use Rattle.turns.proofs.Acted as ActedT
-use Rattle.turns.proofs.Acted.Laws as ActedL
+use Rattle.stage.specs.declared.Stage.{Stage}
+use Rattle.stage.proofs.Stage as StageT
+use Rattle.stage.proofs.Stage.Laws as StageL
+use Rattle.stage.specs.declared.Acted.{Acted}
+use Rattle.stage.proofs.Acted as ActedT
+use Rattle.stage.proofs.Acted.Laws as ActedL
 use Rattle.rehearsal.specs.Lines.{stepped, steppedBytes, steppedItems}
 use Rattle.rehearsal.proofs.step as step
 

@@ -20,18 +20,18 @@ use Rattle.script.proofs.Line.Laws as LineL
 use Rattle.script.specs.declared.Parsed.{Parsed}
 use Rattle.script.proofs.Parsed as ParsedT
 use Rattle.script.proofs.Parsed.Laws as ParsedL
-use Rattle.turns.specs.declared.Stage.{Stage}
-use Rattle.turns.proofs.Stage as StageT
-use Rattle.turns.proofs.Stage.Laws as StageL
-use Rattle.turns.specs.declared.Acted.{Acted}
-use Rattle.turns.proofs.Acted as ActedT
-use Rattle.turns.proofs.Acted.Laws as ActedL
-use Rattle.rehearsal.specs.declared.Ends.{Ends}
-use Rattle.rehearsal.proofs.Ends as EndsT
-use Rattle.rehearsal.proofs.Ends.Laws as EndsL
-use Rattle.rehearsal.specs.declared.Opened.{Opened}
-use Rattle.rehearsal.proofs.Opened as OpenedT
-use Rattle.rehearsal.proofs.Opened.Laws as OpenedL
+use Rattle.stage.specs.declared.Stage.{Stage}
+use Rattle.stage.proofs.Stage as StageT
+use Rattle.stage.proofs.Stage.Laws as StageL
+use Rattle.stage.specs.declared.Acted.{Acted}
+use Rattle.stage.proofs.Acted as ActedT
+use Rattle.stage.proofs.Acted.Laws as ActedL
+use Rattle.lines.specs.declared.Ends.{Ends}
+use Rattle.lines.proofs.Ends as EndsT
+use Rattle.lines.proofs.Ends.Laws as EndsL
+use Rattle.opening.specs.declared.Opened.{Opened}
+use Rattle.opening.proofs.Opened as OpenedT
+use Rattle.opening.proofs.Opened.Laws as OpenedL
 
 -- a value's machine values are those that its type spells
 spelled : (R : RattleType) (L : Lowered R) (d : R .Denot) (us : List Val) → Is R d us → Is R d (L .lowered d ∷ [])

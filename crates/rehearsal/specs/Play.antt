@@ -1,4 +1,4 @@
--- A script played from its first line to its end or to the line that stops it.
+-- A script played from its first line to its end or to the line that stops it (rule S4).
 use mathlib.Core.List.{List, [], _++_}
 use Prim.Native.Nat.{ℕ, zero, suc, _+_}
 use lib.Dec.{ltb, leb, eqb}
@@ -8,10 +8,11 @@ use Rattle.base.specs.Refusal.{Refusal, number}
 use Rattle.script.specs.Script.{lineAt}
 use Rattle.script.specs.declared.Line.{Line}
 use Rattle.script.specs.declared.Line.the-variants.{Nodes, Sends, Delivers, Idles, Calls, Bad}
-use Rattle.turns.specs.Events.{Turn, nodeAt, opening, sendTurn, idleTurn, callTurn, deliverTurn}
+use Rattle.stage.specs.Board.{nodeAt, opening}
+use Rattle.turns.specs.Events.{Turn, sendTurn, idleTurn, callTurn, deliverTurn}
 use Rattle.text.specs.Text.{header, turnText, stopText}
 use Rattle.items.specs.declared.Item.{Item}
-use Rattle.turns.specs.declared.Stage.{Stage}
+use Rattle.stage.specs.declared.Stage.{Stage}
 
 -- what is printed, and what the lent memory holds at the end
 pub record Played : Type 0 where
@@ -31,7 +32,7 @@ pub data Act : Type 0 where
   event : Turn → Act
   stop : Act
 
--- "Node numbers not below P give 17."
+-- a number that is no node of the board stops the play
 abbrev pub actOf : Stage → List Item → List ℕ → Line → Act
 actOf st items bytes (Nodes P) = stop
 actOf st items bytes (Sends a b) =
@@ -42,7 +43,7 @@ actOf st items bytes (Idles a) = choose (ltb a (st .size)) (event (idleTurn st i
 actOf st items bytes (Calls a) = choose (ltb a (st .size)) (event (callTurn st items bytes a)) stop
 actOf st items bytes Bad = stop
 
--- "A 1 or 17 prints stop N at line L instead and ends"
+-- a stop is printed in place of an event, and nothing follows
 abbrev pub stopped : ℕ → ℕ → List Item → List ℕ → Played
 stopped why line items bytes = ended (stopText why line) items bytes
 
@@ -60,7 +61,7 @@ playFrom script (suc most) at line st items bytes =
     ] in
     choose (leb (length script) at) (ended [] items bytes) rest
 
--- the first line: "nodes P", with board: "P is 0 or above 256 (rehearsal: above 16)"
+-- the first line says nodes P, for a board of 1 to 16
 abbrev pub playOpened : List ℕ → ℕ → List Item → List ℕ → Line → Played
 playOpened script next items bytes (Nodes P) =
     choose (either (eqb P 0) (ltb 16 P)) (stopped (number Refusal.board) 1 items bytes)
@@ -71,8 +72,7 @@ playOpened script next items bytes (Idles a) = stopped (number Refusal.script) 1
 playOpened script next items bytes (Calls a) = stopped (number Refusal.script) 1 items bytes
 playOpened script next items bytes Bad = stopped (number Refusal.script) 1 items bytes
 
--- "The program reads a script of at most 4,096 bytes .. It prints a header line, then a line per event .. (17 at line 0
--- for a script too long; the header stands first)."
+-- the header stands first, also before a stop at line 0, of a script that is too long
 unfoldable pub play : List ℕ → List Item → List ℕ → Played
 play script items bytes =
     let first = lineAt script 0 in

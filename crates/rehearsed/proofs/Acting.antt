@@ -30,10 +30,13 @@ use Rattle.runs.specs.Facts.{Facts}
 use Rattle.runs.specs.Printed.{line, printed}
 use Rattle.runs.proofs.Tools.{put-same}
 use Rattle.items.specs.declared.Item.{Item as Header}
-use Rattle.turns.specs.Frames.{placeSize, roomFor, framed}
-use Rattle.turns.specs.Events.{Turn, nodeAt, changed, workItem, frameItem, sentBy, framedTo, calledBy}
-use Rattle.turns.specs.Events.{sendTurn, idleTurn, callTurn}
-use Rattle.turns.specs.declared.Stage.{Stage}
+use Rattle.states.specs.On.{Kept, onState, stepOn}
+use Rattle.states.specs.declared.State.{State}
+use Rattle.stage.specs.Frames.{placeSize, roomFor, framed}
+use Rattle.stage.specs.Board.{stateAt, nodeAt, changed, workItem, frameItem}
+use Rattle.stage.specs.declared.Stage.{Stage}
+use Rattle.turns.specs.Events.{Turn, sentBy, framedTo, calledBy, sendTurn, idleTurn, callTurn}
+use Rattle.rehearsed.proofs.States.{Bears, send-makes, idle-makes, step-makes}
 use Rattle.rehearsed.proofs.Links.{Stand}
 use Rattle.rehearsed.proofs.Memory.{length-framed, held-framed-before, held-framed-at}
 use Rattle.rehearsed.proofs.Same.{Stands, Same, stand-put}
@@ -72,8 +75,8 @@ due-legible P n e v l =
 
 module _ {P : ℕ} {st : Stage} {items : List Header} {bytes : List ℕ} {w : Board} (few : P ≤ 16)
     (s : Same P st items bytes w) (facts : Facts base P w) (a : ℕ) (h : a < P) where
-  same : nodeAt st a ≡ w .nodes a
-  same = s .nodes a h
+  bears : Bears (stateAt st a) (w .nodes a)
+  bears = s .nodes a h
 
   -- the event is at a node of the board
   at-node : (next : Board) (x : ℕ) {t u : Turn} → t ≡ u → Follows P w next (line a x (next .nodes a)) t
@@ -86,14 +89,15 @@ module _ {P : ℕ} {st : Stage} {items : List Header} {bytes : List ℕ} {w : Bo
   one-more : st .under < roomFor (length items) bytes → st .under + 1 ≤ roomFor (length items) bytes
   one-more l = omega arith
 
-  -- ---- "s a b (a sends work to b)"
+  -- ---- s a b: a sends work to b
 
-  send-way-follows : (b : ℕ) {g : Given Outcome} → SendWay base (w .nodes a) b g
+  send-way-follows : (b : ℕ) {g : Given Outcome} → SendWay base (w .nodes a) b g → (r : Kept Outcome)
+      → Bears (r .state) (g .node)
       → Follows P w (afterSend (gave w a (g .node)) a b (g .answer))
       (line a (outcomeNumber (g .answer)) (afterSend (gave w a (g .node)) a b (g .answer) .nodes a))
-      (sentBy st items bytes a b g (g .answer))
-  send-way-follows b (SendWay.refused x r) = refused-follows few s a h x
-  send-way-follows b (SendWay.done v l o z r) =
+      (sentBy st items bytes a b r (g .answer))
+  send-way-follows b (SendWay.refused x z) r now = refused-follows few s a h x
+  send-way-follows b (SendWay.done v l o z y) r now =
       let n = oneSent (w .nodes a) (distance (w .nodes a .nodes) (w .nodes a .number) b) in
       let it = workItem a b (nodeAt st a) in
       let next = sentOut (gave w a n) a b in
@@ -108,10 +112,10 @@ module _ {P : ℕ} {st : Stage} {items : List Header} {bytes : List ℕ} {w : Bo
       (λ e.
       let lent = ltb-true _ _ e in
       let phase : work (nodeAt st a .phase) ≡ m .load =
-      ap (λ n. work (n .phase)) same ∙ ap (λ n. work (n .phase)) (sym (put-same (w .nodes) a n)) in
+      ap (λ n. work (n .phase)) (bears .node) ∙ ap (λ n. work (n .phase)) (sym (put-same (w .nodes) a n)) in
       let long = length-set items (st .under) it in
-      changes-follow few s a h n (st .under + 1) 0 (set items (st .under) it) bytes next (λ z. omega arith) refl
-      (length-append (w .items) (m ∷ []) ∙ omega (arith, s .under))
+      changes-follow few s a h (r .state) n now (st .under + 1) 0 (set items (st .under) it) bytes next (λ z. omega arith)
+      refl (length-append (w .items) (m ∷ []) ∙ omega (arith, s .under))
       (subst (λ k. st .under + 1 ≤ roomFor k bytes) (sym long) (one-more lent))
       (stand-put P items bytes bytes (w .items) it m (st .under) (s .under)
       (omega (arith, roomy _ _ bytes (one-more lent) .headed)) (λ j l. refl) refl refl phase (s .stand)))
@@ -121,41 +125,49 @@ module _ {P : ℕ} {st : Stage} {items : List Header} {bytes : List ℕ} {w : Bo
       → Follows P w (step base P w (sends a b)) (printed P w (sends a b)) (sendTurn st items bytes a b)
   unfolding step sendTurn
   send-follows b =
+      let r = onState (λ n. send base n b) (stateAt st a) in
+      let made = send-makes (stateAt st a) (w .nodes a) bears b in
       at-node (sendEvent base P w a b) (outcomeNumber (send base (w .nodes a) b .answer))
-      (ap (λ n. let g = send base n b in sentBy st items bytes a b g (g .answer)) (sym same))
-      (send-way-follows b (send-way base (w .nodes a) b))
+      (ap (sentBy st items bytes a b r) (sym (made .answer)))
+      (send-way-follows b (send-way base (w .nodes a) b) r (made .state))
 
-  -- ---- "i a (idle)"
+  -- ---- i a: idle call
 
   idle-done : idle base (w .nodes a) ≡ give (withBusy (w .nodes a) false) Outcome.done
   idle-done = idle-does base (w .nodes a) (facts .accepted a h)
 
-  idled : Given Outcome → Turn
-  idled g =
+  idled : State → Outcome → Turn
+  idled x o =
       record {
-        stage = changed st a (g .node) (st .under);
+        stage = changed st a x (st .under);
         items = items;
         bytes = bytes;
         actor = a;
-        answer = outcomeNumber (g .answer);
+        answer = outcomeNumber o;
       }
+
+  abbrev Idles : State → Given Outcome → Type 0
+  Idles x g =
+      Bears x (g .node)
+      → Follows P w (afterIdle (gave w a (g .node)) a (g .answer))
+      (line a (outcomeNumber (g .answer)) (afterIdle (gave w a (g .node)) a (g .answer) .nodes a))
+      (idled x (g .answer))
 
   pub idle-follows : Follows P w (step base P w (idles a)) (printed P w (idles a)) (idleTurn st items bytes a)
   unfolding step idleTurn idled
   idle-follows =
+      let x = onState (idle base) (stateAt st a) .state in
+      let made = idle-makes (stateAt st a) (w .nodes a) bears in
       at-node (idleEvent base P w a) (outcomeNumber (idle base (w .nodes a) .answer))
-      (ap (λ n. idled (idle base n)) (sym same))
-      (subst
-      (λ g.
-      Follows P w (afterIdle (gave w a (g .node)) a (g .answer))
-      (line a (outcomeNumber (g .answer)) (afterIdle (gave w a (g .node)) a (g .answer) .nodes a)) (idled g))
-      (sym idle-done)
-      (quiet-follows few s a h (withBusy (w .nodes a) false) 0 _ (λ z. omega arith) refl refl))
+      (ap (idled x) (sym (made .answer)))
+      (subst (Idles x) (sym idle-done)
+      (λ now. quiet-follows few s a h x (withBusy (w .nodes a) false) now 0 _ (λ z. omega arith) refl refl)
+      (made .state))
 
-  -- ---- "b a (barrier call)"
+  -- ---- b a: barrier call
 
   -- a frame is put on the link to one node or to two
-  module _ (n : Node) (fr : List ℕ) (frame-is : Legible P fr) where
+  module _ (x : State) (n : Node) (now-bears : Bears x n) (fr : List ℕ) (frame-is : Legible P fr) where
     dim : dimension P ≤ 8
     dim = smallest P 8 (omega arith)
 
@@ -180,7 +192,7 @@ module _ {P : ℕ} {st : Stage} {items : List Header} {bytes : List ℕ} {w : Bo
     to-one : (b : ℕ) → st .under < roomFor (length items) bytes
         → Follows P w (posts (b ∷ [])) (line a 20 (put (w .nodes) a n a))
         (record {
-          stage = changed st a n (st .under + 1);
+          stage = changed st a x (st .under + 1);
           items = set items (st .under) (frameItem a b (nodeAt st a));
           bytes = framed bytes (st .under) fr;
           actor = a;
@@ -190,7 +202,7 @@ module _ {P : ℕ} {st : Stage} {items : List Header} {bytes : List ℕ} {w : Bo
         let room = roomy (st .under + 1) (length items) bytes (one-more l) in
         let now = set items (st .under) (frameItem a b (nodeAt st a)) in
         let then = framed bytes (st .under) fr in
-        changes-follow few s a h n (st .under + 1) 20 now then (posts (b ∷ [])) (λ z. omega arith) refl
+        changes-follow few s a h x n now-bears (st .under + 1) 20 now then (posts (b ∷ [])) (λ z. omega arith) refl
         (length-append (w .items) (posted a fr (w .count a) (b ∷ [])) ∙ omega (arith, s .under))
         (lent-still now then (st .under + 1) (length-set items (st .under) (frameItem a b (nodeAt st a)))
         (length-framed bytes (st .under) fr (omega (arith, room .lent, frame-is .fits))) (one-more l))
@@ -200,7 +212,7 @@ module _ {P : ℕ} {st : Stage} {items : List Header} {bytes : List ℕ} {w : Bo
     to-two : (b c : ℕ) → st .under + 1 < roomFor (length items) bytes
         → Follows P w (posts (b ∷ c ∷ [])) (line a 20 (put (w .nodes) a n a))
         (record {
-          stage = changed st a n (st .under + 2);
+          stage = changed st a x (st .under + 2);
           items =
               set (set items (st .under) (frameItem a b (nodeAt st a))) (st .under + 1) (frameItem a c (nodeAt st a));
           bytes = framed (framed bytes (st .under) fr) (st .under + 1) fr;
@@ -225,7 +237,7 @@ module _ {P : ℕ} {st : Stage} {items : List Header} {bytes : List ℕ} {w : Bo
         one in
         let later = set now (u + 1) (frameItem a c (nodeAt st a)) in
         let last = framed then (u + 1) fr in
-        changes-follow few s a h n (u + 2) 20 later last (posts (b ∷ c ∷ [])) (λ z. omega arith) refl
+        changes-follow few s a h x n now-bears (u + 2) 20 later last (posts (b ∷ c ∷ [])) (λ z. omega arith) refl
         (length-append (w .items) (posted a fr (w .count a) (b ∷ c ∷ [])) ∙ omega (arith, s .under))
         (lent-still later last (u + 2) (length-set now (u + 1) (frameItem a c (nodeAt st a)) ∙ headers)
         (length-framed then (u + 1) fr (omega (arith, room .lent, wide, frame-is .fits)) ∙ wide) (omega arith))
@@ -233,7 +245,7 @@ module _ {P : ℕ} {st : Stage} {items : List Header} {bytes : List ℕ} {w : Bo
         (append-assoc (w .items) (posted a fr (w .count a) (b ∷ [])) (posted a fr (w .count a) (c ∷ []))) two)
 
     framed-follows : (to : List ℕ) → 1 ≤ length to → length to ≤ 2
-        → Follows P w (posts to) (line a 20 (put (w .nodes) a n a)) (framedTo st items bytes a n fr to)
+        → Follows P w (posts to) (line a 20 (put (w .nodes) a n a)) (framedTo st items bytes a x fr to)
     framed-follows [] l m = absurd (omega arith)
     framed-follows (b ∷ []) l m =
         cases (Follows P w (posts (b ∷ [])) (line a 20 (put (w .nodes) a n a)))
@@ -249,34 +261,42 @@ module _ {P : ℕ} {st : Stage} {items : List Header} {bytes : List ℕ} {w : Bo
   abbrev frameOf : Node → List ℕ
   frameOf n = frameBytes (dims n) (frameDue n)
 
-  call-way-follows : {g : Given Barrier} → CallWay base (w .nodes a) placeSize g
+  call-way-follows : {g : Given Barrier} → CallWay base (w .nodes a) placeSize g → (r : Kept Barrier)
+      → Bears (r .state) (g .node)
       → Follows P w (afterCall (gave w a (g .node)) a (w .nodes a) (g .answer))
       (line a (barrierNumber (g .answer)) (afterCall (gave w a (g .node)) a (w .nodes a) (g .answer) .nodes a))
-      (calledBy st items bytes a g (g .answer))
-  call-way-follows (CallWay.refused x r) = refused-follows few s a h x
-  call-way-follows (CallWay.sends first rest v b t r l) =
+      (calledBy st items bytes a r (g .answer))
+  call-way-follows (CallWay.refused x z) r now = refused-follows few s a h x
+  call-way-follows (CallWay.sends first rest v b t to l) r now =
       let n = w .nodes a in
-      let some = ap length r in
+      let some = ap length to in
       subst
       (λ fr.
-      Follows P w (posts (at n (n .pass) (n .dim) false (n .agreed)) (frameOf n)
+      Follows P w (posts (r .state) (at n (n .pass) (n .dim) false (n .agreed)) now (frameOf n)
       (due-legible P n (facts .own a h .0) v l) (receiversDue n))
       (line a 20 (put (w .nodes) a (at n (n .pass) (n .dim) false (n .agreed)) a))
-      (framedTo st items bytes a (at n (n .pass) (n .dim) false (n .agreed)) fr (receiversDue n)))
-      (ap frameOf (sym same))
-      (framed-follows (at n (n .pass) (n .dim) false (n .agreed)) (frameOf n)
+      (framedTo st items bytes a (r .state) fr (receiversDue n)))
+      (ap frameOf (sym (bears .node)))
+      (framed-follows (r .state) (at n (n .pass) (n .dim) false (n .agreed)) now (frameOf n)
       (due-legible P n (facts .own a h .0) v l) (receiversDue n) (omega arith)
       (few-receivers (n .nodes) (n .dim) (n .number)))
-  call-way-follows (CallWay.waits v b d z r) = quiet-follows few s a h _ 21 _ (λ z. omega arith) refl refl
-  call-way-follows (CallWay.next v b d r l) = quiet-follows few s a h _ 22 _ (λ z. omega arith) refl refl
-  call-way-follows (CallWay.second v b d z r l p) = quiet-follows few s a h _ 22 _ (λ z. omega arith) refl refl
-  call-way-follows (CallWay.leaves v b d z r l p) = quiet-follows few s a h _ 23 _ (λ z. omega arith) refl refl
-  call-way-follows (CallWay.single v b d) = quiet-follows few s a h _ 23 _ (λ z. omega arith) refl refl
+  call-way-follows (CallWay.waits v b d z y) r now =
+      quiet-follows few s a h (r .state) _ now 21 _ (λ z. omega arith) refl refl
+  call-way-follows (CallWay.next v b d y l) r now =
+      quiet-follows few s a h (r .state) _ now 22 _ (λ z. omega arith) refl refl
+  call-way-follows (CallWay.second v b d z y l p) r now =
+      quiet-follows few s a h (r .state) _ now 22 _ (λ z. omega arith) refl refl
+  call-way-follows (CallWay.leaves v b d z y l p) r now =
+      quiet-follows few s a h (r .state) _ now 23 _ (λ z. omega arith) refl refl
+  call-way-follows (CallWay.single v b d) r now =
+      quiet-follows few s a h (r .state) _ now 23 _ (λ z. omega arith) refl refl
 
   pub call-follows : Follows P w (step base P w (calls a placeSize)) (printed P w (calls a placeSize))
       (callTurn st items bytes a)
   unfolding step callTurn
   call-follows =
+      let r = stepOn (stateAt st a) placeSize in
+      let made = step-makes (stateAt st a) (w .nodes a) bears placeSize in
       at-node (callEvent base P w a placeSize) (barrierNumber (barrier base (w .nodes a) placeSize .answer))
-      (ap (λ n. let g = barrier base n placeSize in calledBy st items bytes a g (g .answer)) (sym same))
-      (call-way-follows (call-way base (w .nodes a) placeSize))
+      (ap (calledBy st items bytes a r) (sym (made .answer)))
+      (call-way-follows (call-way base (w .nodes a) placeSize) r (made .state))

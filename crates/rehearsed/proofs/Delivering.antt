@@ -12,7 +12,7 @@ use Rattle.base.specs.Choice.{choose}
 use Rattle.base.specs.Limits.{base}
 use Rattle.base.proofs.Laws.{choose-yes, choose-no, cases}
 use Rattle.tree.proofs.Dimension.{smallest}
-use Rattle.node.specs.Answers.{Given, give, Outcome, outcomeNumber}
+use Rattle.node.specs.Answers.{Given, Outcome, outcomeNumber}
 use Rattle.node.specs.Calls.{take, frameIn}
 use Rattle.node.specs.declared.Node.{Node}
 use Rattle.node.proofs.Ways.{TakeWay, take-way, FrameWay, frame-way}
@@ -23,11 +23,13 @@ use Rattle.runs.specs.Facts.{Facts}
 use Rattle.runs.specs.Printed.{line, loadAnswer, deliveryAnswer, printed}
 use Rattle.items.specs.Places.{noItem, placeFrom, oldestAt, removed}
 use Rattle.items.specs.declared.Item.{Item as Header}
-use Rattle.turns.specs.Frames.{closed}
-use Rattle.turns.specs.Events.{Turn, nodeAt, unchanged, frameAt, called, deliveredAt, deliverTurn}
-use Rattle.turns.specs.Pieces.{frameHeld}
-use Rattle.turns.specs.declared.Stage.{Stage}
+use Rattle.states.specs.On.{Kept, onState}
+use Rattle.stage.specs.Frames.{closed, frameHeld}
+use Rattle.stage.specs.Board.{stateAt}
+use Rattle.stage.specs.declared.Stage.{Stage}
+use Rattle.turns.specs.Events.{Turn, unchanged, called, deliveredAt, deliverTurn}
 use Rattle.turns.proofs.Turning.{length-moved}
+use Rattle.rehearsed.proofs.States.{Bears, Makes, take-makes, frame-makes}
 use Rattle.rehearsed.proofs.Links.{placeIn, Stand, length-less, Found, found, place-found}
 use Rattle.rehearsed.proofs.Memory.{length-closed}
 use Rattle.rehearsed.proofs.Same.{Stands, Same, stand-off}
@@ -35,8 +37,8 @@ use Rattle.rehearsed.proofs.Follows.{Follows, Roomy, roomy, refused-fol
 
 module _ {P : ℕ} {st : Stage} {items : List Header} {bytes : List ℕ} {w : Board} (few : P ≤ 16)
     (s : Same P st items bytes w) (facts : Facts base P w) (a b : ℕ) (h : b < P) where
-  same : nodeAt st b ≡ w .nodes b
-  same = s .nodes b h
+  bears : Bears (stateAt st b) (w .nodes b)
+  bears = s .nodes b h
 
   abbrev k : ℕ
   k = placeIn a b (w .items)
@@ -47,12 +49,12 @@ module _ {P : ℕ} {st : Stage} {items : List Header} {bytes : List ℕ} {w : Bo
   -- the item found at the place k
   module _ (m : Item) (first : oldest a b (w .items) ≡ some m) (there : k < st .under) where
     -- it goes
-    off-follows : (n : Node) (o : Outcome) (x : ℕ) (next : Board) → x ≢ 7 → x ≢ 15
+    off-follows : (r : Kept Outcome) (n : Node) → Bears (r .state) n → (x : ℕ) (next : Board) → x ≢ 7 → x ≢ 15
         → next .nodes ≡ put (w .nodes) b n → next .items ≡ without a b (w .items)
-        → Shows next x (deliveredAt st items bytes b k (give n o) x)
-    off-follows n o x next early full e i =
+        → Shows next x (deliveredAt st items bytes b k r x)
+    off-follows r n now-bears x next early full e i =
         subst (Shows next x) (sym (choose-no _ _ (ne-eqb x 7 early)))
-        (changes-follow few s b h n (st .under - 1) x now then next full e
+        (changes-follow few s b h (r .state) n now-bears (st .under - 1) x now then next full e
         (ap length i ∙ omega (arith, length-less a b (w .items) (omega (arith, s .under)), s .under))
         (omega (arith, s .lent, headers, wide))
         (subst (Stand (Stands P now then) 0) (sym i)
@@ -75,35 +77,34 @@ module _ {P : ℕ} {st : Stage} {items : List Header} {bytes : List ℕ} {w : Bo
         wide = length-closed bytes (st .under) k there (room .lent)
 
     -- it is early, and stays
-    early-follows : (x : ℕ) → x ≡ 7 → Shows (offUnlessEarly (gave w b (w .nodes b)) a b x) x
-        (deliveredAt st items bytes b k (give (w .nodes b) (Outcome.refused x)) x)
-    early-follows x e =
-        subst (λ x. Shows (offUnlessEarly (gave w b (w .nodes b)) a b x) x
-        (deliveredAt st items bytes b k (give (w .nodes b) (Outcome.refused x)) x)) (sym e)
-        (refused-follows few s b h 7)
+    early-follows : (r : Kept Outcome) (x : ℕ) → x ≡ 7
+        → Shows (offUnlessEarly (gave w b (w .nodes b)) a b x) x (deliveredAt st items bytes b k r x)
+    early-follows r x e =
+        subst (λ x. Shows (offUnlessEarly (gave w b (w .nodes b)) a b x) x (deliveredAt st items bytes b k r x))
+        (sym e) (refused-follows few s b h 7)
 
     take-follows : (byte : ℕ) → m .load ≡ work byte → {g : Given Outcome} → TakeWay base (w .nodes b) a byte g
-        → take base (w .nodes b) a byte ≡ g
+        → take base (w .nodes b) a byte ≡ g → (r : Kept Outcome) → Bears (r .state) (g .node)
         → let next = afterTake (gave w b (g .node)) a b m (g .answer) in
-        Shows next (outcomeNumber (g .answer)) (deliveredAt st items bytes b k g (outcomeNumber (g .answer)))
-    take-follows byte l (TakeWay.refused x r) e =
-        early-follows x (facts .takeEarly a b m byte x first l (ap (λ g. g .answer) e))
-    take-follows byte l (TakeWay.done v q o d r) e =
-        off-follows _ Outcome.done 0 _ (λ z. omega arith) (λ z. omega arith) refl refl
+        Shows next (outcomeNumber (g .answer)) (deliveredAt st items bytes b k r (outcomeNumber (g .answer)))
+    take-follows byte l (TakeWay.refused x z) e r now =
+        early-follows r x (facts .takeEarly a b m byte x first l (ap (λ g. g .answer) e))
+    take-follows byte l (TakeWay.done v q o d z) e r now =
+        off-follows r _ now 0 _ (λ z. omega arith) (λ z. omega arith) refl refl
 
     frame-follows : (bs : List ℕ) → m .load ≡ frame bs → {g : Given Outcome} → FrameWay base (w .nodes b) bs g
-        → frameIn base (w .nodes b) bs ≡ g
+        → frameIn base (w .nodes b) bs ≡ g → (r : Kept Outcome) → Bears (r .state) (g .node)
         → let next = afterFrame (gave w b (g .node)) a b (g .answer) in
-        Shows next (outcomeNumber (g .answer)) (deliveredAt st items bytes b k g (outcomeNumber (g .answer)))
-    frame-follows bs l (FrameWay.refused x r) e =
-        early-follows x (facts .frameEarly a b m bs x first l (ap (λ g. g .answer) e))
-    frame-follows bs l (FrameWay.early c d) e = early-follows 7 refl
-    frame-follows bs l (FrameWay.foreign c d u v) e =
-        early-follows 8 (facts .frameEarly a b m bs 8 first l (ap (λ g. g .answer) e))
-    frame-follows bs l (FrameWay.late c d) e =
-        off-follows _ Outcome.dropped 24 _ (λ z. omega arith) (λ z. omega arith) refl refl
-    frame-follows bs l (FrameWay.done c d) e =
-        off-follows _ Outcome.done 0 _ (λ z. omega arith) (λ z. omega arith) refl refl
+        Shows next (outcomeNumber (g .answer)) (deliveredAt st items bytes b k r (outcomeNumber (g .answer)))
+    frame-follows bs l (FrameWay.refused x z) e r now =
+        early-follows r x (facts .frameEarly a b m bs x first l (ap (λ g. g .answer) e))
+    frame-follows bs l (FrameWay.early c d) e r now = early-follows r 7 refl
+    frame-follows bs l (FrameWay.foreign c d u v) e r now =
+        early-follows r 8 (facts .frameEarly a b m bs 8 first l (ap (λ g. g .answer) e))
+    frame-follows bs l (FrameWay.late c d) e r now =
+        off-follows r _ now 24 _ (λ z. omega arith) (λ z. omega arith) refl refl
+    frame-follows bs l (FrameWay.done c d) e r now =
+        off-follows r _ now 0 _ (λ z. omega arith) (λ z. omega arith) refl refl
 
     -- with the call that its kind stands for
     abbrev head : Header
@@ -118,40 +119,38 @@ module _ {P : ℕ} {st : Stage} {items : List Header} {bytes : List ℕ} {w : Bo
         (λ r.
         Shows (delivered base P w a b m (m .load)) (loadAnswer w a b (m .load))
         (deliveredAt st items bytes b k r (outcomeNumber (r .answer))))
-        (eqb (head .kind) 0) _ _ (λ t. by-load (work (head .phase)) (sym (i .load) ∙ choose-yes _ _ t) taken)
-        (λ t. by-load (frame (frameHeld P bytes k)) (sym (i .load) ∙ choose-no _ _ t) got)
+        (eqb (head .kind) 0) _ _
+        (λ t.
+        let l = sym (i .load) ∙ choose-yes _ _ t in
+        by-load (work (head .phase)) l (take-makes (stateAt st b) (w .nodes b) bears a (head .phase))
+        (take-follows (head .phase) l (take-way base (w .nodes b) a (head .phase)) refl))
+        (λ t.
+        let l = sym (i .load) ∙ choose-no _ _ t in
+        by-load (frame bs) l got (frame-follows bs l (frame-way base (w .nodes b) bs) refl))
       where
-        by-load : (l : Load) → m .load ≡ l → {t : Turn}
-            → (m .load ≡ l → Shows (delivered base P w a b m l) (loadAnswer w a b l) t)
-            → Shows (delivered base P w a b m (m .load)) (loadAnswer w a b (m .load)) t
-        by-load l e {t} f =
-            subst (λ l. Shows (delivered base P w a b m l) (loadAnswer w a b l) t) (sym e) (f e)
+        bs : List ℕ
+        bs = frameHeld P bytes k
 
-        taken : m .load ≡ work (head .phase)
-            → let r = take base (nodeAt st b) a (head .phase) in
-            Shows (delivered base P w a b m (work (head .phase))) (loadAnswer w a b (work (head .phase)))
+        by-load : (l : Load) → m .load ≡ l → {r : Kept Outcome} {g : Given Outcome} → Makes r g
+            → ((r : Kept Outcome) → Bears (r .state) (g .node)
+            → Shows (delivered base P w a b m l) (loadAnswer w a b l)
+            (deliveredAt st items bytes b k r (outcomeNumber (g .answer))))
+            → Shows (delivered base P w a b m (m .load)) (loadAnswer w a b (m .load))
             (deliveredAt st items bytes b k r (outcomeNumber (r .answer)))
-        taken l =
-            subst
-            (λ n.
-            let r = take base n a (head .phase) in
-            Shows (delivered base P w a b m (work (head .phase))) (loadAnswer w a b (work (head .phase)))
-            (deliveredAt st items bytes b k r (outcomeNumber (r .answer))))
-            (sym same) (take-follows (head .phase) l (take-way base (w .nodes b) a (head .phase)) refl)
+        by-load l e {r} made f =
+            let Then : Load → Outcome → Type 0 =
+            λ l o. Shows (delivered base P w a b m l) (loadAnswer w a b l)
+            (deliveredAt st items bytes b k r (outcomeNumber o)) in
+            subst (λ l. Then l (r .answer)) (sym e) (subst (Then l) (sym (made .answer)) (f r (made .state)))
 
-        got : m .load ≡ frame (frameHeld P bytes k)
-            → let r = frameIn base (nodeAt st b) (frameAt st bytes k) in
-            Shows (delivered base P w a b m (frame (frameHeld P bytes k)))
-            (loadAnswer w a b (frame (frameHeld P bytes k)))
-            (deliveredAt st items bytes b k r (outcomeNumber (r .answer)))
-        got l =
-            let bs = frameHeld P bytes k in
+        got : Makes (onState (λ n. frameIn base n (frameHeld (st .size) bytes k)) (stateAt st b))
+            (frameIn base (w .nodes b) bs)
+        got =
+            let held = frameHeld (st .size) bytes k in
             subst
-            (λ r.
-            Shows (delivered base P w a b m (frame bs)) (loadAnswer w a b (frame bs))
-            (deliveredAt st items bytes b k r (outcomeNumber (r .answer))))
-            (λ i. frameIn base (sym same i) (frameHeld (sym (s .size) i) bytes k))
-            (frame-follows bs l (frame-way base (w .nodes b) bs) refl)
+            (λ p. Makes (onState (λ n. frameIn base n held) (stateAt st b))
+            (frameIn base (w .nodes b) (frameHeld p bytes k)))
+            (s .size) (frame-makes (stateAt st b) (w .nodes b) bears held)
 
   turnAt : ℕ → Turn
   turnAt at =
@@ -170,7 +169,7 @@ module _ {P : ℕ} {st : Stage} {items : List Header} {bytes : List ℕ} {w : Bo
   unfolding turnAt
   found-follows e (Found.nothing z) =
       subst (Shows w 16) (sym (choose-yes _ _ (eq-eqb k (st .under) (z ∙ s .under))))
-      (Follows.on (λ z. omega arith) s (ap (line b 16) same))
+      (Follows.on (λ z. omega arith) s (ap (line b 16) (bears .node)))
   found-follows e (Found.there m l i) =
       let there : k < st .under = omega (arith, s .under) in
       let z : 0 + k ≡ k = omega arith in

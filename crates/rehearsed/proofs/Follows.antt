@@ -1,6 +1,6 @@
 -- A turn of a rehearsal follows an event of a board: it is answered 15 and changes nothing, or both change alike and
 -- the line printed is the event's.
-use mathlib.Core.Path.{_≡_, refl, sym, ap, _∙_, subst}
+use mathlib.Core.Path.{_≡_, sym, ap, _∙_, subst}
 use mathlib.Core.Logic.{_≢_}
 use mathlib.Core.List.{List}
 use Prim.Native.Nat.{ℕ, _*_, _≤_, _<_}
@@ -11,9 +11,12 @@ use Rattle.node.specs.declared.Node.{Node}
 use Rattle.runs.specs.Board.{put, Board, gave}
 use Rattle.runs.specs.Printed.{line}
 use Rattle.items.specs.declared.Item.{Item as Header}
-use Rattle.turns.specs.Frames.{placeSize, roomFor}
-use Rattle.turns.specs.Events.{Turn, nodeAt, changed, unchanged}
-use Rattle.turns.specs.declared.Stage.{Stage}
+use Rattle.states.specs.declared.State.{State}
+use Rattle.stage.specs.Frames.{placeSize, roomFor}
+use Rattle.stage.specs.Board.{stateAt, nodeAt, changed}
+use Rattle.stage.specs.declared.Stage.{Stage}
+use Rattle.turns.specs.Events.{Turn, unchanged}
+use Rattle.rehearsed.proofs.States.{Bears}
 use Rattle.rehearsed.proofs.Links.{Stand}
 use Rattle.rehearsed.proofs.Same.{Stands, Same, nodes-changed, nodes-kept}
 
@@ -43,8 +46,8 @@ module _ {P : ℕ} {st : Stage} {items : List Header} {bytes : List ℕ} {w : Bo
       (unchanged st items bytes a x)
   refused-follows x = go (ℕ-discrete x 15)
     where
-      kept : (b : ℕ) → b < P → nodeAt st b ≡ put (w .nodes) a (w .nodes a) b
-      kept = nodes-kept P few st (w .nodes) (s .array) (s .nodes) a h (w .nodes a) refl
+      kept : (b : ℕ) → b < P → Bears (stateAt st b) (put (w .nodes) a (w .nodes a) b)
+      kept = nodes-kept P few st (w .nodes) (s .array) (s .nodes) a h
 
       go : Dec (x ≡ 15)
           → Follows P w (gave w a (w .nodes a)) (line a x (put (w .nodes) a (w .nodes a) a))
@@ -60,34 +63,35 @@ module _ {P : ℕ} {st : Stage} {items : List Header} {bytes : List ℕ} {w : Bo
             lent = s .lent;
             stand = s .stand;
           })
-          (ap (line a x) (kept a h))
+          (ap (line a x) (kept a h .node))
 
   -- a node gives back a state, and the items change as the board's do
-  pub changes-follow : (n : Node) (under x : ℕ) (now : List Header) (then : List ℕ) (next : Board) → x ≢ 15
-      → next .nodes ≡ put (w .nodes) a n → length (next .items) ≡ under → under ≤ roomFor (length now) then
-      → Stand (Stands P now then) 0 (next .items)
+  pub changes-follow : (y : State) (n : Node) → Bears y n → (under x : ℕ) (now : List Header) (then : List ℕ)
+      (next : Board) → x ≢ 15 → next .nodes ≡ put (w .nodes) a n → length (next .items) ≡ under
+      → under ≤ roomFor (length now) then → Stand (Stands P now then) 0 (next .items)
       → Follows P w next (line a x (next .nodes a))
-      (record { stage = changed st a n under; items = now; bytes = then; actor = a; answer = x })
-  changes-follow n under x now then next z e len lent stand =
+      (record { stage = changed st a y under; items = now; bytes = then; actor = a; answer = x })
+  changes-follow y n holds under x now then next z e len lent stand =
       Follows.on z
       (record {
         size = s .size;
-        array = length-set (st .nodes) a n ∙ s .array;
+        array = length-set (st .states) a y ∙ s .array;
         nodes = after;
         under = len;
         lent = lent;
         stand = stand;
       })
-      (ap (line a x) (after a h))
+      (ap (line a x) (after a h .node))
     where
-      after : (b : ℕ) → b < P → nodeAt (changed st a n under) b ≡ next .nodes b
+      after : (b : ℕ) → b < P → Bears (stateAt (changed st a y under) b) (next .nodes b)
       after b l =
-          nodes-changed P few st (w .nodes) (s .array) (s .nodes) a h n under b l ∙ ap (λ f. f b) (sym e)
+          subst (λ f. Bears (stateAt (changed st a y under) b) (f b)) (sym e)
+          (nodes-changed P few st (w .nodes) (s .array) (s .nodes) a h y n holds under b l)
 
   -- and the items stay
-  pub quiet-follows : (n : Node) (x : ℕ) (next : Board) → x ≢ 15 → next .nodes ≡ put (w .nodes) a n
-      → next .items ≡ w .items
-      → Follows P w next (line a x (next .nodes a)) (unchanged (changed st a n (st .under)) items bytes a x)
-  quiet-follows n x next z e i =
-      changes-follow n (st .under) x items bytes next z e (ap length i ∙ s .under) (s .lent)
+  pub quiet-follows : (y : State) (n : Node) → Bears y n → (x : ℕ) (next : Board) → x ≢ 15
+      → next .nodes ≡ put (w .nodes) a n → next .items ≡ w .items
+      → Follows P w next (line a x (next .nodes a)) (unchanged (changed st a y (st .under)) items bytes a x)
+  quiet-follows y n holds x next z e i =
+      changes-follow y n holds (st .under) x items bytes next z e (ap length i ∙ s .under) (s .lent)
       (subst (Stand (Stands P items bytes) 0) (sym i) (s .stand))

@@ -1,3 +1,4 @@
+pub mod States
 pub mod Links
 pub mod Memory
 pub mod Same
@@ -5,3 +6,4 @@ pub mod Follows
 pub mod Acting
 pub mod Delivering
 pub mod Whole
+pub mod Fits

@@ -1,5 +1,5 @@
--- The rehearsal's board and lent memory hold what a board of document 01 does, and what each change of the one has to
--- be in the other.
+-- The rehearsal's board and lent memory hold what the board of a run does, and what each change of the one has to be in
+-- the other.
 use mathlib.Core.Path.{_≡_, sym, ap, _∙_, subst}
 use mathlib.Core.List.{List, [], _∷_, _++_}
 use Prim.Native.Nat.{ℕ, suc, _+_, _*_, _≤_, _<_}
@@ -9,16 +9,17 @@ use lib.ListN.{length, getD, set}
 use lib.Seq.{getD-set-same, getD-set-other}
 use Rattle.base.specs.Choice.{choose}
 use Rattle.tree.specs.Tree.{dimension}
-use Rattle.node.specs.Change.{noNode}
 use Rattle.node.specs.declared.Node.{Node}
 use Rattle.runs.specs.Board.{put, Load, work, frame, Item, Board, without}
 use Rattle.runs.proofs.Tools.{put-all}
 use Rattle.items.specs.Places.{noItem, removed}
 use Rattle.items.specs.declared.Item.{Item as Header}
-use Rattle.turns.specs.Frames.{placeSize, roomFor, closed}
-use Rattle.turns.specs.Events.{nodeAt, changed}
-use Rattle.turns.specs.Pieces.{frameHeld}
-use Rattle.turns.specs.declared.Stage.{Stage}
+use Rattle.states.specs.On.{noState}
+use Rattle.states.specs.declared.State.{State}
+use Rattle.stage.specs.Frames.{placeSize, roomFor, closed, frameHeld}
+use Rattle.stage.specs.Board.{stateAt, changed}
+use Rattle.stage.specs.declared.Stage.{Stage}
+use Rattle.rehearsed.proofs.States.{Bears}
 use Rattle.rehearsed.proofs.Links.{placeIn, Stand, stand-more, stand-less}
 use Rattle.rehearsed.proofs.Memory.{header-before, header-after}
 use Rattle.rehearsed.proofs.Memory.{held-closed-before, held-closed-after}
@@ -35,26 +36,25 @@ pub record Stands (P : ℕ) (items : List Header) (bytes : List ℕ) (j : ℕ) (
 
 pub record Same (P : ℕ) (st : Stage) (items : List Header) (bytes : List ℕ) (w : Board) : Type 0 where
   pub size : st .size ≡ P
-  pub array : length (st .nodes) ≡ 16
-  pub nodes : (a : ℕ) → a < P → nodeAt st a ≡ w .nodes a
+  pub array : length (st .states) ≡ 16
+  pub nodes : (a : ℕ) → a < P → Bears (stateAt st a) (w .nodes a)
   pub under : length (w .items) ≡ st .under
   pub lent : st .under ≤ roomFor (length items) bytes
   pub stand : Stand (Stands P items bytes) 0 (w .items)
 
 -- ---- a node has given back a state
 
-module _ (P : ℕ) (few : P ≤ 16) (st : Stage) (f : ℕ → Node) (array : length (st .nodes) ≡ 16)
-    (same : (a : ℕ) → a < P → nodeAt st a ≡ f a) (a : ℕ) (h : a < P) where
-  pub node-changed : (n : Node) (under : ℕ) → nodeAt (changed st a n under) a ≡ n
-  node-changed n under = getD-set-same (st .nodes) a n noNode (omega arith)
+module _ (P : ℕ) (few : P ≤ 16) (st : Stage) (f : ℕ → Node) (array : length (st .states) ≡ 16)
+    (same : (a : ℕ) → a < P → Bears (stateAt st a) (f a)) (a : ℕ) (h : a < P) where
+  pub nodes-changed : (x : State) (n : Node) → Bears x n → (under b : ℕ) → b < P
+      → Bears (stateAt (changed st a x under) b) (put f a n b)
+  nodes-changed x n now under =
+      put-all (λ b m. b < P → Bears (stateAt (changed st a x under) b) m) f a n
+      (λ l. subst (λ y. Bears y n) (sym (getD-set-same (st .states) a x noState (omega arith))) now)
+      (λ b z l. subst (λ y. Bears y (f b)) (sym (getD-set-other (st .states) a b x noState z)) (same b l))
 
-  pub nodes-changed : (n : Node) (under b : ℕ) → b < P → nodeAt (changed st a n under) b ≡ put f a n b
-  nodes-changed n under =
-      put-all (λ b m. b < P → nodeAt (changed st a n under) b ≡ m) f a n (λ l. node-changed n under)
-      (λ b z l. getD-set-other (st .nodes) a b n noNode z ∙ same b l)
-
-  pub nodes-kept : (n : Node) → n ≡ f a → (b : ℕ) → b < P → nodeAt st b ≡ put f a n b
-  nodes-kept n e = put-all (λ b m. b < P → nodeAt st b ≡ m) f a n (λ l. same a h ∙ sym e) (λ b z l. same b l)
+  pub nodes-kept : (b : ℕ) → b < P → Bears (stateAt st b) (put f a (f a) b)
+  nodes-kept = put-all (λ b m. b < P → Bears (stateAt st b) m) f a (f a) (same a) (λ b z l. same b l)
 
 -- ---- the lent memory
 

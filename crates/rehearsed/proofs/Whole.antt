@@ -1,4 +1,4 @@
--- Every rehearsal is a run, and demand 3 holds of it.
+-- Every rehearsal is a run, and the claim about runs holds of it (rule S11).
 use mathlib.Core.Path.{_≡_, refl, sym, ap, _∙_, subst}
 use mathlib.Core.Bool.{Bool, true, false}
 use mathlib.Core.List.{List, [], _∷_, _++_, append-assoc}
@@ -6,13 +6,12 @@ use Prim.Native.Nat.{ℕ, zero, suc, _+_, _≤_, _<_}
 use native.Mathlib.Omega.{arith}
 use lib.Dec.{ltb, leb, eqb}
 use lib.ListN.{length, take}
-use borrow.Author.Tests.{ltb-true, ltb-false, lt-ltb, eqb-false, eq-eqb, ne-eqb}
+use borrow.Author.Tests.{ltb-true, ltb-false, eqb-false, eq-eqb, ne-eqb}
 use Rattle.base.specs.Choice.{choose, both, either}
 use Rattle.base.specs.Limits.{base}
 use Rattle.base.specs.Refusal.{Refusal, number}
 use Rattle.base.proofs.Laws.{clash, choose-yes, choose-no, cases, both-true, length-list, list-at}
-use Rattle.node.specs.Change.{freshIn, noNode}
-use Rattle.node.specs.declared.Node.{Node}
+use Rattle.node.specs.Change.{freshIn}
 use Rattle.runs.specs.Board.{Board, Event, sends, idles, calls, delivers, start, step, after, run}
 use Rattle.runs.specs.Claim.{NoLoss, Fit}
 use Rattle.runs.specs.Facts.{Facts}
@@ -24,14 +23,17 @@ use Rattle.script.specs.declared.Line.{Line}
 use Rattle.script.specs.declared.Line.the-variants.{Nodes, Sends, Delivers, Idles, Calls, Bad}
 use Rattle.script.specs.declared.Parsed.{Parsed}
 use Rattle.items.specs.declared.Item.{Item}
-use Rattle.turns.specs.Frames.{placeSize}
-use Rattle.turns.specs.Events.{Turn, nodeAt, opening}
-use Rattle.turns.specs.declared.Stage.{Stage}
+use Rattle.states.specs.On.{noState, freshState}
+use Rattle.stage.specs.Frames.{placeSize}
+use Rattle.stage.specs.Board.{nodeAt, opening}
+use Rattle.stage.specs.declared.Stage.{Stage}
+use Rattle.turns.specs.Events.{Turn}
 use Rattle.text.specs.Text.{header, turnText, stopText}
 use Rattle.rehearsal.specs.Play.{Played, Act, event, stop, actOf, ended, stopped, printedBefore, playFrom, playOpened}
 use Rattle.rehearsal.specs.Play.{play}
 use Rattle.rehearsed.specs.Run.{Told, toldOf, toldFrom, told, kept, eventsOf, eventsIn, linesOf, textOf, Closing}
 use Rattle.rehearsed.specs.Run.{IsRun, Rehearsal, EveryRehearsal}
+use Rattle.rehearsed.proofs.States.{Bears, fresh-bears}
 use Rattle.rehearsed.proofs.Same.{Same}
 use Rattle.rehearsed.proofs.Follows.{Follows}
 use Rattle.rehearsed.proofs.Acting.{send-follows, idle-follows, call-follows}
@@ -62,7 +64,7 @@ text-one l t rest text x =
 
 module _ (script : List ℕ) (most count : ℕ) (p : Parsed) where
   -- the events and the play after a line has been read
-  abbrev toldBy : Act → List Told
+  abbrev pub toldBy : Act → List Told
   toldBy x =
       elim x [
         | event t ↦ toldOf (p .line) t ∷ toldFrom script most (p .next) (t .stage) (t .items) (t .bytes)
@@ -202,15 +204,14 @@ module _ (P : ℕ) (one : 1 ≤ P) (few : P ≤ 16) where
   begun items bytes =
       record {
         size = refl;
-        array = length-list 0 16 fresh;
-        nodes = λ a h. list-at 16 fresh a noNode (omega arith) ∙ choose-yes _ _ (lt-ltb a P h);
+        array = length-list 0 16 (freshState P);
+        nodes =
+            λ a h. subst (λ s. Bears s (freshIn P a 0)) (sym (list-at 16 (freshState P) a noState (omega arith)))
+            (fresh-bears P a one few h);
         under = refl;
         lent = omega arith;
         stand = tt;
       }
-    where
-      fresh : ℕ → Node
-      fresh a = choose (ltb a P) (freshIn P a 0) noNode
 
   no-loss : (ts : List Told) (n : ℕ) → NoLoss (take n (eventsIn ts))
   no-loss [] zero = tt

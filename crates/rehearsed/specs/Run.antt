@@ -1,4 +1,4 @@
--- A rehearsal as a run of document 01: what is said of its events, and that demand 3 holds of it.
+-- A rehearsal as a run (rule S11): what is said of its events, and that the claim about runs holds of it.
 use mathlib.Core.Path.{_≡_}
 use mathlib.Core.List.{List, [], _∷_, _++_, map}
 use Prim.Native.Nat.{ℕ, zero, suc, _≤_}
@@ -15,9 +15,10 @@ use Rattle.script.specs.Script.{lineAt}
 use Rattle.script.specs.declared.Line.{Line}
 use Rattle.script.specs.declared.Line.the-variants.{Nodes, Sends, Delivers, Idles, Calls, Bad}
 use Rattle.items.specs.declared.Item.{Item}
-use Rattle.turns.specs.Frames.{placeSize}
-use Rattle.turns.specs.Events.{Turn, nodeAt, opening}
-use Rattle.turns.specs.declared.Stage.{Stage}
+use Rattle.stage.specs.Frames.{placeSize}
+use Rattle.stage.specs.Board.{nodeAt, opening}
+use Rattle.turns.specs.Events.{Turn}
+use Rattle.stage.specs.declared.Stage.{Stage}
 use Rattle.text.specs.Text.{header, turnText, stopText}
 use Rattle.rehearsal.specs.Play.{event, stop, actOf, play}
 
@@ -49,7 +50,7 @@ toldFrom script (suc most) at st items bytes =
 abbrev pub told : List ℕ → ℕ → List Item → List ℕ → List Told
 told script P items bytes = toldFrom script (length script) (lineAt script 0 .next) (opening P) items bytes
 
--- "A rehearsal's run leaves out what is answered 15."
+-- no run answers 15: such events are left out
 abbrev pub kept : List Told → List Told
 kept [] = []
 kept (t ∷ ts) = choose (eqb (t .answer) (number Refusal.crowded)) (kept ts) (t ∷ kept ts)
@@ -85,7 +86,7 @@ pub data Closing : List ℕ → Type 0 where
 
 -- ---- The claim
 
--- the events not answered 15 are a run of document 01 with the printed answers, and demand 3 holds after each
+-- the events not answered 15 are a run with the printed answers, and rule P4 and rule P5 hold after each
 pub record IsRun (P : ℕ) (ts : List Told) : Type 0 where
   pub printed : linesOf (kept ts) ≡ lines P (start P) (eventsIn (kept ts))
   pub safe : (n : ℕ) → Safe base P (run base P (take n (eventsIn (kept ts))))

@@ -1,5 +1,4 @@
--- The lines of a script: "nodes P, then s a b .., d a b .., i a (idle), b a (barrier call). One blank between parts,
--- decimal, one to three digits, no leading zeros, newline at each end."
+-- The lines of a script (rule S2, rule S3).
 use mathlib.Core.Bool.{Bool, true}
 use mathlib.Core.List.{List, [], _∷_}
 use Prim.Native.Nat.{ℕ, zero, suc, _+_, _-_, _*_}
@@ -28,7 +27,7 @@ partsWithin (suc most) bs =
 abbrev pub parts : List ℕ → List (List ℕ)
 parts bs = partsWithin (length bs) bs
 
--- ---- Numbers: "decimal, one to three digits, no leading zeros"
+-- ---- Numbers, decimal
 
 abbrev pub isDigit : ℕ → Bool
 isDigit x = both (leb 48 x) (leb x 57)

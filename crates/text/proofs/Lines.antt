@@ -1,18 +1,18 @@
 -- The pieces of a line, put one after the other, are the line.
 use mathlib.Core.Path.{_≡_}
+use mathlib.Core.Bool.{Bool}
 use mathlib.Core.List.{List, [], _∷_, _++_, append-assoc}
 use Prim.Native.Nat.{ℕ}
-use Rattle.node.specs.declared.Node.{Node}
-use Rattle.text.specs.Text.{digits, bit, turnText, stopText}
+use Rattle.text.specs.Text.{digits, bit, rowText, stopText}
 
 abbrev pub field : ℕ → List ℕ
 field x = digits x ++ (32 ∷ [])
 
-pub turn-text : (actor answer phase pass dim : ℕ) (n : Node) → phase ≡ n .phase → pass ≡ n .pass → dim ≡ n .dim
+pub row-text : (actor answer phase pass dim : ℕ) (flag busy : Bool)
     → field actor ++ field answer ++ field phase ++ field pass ++ field dim
-    ++ (bit (n .flag) ∷ 32 ∷ bit (n .busy) ∷ 10 ∷ []) ≡ turnText actor answer n
-unfolding turnText
-turn-text actor answer phase pass dim n e f g = rw (e, f, g) (simp append-assoc)
+    ++ (bit flag ∷ 32 ∷ bit busy ∷ 10 ∷ []) ≡ rowText actor answer phase pass dim flag busy
+unfolding rowText
+row-text actor answer phase pass dim flag busy = simp append-assoc
 
 -- "stop " and " at line "
 abbrev pub stop : List ℕ

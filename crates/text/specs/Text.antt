@@ -1,4 +1,4 @@
--- What is printed.
+-- What is printed (rule S9).
 use mathlib.Core.Bool.{Bool}
 use mathlib.Core.List.{List, [], _∷_, _++_}
 use Prim.Native.Nat.{ℕ, _+_, _-_, _/_, _%_, min}
@@ -6,6 +6,7 @@ use lib.Dec.{ltb}
 use lib.ListN.{length, take, drop}
 use Rattle.base.specs.Choice.{choose}
 use Rattle.node.specs.declared.Node.{Node}
+use Rattle.text.specs.declared.Shown.{Shown}
 
 -- decimal digits of a number below 10,000; of a larger one the last four
 unfoldable pub digits : ℕ → List ℕ
@@ -18,7 +19,7 @@ digits x =
 abbrev pub bit : Bool → ℕ
 bit b = choose b 49 48
 
--- "node answer phase pass dim flag busy"
+-- the first line, in letters: node answer phase pass dim flag busy
 abbrev pub header : List ℕ
 header =
     110 ∷ 111 ∷ 100 ∷ 101 ∷ 32
@@ -29,19 +30,25 @@ header =
     ∷ 102 ∷ 108 ∷ 97 ∷ 103 ∷ 32
     ∷ 98 ∷ 117 ∷ 115 ∷ 121 ∷ 10 ∷ []
 
--- "acting node (receiver for d), answer, then its phase, pass, dimension, flag, 1 if busy"
-unfoldable pub turnText : ℕ → ℕ → Node → List ℕ
-turnText actor answer n =
+-- an event's line: the acting node, the answer, and of that node phase, pass, dimension, flag and busy
+unfoldable pub rowText : ℕ → ℕ → ℕ → ℕ → ℕ → Bool → Bool → List ℕ
+rowText actor answer phase pass dim flag busy =
     digits actor
     ++ (32
     ∷ (digits answer
     ++ (32
-    ∷ (digits (n .phase)
+    ∷ (digits phase
     ++ (32
-    ∷ (digits (n .pass)
-    ++ (32 ∷ (digits (n .dim) ++ (32 ∷ bit (n .flag) ∷ 32 ∷ bit (n .busy) ∷ 10 ∷ [])))))))))
+    ∷ (digits pass
+    ++ (32 ∷ (digits dim ++ (32 ∷ bit flag ∷ 32 ∷ bit busy ∷ 10 ∷ [])))))))))
 
--- "stop N at line L"
+abbrev pub shownText : ℕ → ℕ → Shown → List ℕ
+shownText actor answer n = rowText actor answer (n .phase) (n .pass) (n .dim) (n .flag) (n .busy)
+
+abbrev pub turnText : ℕ → ℕ → Node → List ℕ
+turnText actor answer n = rowText actor answer (n .phase) (n .pass) (n .dim) (n .flag) (n .busy)
+
+-- in letters: stop N at line L
 unfoldable pub stopText : ℕ → ℕ → List ℕ
 stopText why line =
     115 ∷ 116 ∷ 111 ∷ 112 ∷ 32

@@ -3,16 +3,9 @@
 ghost use mathlib.Core.Path.{_≡_};
 ghost use mathlib.Core.List.{[], _∷_, _++_};
 ghost use Prim.Native.Nat.{_+_, _%_};
-ghost use Rattle.text.specs.Text.{digits, bit, header, turnText, stopText, put, ends};
-use node::Node;
+ghost use Rattle.text.specs.Text.{digits, bit, header, shownText, stopText, put, ends};
 
 // ---- Bytes
-
-fn wide(x: u8) -> u32
-    ensures { λ r. ⌜ r ≡ x ⌝ }
-{
-    x as u32
-}
 
 fn put_byte(out: &mut [u8], at: usize, x: u8) -> usize
     ensures memory { λ r. ⌜ now (out .exit) ≡ put (now (out .entry)) at (x ∷ []) ⌝ }
@@ -116,16 +109,25 @@ pub fn put_header(out: &mut [u8], at: usize) -> usize
     put_bytes(out, at, b"node answer phase pass dim flag busy\n")
 }
 
+// What is printed of a node's state.
+pub struct Shown {
+    pub phase: u32,
+    pub pass: u32,
+    pub dim: u32,
+    pub flag: bool,
+    pub busy: bool,
+}
+
 // The line of an event: the acting node's number, the answer, and the node's state after it.
-pub fn put_turn(out: &mut [u8], at: usize, actor: u32, answer: u32, n: Node) -> usize
-    ensures memory { λ r. ⌜ now (out .exit) ≡ put (now (out .entry)) at (turnText actor answer n) ⌝ }
-    ensures place { λ r. ⌜ r ≡ ends (now (out .entry)) at (turnText actor answer n) ⌝ }
+pub fn put_turn(out: &mut [u8], at: usize, actor: u32, answer: u32, n: Shown) -> usize
+    ensures memory { λ r. ⌜ now (out .exit) ≡ put (now (out .entry)) at (shownText actor answer n) ⌝ }
+    ensures place { λ r. ⌜ r ≡ ends (now (out .entry)) at (shownText actor answer n) ⌝ }
 {
     let a = put_field(&mut *out, at, actor);
     let b = put_field(&mut *out, a, answer);
-    let c = put_field(&mut *out, b, wide(n.phase));
-    let d = put_field(&mut *out, c, wide(n.pass));
-    let e = put_field(&mut *out, d, wide(n.dim));
+    let c = put_field(&mut *out, b, n.phase);
+    let d = put_field(&mut *out, c, n.pass);
+    let e = put_field(&mut *out, d, n.dim);
     put_bits(&mut *out, e, n.flag, n.busy)
 }
 

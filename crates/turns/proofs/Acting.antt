@@ -1,79 +1,58 @@
 -- What becomes of a line, by what its call answered.
 use mathlib.Core.Path.{_≡_, refl, ap, _∙_}
-use mathlib.Core.Bool.{true, false, not}
+use mathlib.Core.Bool.{true, false}
 use mathlib.Core.List.{List, []}
-use Prim.Native.Nat.{ℕ, _+_, _-_, _/_, min, _≤_, _<_}
-use lib.ListN.{length}
-use native.Mathlib.Decide.{decLt}
-use native.Mathlib.Omega.{arith}
+use Prim.Native.Nat.{ℕ, _-_, _≤_, _<_}
 use lib.Dec.{ltb, leb, eqb}
-use borrow.Author.Tests.{lt-ltb, le-ltb, le-leb, lt-leb, ltb-true, leb-true, eq-eqb, ne-eqb, not-true}
+use borrow.Author.Tests.{ltb-true, leb-true, eq-eqb, ne-eqb, not-true}
 use Rattle.base.specs.Limits.{base}
 use Rattle.base.proofs.Laws.{choose-yes, choose-no, both-true}
 use Rattle.tree.specs.Lookups.{badBoard}
-use Rattle.node.specs.Answers.{Given, Outcome, outcomeNumber, Barrier}
+use Rattle.node.specs.Answers.{Outcome, outcomeNumber}
 use Rattle.node.specs.Calls.{send, idle}
-use Rattle.node.specs.Barrier.{barrier}
+use Rattle.states.specs.On.{Kept, onState}
 use Rattle.script.specs.declared.Line.the-variants.{Nodes, Sends, Delivers, Idles, Calls, Bad}
 use Rattle.items.specs.Places.{noItem}
 use Rattle.items.specs.declared.Item.{Item}
-use Rattle.turns.specs.Frames.{placeSize, roomFor, closed}
-use Rattle.turns.specs.Events.{nodeAt, changed}
-use Rattle.turns.specs.Acts.{quiet, takeOff, sendActed, callActed, callActedBytes, itemCall}
-use Rattle.turns.specs.Acts.{isThere, acted, actedBytes}
-use Rattle.turns.specs.declared.Stage.{Stage}
-use Rattle.turns.specs.declared.Acted.{Acted}
+use Rattle.stage.specs.Frames.{roomFor, closed}
+use Rattle.stage.specs.Board.{stateAt, changed, isThere, quiet}
+use Rattle.stage.specs.declared.Stage.{Stage}
+use Rattle.stage.specs.declared.Acted.{Acted}
+use Rattle.turn_call.specs.Calling.{callAct, callActBytes}
+use Rattle.turns.specs.Acts.{takeOff, sendActed, itemCall, acted, actedBytes}
 
--- whether there is room, as the code tests it
-pub no-room : (under room r : ℕ) → room ≡ r → room ≤ under → ltb under r ≡ false
-no-room under room r e h = le-ltb under r (omega arith)
-
-pub no-two : (under room r : ℕ) → room ≡ r → room ≤ under → ltb (under + 1) r ≡ false
-no-two under room r e h = le-ltb (under + 1) r (omega arith)
-
-pub some-room : (under room r : ℕ) → room ≡ r → under < room → ltb under r ≡ true
-some-room under room r e h = lt-ltb under r (omega arith)
-
--- the same board, answer and headers
-pub put-same : {s t : Stage} {m n : ℕ} {i j x y : Item} (actor gone at next : ℕ) → s ≡ t → m ≡ n → i ≡ j → x ≡ y
+-- no header is put and none goes, save this one
+pub one-off : (st : Stage) (headers : ℕ) (bytes : List ℕ) (after : Stage) (actor answer at : ℕ) (q : Acted)
+    → q ≡ quiet st headers after actor answer
     → _≡_ {A = Acted}
     (record {
-      stage = s;
-      actor = actor;
-      answer = m;
-      gone = gone;
-      at = at;
-      first = i;
-      next = next;
-      second = x;
+      stage = q .stage;
+      actor = q .actor;
+      answer = q .answer;
+      gone = at;
+      at = q .at;
+      first = q .first;
+      next = q .next;
+      second = q .second;
     })
-    (record {
-      stage = t;
-      actor = actor;
-      answer = n;
-      gone = gone;
-      at = at;
-      first = j;
-      next = next;
-      second = y;
-    })
-put-same actor gone at next p v q r =
+    (takeOff st headers bytes after actor answer at)
+one-off st headers bytes after actor answer at q e =
     λ k. record {
-      stage = p k;
-      actor = actor;
-      answer = v k;
-      gone = gone;
-      at = at;
-      first = q k;
-      next = next;
-      second = r k;
+      stage = e k .stage;
+      actor = e k .actor;
+      answer = e k .answer;
+      gone = at;
+      at = e k .at;
+      first = e k .first;
+      next = e k .next;
+      second = e k .second;
     }
 
 module _ (st : Stage) (headers : ℕ) (bytes : List ℕ) (at : ℕ) (it : Item) where
   -- a line that is no event here
   pub no-event : (P : ℕ)
-      → (quiet st headers bytes st 0 17 ≡ acted st headers bytes (Nodes P) at it)
-      × (quiet st headers bytes st 0 17 ≡ acted st headers bytes Bad at it)
+      → (quiet st headers st 0 17 ≡ acted st headers bytes (Nodes P) at it)
+      × (quiet st headers st 0 17 ≡ acted st headers bytes Bad at it)
       × (bytes ≡ actedBytes st headers bytes (Nodes P) at it)
       × (bytes ≡ actedBytes st headers bytes Bad at it)
   unfolding acted actedBytes
@@ -93,44 +72,35 @@ module _ (st : Stage) (headers : ℕ) (bytes : List ℕ) (at : ℕ) (it : Item) 
   idle-any a = (refl, refl)
 
   pub call-any : (a : ℕ)
-      → (acted st headers bytes (Calls a) 0 noItem ≡ acted st headers bytes (Calls a) at it)
-      × (actedBytes st headers bytes (Calls a) 0 noItem ≡ actedBytes st headers bytes (Calls a) at it)
+      → (callAct st headers bytes a ≡ acted st headers bytes (Calls a) at it)
+      × (callActBytes st headers bytes a ≡ actedBytes st headers bytes (Calls a) at it)
   unfolding acted actedBytes
   call-any a = (refl, refl)
 
-  pub send-by : (a b : ℕ) (r : Given Outcome) → send base (nodeAt st a) b ≡ r
+  pub send-by : (a b : ℕ) (r : Kept Outcome) → onState (λ n. send base n b) (stateAt st a) ≡ r
       → acted st headers bytes (Sends a b) at it ≡ sendActed st headers bytes a b r (r .answer)
   unfolding acted
   send-by a b r e = ap (λ g. sendActed st headers bytes a b g (g .answer)) e
 
-  pub idle-by : (a : ℕ) (r : Given Outcome) → idle base (nodeAt st a) ≡ r
+  pub idle-by : (a : ℕ) (r : Kept Outcome) → onState (idle base) (stateAt st a) ≡ r
       → acted st headers bytes (Idles a) at it
-      ≡ quiet st headers bytes (changed st a (r .node) (st .under)) a (outcomeNumber (r .answer))
+      ≡ quiet st headers (changed st a (r .state) (st .under)) a (outcomeNumber (r .answer))
   unfolding acted
   idle-by a r e =
-      ap (λ g. quiet st headers bytes (changed st a (g .node) (st .under)) a (outcomeNumber (g .answer))) e
-
-  pub call-by : (a : ℕ) (r : Given Barrier) → barrier base (nodeAt st a) placeSize ≡ r
-      → (acted st headers bytes (Calls a) at it ≡ callActed st headers bytes a r (r .answer))
-      × (actedBytes st headers bytes (Calls a) at it ≡ callActedBytes st headers bytes a (r .answer))
-  unfolding acted actedBytes
-  call-by a r e = (
-    ap (λ g. callActed st headers bytes a g (g .answer)) e,
-    ap (λ g. callActedBytes st headers bytes a (g .answer)) e,
-  )
+      ap (λ g. quiet st headers (changed st a (g .state) (st .under)) a (outcomeNumber (g .answer))) e
 
   -- no item stands there
   pub deliver-none : (a b : ℕ) → isThere st headers bytes at ≡ false
-      → (acted st headers bytes (Delivers a b) at it ≡ quiet st headers bytes st b 16)
+      → (acted st headers bytes (Delivers a b) at it ≡ quiet st headers st b 16)
       × (actedBytes st headers bytes (Delivers a b) at it ≡ bytes)
   unfolding acted actedBytes
   deliver-none a b e = (choose-no _ _ e, choose-no _ _ e)
 
-  module _ (a b : ℕ) (r : Given Outcome) (there : isThere st headers bytes at ≡ true)
+  module _ (a b : ℕ) (r : Kept Outcome) (there : isThere st headers bytes at ≡ true)
       (e : itemCall st headers bytes a b at it ≡ r) where
     -- an early item stays
     pub deliver-early : outcomeNumber (r .answer) ≡ 7
-        → (acted st headers bytes (Delivers a b) at it ≡ quiet st headers bytes st b 7)
+        → (acted st headers bytes (Delivers a b) at it ≡ quiet st headers st b 7)
         × (actedBytes st headers bytes (Delivers a b) at it ≡ bytes)
     unfolding acted actedBytes
     deliver-early q =
@@ -141,7 +111,7 @@ module _ (st : Stage) (headers : ℕ) (bytes : List ℕ) (at : ℕ) (it : Item) 
     -- any other leaves the list
     pub deliver-off : (outcomeNumber (r .answer) ≡ 7 → ⊥)
         → (acted st headers bytes (Delivers a b) at it
-        ≡ takeOff st headers bytes (changed st b (r .node) (st .under - 1)) b (outcomeNumber (r .answer)) at)
+        ≡ takeOff st headers bytes (changed st b (r .state) (st .under - 1)) b (outcomeNumber (r .answer)) at)
         × (actedBytes st headers bytes (Delivers a b) at it ≡ closed bytes (st .under) at)
     unfolding acted actedBytes
     deliver-off q =
@@ -151,7 +121,7 @@ module _ (st : Stage) (headers : ℕ) (bytes : List ℕ) (at : ℕ) (it : Item) 
               ∙ choose-no _ _ t
               ∙ ap
               (λ g.
-              takeOff st headers bytes (changed st b (g .node) (st .under - 1)) b (outcomeNumber (g .answer)) at)
+              takeOff st headers bytes (changed st b (g .state) (st .under - 1)) b (outcomeNumber (g .answer)) at)
               e,
           choose-yes _ _ there ∙ choose-no _ _ t,
         )
@@ -162,38 +132,3 @@ module _ (st : Stage) (headers : ℕ) (bytes : List ℕ) (at : ℕ) (it : Item) 
       let p = both-true (ltb at (st .under)) _ e in
       let q = both-true (leb (st .under) (roomFor headers bytes)) _ (p .1) in
       (ltb-true _ _ (p .0), leb-true _ _ (q .0), not-true _ (q .1))
-
--- ---- whether an item stands at a place, as the code tests it
-
-flipped : (x y : ℕ) → not (ltb y x) ≡ leb x y
-flipped x y = go (decLt y x)
-  where
-    go : Dec (y < x) → not (ltb y x) ≡ leb x y
-    go (yes h) = rw (lt-ltb y x h, lt-leb x y h)
-    go (no h) = let l : x ≤ y = omega arith in rw (le-ltb y x l, le-leb x y l)
-
-module _ (st : Stage) (headers : ℕ) (bytes : List ℕ) (at : ℕ) where
-  pub there-not : st .under ≤ at → isThere st headers bytes at ≡ false
-  there-not h = rw (le-ltb at (st .under) h)
-
-  module _ (len room : ℕ) (e : len ≡ length bytes) (r : room ≡ min 512 (min headers (len / placeSize)))
-      (h : at < st .under) where
-    same-room : room ≡ roomFor headers bytes
-    same-room = r ∙ ap (λ n. min 512 (min headers (n / placeSize))) e
-
-    pub there-unlent : room < st .under → isThere st headers bytes at ≡ false
-    there-unlent l =
-        let z = same-room in
-        rw (lt-ltb at (st .under) h, lt-leb (st .under) (roomFor headers bytes) (omega arith))
-
-    pub there-sized : st .under ≤ room → 0 < st .size → isThere st headers bytes at ≡ leb (st .size) 256
-    there-sized l m =
-        let z = same-room in
-        rw (lt-ltb at (st .under) h, le-leb (st .under) (roomFor headers bytes) (omega arith))
-        (rw (ne-eqb (st .size) 0 (λ q. omega arith)) (flipped (st .size) 256))
-
-    pub there-none : st .under ≤ room → st .size ≤ 0 → isThere st headers bytes at ≡ false
-    there-none l m =
-        let z = same-room in
-        rw (lt-ltb at (st .under) h, le-leb (st .under) (roomFor headers bytes) (omega arith))
-        (rw (eq-eqb (st .size) 0 (omega arith)))

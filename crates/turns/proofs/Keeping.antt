@@ -9,20 +9,21 @@ use lib.ListN.{length, set, length-set}
 use borrow.Author.Tests.{ltb-true}
 use Rattle.base.specs.Limits.{base}
 use Rattle.base.proofs.Laws.{cases}
-use Rattle.node.specs.Answers.{Given, Outcome, done, dropped, refused, outcomeNumber}
+use Rattle.states.specs.On.{Kept, onState, stepOn}
+use Rattle.states.specs.declared.State.{State}
+use Rattle.node.specs.Answers.{Outcome, done, dropped, refused, outcomeNumber}
 use Rattle.node.specs.Answers.{Barrier, sent, waits, moved, left, barred}
 use Rattle.node.specs.Calls.{send}
-use Rattle.node.specs.Barrier.{barrier}
-use Rattle.node.specs.declared.Node.{Node}
 use Rattle.script.specs.declared.Line.{Line}
 use Rattle.script.specs.declared.Line.the-variants.{Nodes, Sends, Delivers, Idles, Calls, Bad}
 use Rattle.items.specs.Places.{removed}
 use Rattle.items.specs.declared.Item.{Item}
-use Rattle.turns.specs.Frames.{placeSize, roomFor}
-use Rattle.turns.specs.Events.{nodeAt}
-use Rattle.turns.specs.Acts.{sendActed, frameActed, callActed, deliverActed, itemCall, isThere, acted, actedItems}
-use Rattle.turns.specs.declared.Stage.{Stage}
-use Rattle.turns.specs.declared.Acted.{Acted}
+use Rattle.stage.specs.Frames.{placeSize, roomFor}
+use Rattle.stage.specs.Board.{isThere, stateAt}
+use Rattle.stage.specs.declared.Stage.{Stage}
+use Rattle.stage.specs.declared.Acted.{Acted}
+use Rattle.turn_call.specs.Calling.{frameActed, callActed, callAct}
+use Rattle.turns.specs.Acts.{sendActed, deliverActed, itemCall, acted, actedItems}
 use Rattle.turns.proofs.Turning.{length-moved}
 
 one-more : (under room : ℕ) → ltb under room ≡ true → under + 1 ≤ room
@@ -36,50 +37,50 @@ pub record Keeps (st : Stage) (headers : ℕ) (bytes : List ℕ) (r : Acted) : T
   pub lent : r .stage .under ≤ roomFor headers bytes
 
 module _ (st : Stage) (headers : ℕ) (bytes : List ℕ) (h : st .under ≤ roomFor headers bytes) where
-  abbrev Kept : Acted → Type 0
-  Kept = Keeps st headers bytes
+  abbrev Stays : Acted → Type 0
+  Stays = Keeps st headers bytes
 
-  send-keeps : (a b : ℕ) (r : Given Outcome) (o : Outcome) → Kept (sendActed st headers bytes a b r o)
+  send-keeps : (a b : ℕ) (r : Kept Outcome) (o : Outcome) → Stays (sendActed st headers bytes a b r o)
   send-keeps a b r done =
-      cases Kept (ltb (st .under) (roomFor headers bytes)) _ _
+      cases Stays (ltb (st .under) (roomFor headers bytes)) _ _
       (λ e. record { size = refl; lent = one-more (st .under) (roomFor headers bytes) e })
       (λ e. record { size = refl; lent = h })
   send-keeps a b r dropped = record { size = refl; lent = h }
   send-keeps a b r (refused x) = record { size = refl; lent = h }
 
-  frame-keeps : (a : ℕ) (after : Node) (to : List ℕ) → Kept (frameActed st headers bytes a after to)
+  frame-keeps : (a : ℕ) (after : State) (to : List ℕ) → Stays (frameActed st headers bytes a after to)
   frame-keeps a after [] = record { size = refl; lent = h }
   frame-keeps a after (b ∷ []) =
-      cases Kept (ltb (st .under) (roomFor headers bytes)) _ _
+      cases Stays (ltb (st .under) (roomFor headers bytes)) _ _
       (λ e. record { size = refl; lent = one-more (st .under) (roomFor headers bytes) e })
       (λ e. record { size = refl; lent = h })
   frame-keeps a after (b ∷ c ∷ l) =
-      cases Kept (ltb (st .under + 1) (roomFor headers bytes)) _ _
+      cases Stays (ltb (st .under + 1) (roomFor headers bytes)) _ _
       (λ e. record { size = refl; lent = two-more (st .under) (roomFor headers bytes) e })
       (λ e. record { size = refl; lent = h })
 
-  call-keeps : (a : ℕ) (r : Given Barrier) (o : Barrier) → Kept (callActed st headers bytes a r o)
-  call-keeps a r (sent to length) = frame-keeps a (r .node) to
+  call-keeps : (a : ℕ) (r : Kept Barrier) (o : Barrier) → Stays (callActed st headers bytes a r o)
+  call-keeps a r (sent to length) = frame-keeps a (r .state) to
   call-keeps a r waits = record { size = refl; lent = h }
   call-keeps a r moved = record { size = refl; lent = h }
   call-keeps a r left = record { size = refl; lent = h }
   call-keeps a r (barred x) = record { size = refl; lent = h }
 
-  deliver-keeps : (b at : ℕ) (r : Given Outcome) (answer : ℕ) → Kept (deliverActed st headers bytes b at r answer)
+  deliver-keeps : (b at : ℕ) (r : Kept Outcome) (answer : ℕ) → Stays (deliverActed st headers bytes b at r answer)
   deliver-keeps b at r answer =
-      cases Kept (eqb answer 7) _ _ (λ e. record { size = refl; lent = h })
+      cases Stays (eqb answer 7) _ _ (λ e. record { size = refl; lent = h })
       (λ e. record { size = refl; lent = omega arith })
 
   pub line-keeps : (line : Line) (at : ℕ) (it : Item) → Keeps st headers bytes (acted st headers bytes line at it)
-  unfolding acted
+  unfolding acted callAct
   line-keeps (Nodes P) at it = record { size = refl; lent = h }
-  line-keeps (Sends a b) at it = let r = send base (nodeAt st a) b in send-keeps a b r (r .answer)
+  line-keeps (Sends a b) at it = let r = onState (λ n. send base n b) (stateAt st a) in send-keeps a b r (r .answer)
   line-keeps (Delivers a b) at it =
       let r = itemCall st headers bytes a b at it in
-      cases Kept (isThere st headers bytes at) _ _ (λ e. deliver-keeps b at r (outcomeNumber (r .answer)))
+      cases Stays (isThere st headers bytes at) _ _ (λ e. deliver-keeps b at r (outcomeNumber (r .answer)))
       (λ e. record { size = refl; lent = h })
   line-keeps (Idles a) at it = record { size = refl; lent = h }
-  line-keeps (Calls a) at it = let r = barrier base (nodeAt st a) placeSize in call-keeps a r (r .answer)
+  line-keeps (Calls a) at it = let r = stepOn (stateAt st a) placeSize in call-keeps a r (r .answer)
   line-keeps Bad at it = record { size = refl; lent = h }
 
 pub headers-kept : (under : ℕ) (r : Acted) (items : List Item) → length (actedItems under r items) ≡ length items

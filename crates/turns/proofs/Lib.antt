@@ -1,5 +1,3 @@
-pub mod Board
-pub mod Parts
 pub mod Known
 pub mod Acting
 pub mod Turning

@@ -14,23 +14,25 @@ use Rattle.base.specs.Choice.{choose}
 use Rattle.base.specs.Limits.{base}
 use Rattle.base.proofs.Laws.{choose-yes, choose-no, cases}
 use Rattle.tree.specs.Lookups.{badBoard}
-use Rattle.node.specs.Answers.{Given, Outcome, done, dropped, refused, outcomeNumber}
+use Rattle.states.specs.On.{Kept, onState, stepOn}
+use Rattle.states.specs.declared.State.{State}
+use Rattle.node.specs.Answers.{Outcome, done, dropped, refused, outcomeNumber}
 use Rattle.node.specs.Answers.{Barrier, sent, waits, moved, left, barred}
 use Rattle.node.specs.Calls.{send}
-use Rattle.node.specs.Barrier.{barrier}
-use Rattle.node.specs.declared.Node.{Node}
 use Rattle.script.specs.declared.Line.the-variants.{Sends, Delivers, Idles, Calls}
 use Rattle.items.specs.Places.{noItem, onLink, placeFrom, oldestAt, moved as movedDown, removed}
 use Rattle.items.specs.declared.Item.{Item}
-use Rattle.turns.specs.Frames.{placeSize, roomFor, closed}
-use Rattle.turns.specs.Events.{Turn, nodeAt, unchanged, sentBy, framedTo, calledBy, deliveredAt, called}
+use Rattle.stage.specs.Frames.{placeSize, roomFor, closed}
+use Rattle.stage.specs.Board.{isThere, nodeAt, stateAt, quiet, putOne}
+use Rattle.stage.specs.declared.Stage.{Stage}
+use Rattle.stage.specs.declared.Acted.{Acted}
+use Rattle.stage.proofs.There.{there-not}
+use Rattle.turn_call.specs.Calling.{putTwo, frameActed, callActed, callAct, frameActedBytes, callActedBytes}
+use Rattle.turn_call.specs.Calling.{callActBytes}
+use Rattle.turn_call.specs.Pieces.{due}
+use Rattle.turns.specs.Events.{Turn, unchanged, sentBy, framedTo, calledBy, deliveredAt, called}
 use Rattle.turns.specs.Events.{sendTurn, idleTurn, callTurn, deliverTurn}
-use Rattle.turns.specs.Acts.{quiet, putOne, putTwo, takeOff, sendActed, frameActed, callActed, deliverActed}
-use Rattle.turns.specs.Acts.{isThere, acted, frameActedBytes, callActedBytes, actedBytes, actedItems}
-use Rattle.turns.specs.Pieces.{due}
-use Rattle.turns.specs.declared.Stage.{Stage}
-use Rattle.turns.specs.declared.Acted.{Acted}
-use Rattle.turns.proofs.Acting.{there-not}
+use Rattle.turns.specs.Acts.{takeOff, sendActed, deliverActed, acted, actedBytes, actedItems}
 
 -- ---- the headers
 
@@ -81,19 +83,19 @@ module _ (st : Stage) (items : List Item) (bytes : List ℕ) where
   sees r after = seen (st .under) items r after
 
   seen-quiet : (after : Stage) (actor answer : ℕ) (now : List ℕ)
-      → sees (quiet st (length items) bytes after actor answer) now ≡ unchanged after items now actor answer
+      → sees (quiet st (length items) after actor answer) now ≡ unchanged after items now actor answer
   unfolding actedItems
   seen-quiet after actor answer now =
-      as-turn (st .under) items items (quiet st (length items) bytes after actor answer) now
+      as-turn (st .under) items items (quiet st (length items) after actor answer) now
       (rw (none-removed items (st .under))
       (rw (set-out items (length items) noItem (omega arith)) (set-out items (length items) noItem (omega arith))))
 
   seen-one : (after : Stage) (actor answer : ℕ) (it : Item) (now : List ℕ)
-      → sees (putOne st (length items) bytes after actor answer it) now
+      → sees (putOne st (length items) after actor answer it) now
       ≡ record { stage = after; items = set items (st .under) it; bytes = now; actor = actor; answer = answer }
   unfolding actedItems
   seen-one after actor answer it now =
-      as-turn (st .under) items (set items (st .under) it) (putOne st (length items) bytes after actor answer it) now
+      as-turn (st .under) items (set items (st .under) it) (putOne st (length items) after actor answer it) now
       (rw (none-removed items (st .under))
       (set-out (set items (st .under) it) (length items) noItem (simp length-set (omega arith))))
 
@@ -147,7 +149,7 @@ module _ (st : Stage) (items : List Item) (bytes : List ℕ) where
 
   -- ---- s and i
 
-  sent-same : (a b : ℕ) (r : Given Outcome) (o : Outcome)
+  sent-same : (a b : ℕ) (r : Kept Outcome) (o : Outcome)
       → sees (sendActed st (length items) bytes a b r o) bytes ≡ sentBy st items bytes a b r o
   sent-same a b r done =
       by-test (ltb (st .under) (roomFor (length items) bytes)) _ _ (seen-one _ a 0 _ bytes) (seen-quiet st a 15 bytes)
@@ -156,7 +158,7 @@ module _ (st : Stage) (items : List Item) (bytes : List ℕ) where
 
   -- ---- b
 
-  framed-same : (a : ℕ) (after : Node) (frame to : List ℕ)
+  framed-same : (a : ℕ) (after : State) (frame to : List ℕ)
       → sees (frameActed st (length items) bytes a after to) (frameActedBytes st (length items) bytes frame to)
       ≡ framedTo st items bytes a after frame to
   framed-same a after frame [] = seen-quiet st a 20 bytes
@@ -166,10 +168,10 @@ module _ (st : Stage) (items : List Item) (bytes : List ℕ) where
       by-both (ltb (st .under + 1) (roomFor (length items) bytes)) _ _ (seen-two _ a 20 _ _ _)
       (seen-quiet st a 15 bytes)
 
-  called-same : (a : ℕ) (r : Given Barrier) (o : Barrier)
+  called-same : (a : ℕ) (r : Kept Barrier) (o : Barrier)
       → sees (callActed st (length items) bytes a r o) (callActedBytes st (length items) bytes a o)
       ≡ calledBy st items bytes a r o
-  called-same a r (sent to length) = framed-same a (r .node) (due (nodeAt st a)) to
+  called-same a r (sent to length) = framed-same a (r .state) (due (nodeAt st a)) to
   called-same a r waits = seen-quiet _ a 21 bytes
   called-same a r moved = seen-quiet _ a 22 bytes
   called-same a r left = seen-quiet _ a 23 bytes
@@ -177,7 +179,7 @@ module _ (st : Stage) (items : List Item) (bytes : List ℕ) where
 
   -- ---- d
 
-  delivered-same : (b at : ℕ) (r : Given Outcome) (answer : ℕ)
+  delivered-same : (b at : ℕ) (r : Kept Outcome) (answer : ℕ)
       → sees (deliverActed st (length items) bytes b at r answer)
       (choose (eqb answer 7) bytes (closed bytes (st .under) at))
       ≡ deliveredAt st items bytes b at r answer
@@ -190,7 +192,7 @@ module _ (st : Stage) (items : List Item) (bytes : List ℕ) where
       → sees (acted st (length items) bytes (Sends a b) at it) (actedBytes st (length items) bytes (Sends a b) at it)
       ≡ sendTurn st items bytes a b
   unfolding acted actedBytes sendTurn
-  send-turns a b at it = let r = send base (nodeAt st a) b in sent-same a b r (r .answer)
+  send-turns a b at it = let r = onState (λ n. send base n b) (stateAt st a) in sent-same a b r (r .answer)
 
   pub idle-turns : (a at : ℕ) (it : Item)
       → sees (acted st (length items) bytes (Idles a) at it) (actedBytes st (length items) bytes (Idles a) at it)
@@ -201,8 +203,8 @@ module _ (st : Stage) (items : List Item) (bytes : List ℕ) where
   pub call-turns : (a at : ℕ) (it : Item)
       → sees (acted st (length items) bytes (Calls a) at it) (actedBytes st (length items) bytes (Calls a) at it)
       ≡ callTurn st items bytes a
-  unfolding acted actedBytes callTurn
-  call-turns a at it = let r = barrier base (nodeAt st a) placeSize in called-same a r (r .answer)
+  unfolding acted actedBytes callAct callActBytes callTurn
+  call-turns a at it = let r = stepOn (stateAt st a) placeSize in called-same a r (r .answer)
 
   -- the items under way are lent, and the board is one
   module _ (lent : st .under ≤ roomFor (length items) bytes) (board : badBoard base (st .size) ≡ false) where

@@ -1,24 +1,24 @@
 -- What a line of the script does to the board and to what is lent.
 use mathlib.Core.List.{List, [], _∷_}
-use Prim.Native.Nat.{ℕ, _+_, _-_, _*_}
+use Prim.Native.Nat.{ℕ, _+_, _-_}
 use lib.Dec.{ltb, eqb}
-use lib.ListN.{length, getD, set, take, drop}
-use Rattle.base.specs.Choice.{choose, list}
+use lib.ListN.{length, getD, set}
+use Rattle.base.specs.Choice.{choose}
 use Rattle.base.specs.Limits.{base}
 use Rattle.base.specs.Refusal.{Refusal, number}
-use Rattle.tree.specs.Tree.{dimension}
-use Rattle.frame.specs.Frame.{frameLength, frameBytes}
+use Rattle.frame.specs.Frame.{frameBytes}
 use Rattle.node.specs.Sums.{dims}
-use Rattle.node.specs.Change.{freshIn, noNode}
-use Rattle.node.specs.Answers.{Given, Outcome, done, dropped, refused, outcomeNumber}
+use Rattle.node.specs.Answers.{Outcome, done, dropped, refused, outcomeNumber}
 use Rattle.node.specs.Answers.{Barrier, sent, waits, moved, left, barred}
 use Rattle.node.specs.Calls.{send, take as takeCall, idle, frameIn}
-use Rattle.node.specs.Barrier.{barrier, frameDue}
-use Rattle.node.specs.declared.Node.{Node}
+use Rattle.node.specs.Barrier.{frameDue}
+use Rattle.states.specs.On.{Kept, onState, stepOn}
+use Rattle.states.specs.declared.State.{State}
 use Rattle.items.specs.Places.{noItem, oldestAt, removed}
 use Rattle.items.specs.declared.Item.{Item}
-use Rattle.turns.specs.Frames.{placeSize, roomFor, closed, framed}
-use Rattle.turns.specs.declared.Stage.{Stage}
+use Rattle.stage.specs.Frames.{placeSize, roomFor, closed, framed, frameHeld}
+use Rattle.stage.specs.Board.{stateAt, nodeAt, changed, workItem, frameItem}
+use Rattle.stage.specs.declared.Stage.{Stage}
 
 -- the board and the lent memory after an event, the acting node, and the answer's number
 pub record Turn : Type 0 where
@@ -28,47 +28,23 @@ pub record Turn : Type 0 where
   pub actor : ℕ
   pub answer : ℕ
 
--- "A board of up to 16 nodes", all fresh, and no item under way; the nodes that the board doesn't have are no nodes
-abbrev pub opening : ℕ → Stage
-opening P =
-    record { nodes = list 0 16 (λ a. choose (ltb a P) (freshIn P a 0) noNode); size = P; under = 0 }
-
-abbrev pub nodeAt : Stage → ℕ → Node
-nodeAt st a = getD (st .nodes) a noNode
-
--- node a has given back another state, and so many items are under way
-abbrev pub changed : Stage → ℕ → Node → ℕ → Stage
-changed st a n under = record { nodes = set (st .nodes) a n; size = st .size; under = under }
-
 -- nothing has changed
 abbrev pub unchanged : Stage → List Item → List ℕ → ℕ → ℕ → Turn
 unchanged st items bytes actor answer =
     record { stage = st; items = items; bytes = bytes; actor = actor; answer = answer }
 
--- crowded: "places for items are too few"
+-- too few places are left (rule S7)
 abbrev pub crowded : Stage → List Item → List ℕ → ℕ → Turn
 crowded st items bytes actor = unchanged st items bytes actor (number Refusal.crowded)
 
-abbrev pub workItem : ℕ → ℕ → Node → Item
-workItem a b n = record { from = a; to = b; kind = 0; phase = n .phase }
-
-abbrev pub frameItem : ℕ → ℕ → Node → Item
-frameItem a b n = record { from = a; to = b; kind = 1; phase = n .phase }
-
--- the frame at a place: as long as its head says
-abbrev pub frameAt : Stage → List ℕ → ℕ → List ℕ
-frameAt st bytes place =
-    let part = drop (placeSize * place) bytes in
-    take (frameLength (dimension (st .size)) (getD part 0 0) (getD part 2 0)) part
-
 module _ (st : Stage) (items : List Item) (bytes : List ℕ) where
-  -- ---- "s a b (a sends work to b)"
+  -- ---- s a b: a sends work to b
 
-  abbrev pub sentBy : ℕ → ℕ → Given Outcome → Outcome → Turn
+  abbrev pub sentBy : ℕ → ℕ → Kept Outcome → Outcome → Turn
   sentBy a b r done =
       choose (ltb (st .under) (roomFor (length items) bytes))
       (record {
-        stage = changed st a (r .node) (st .under + 1);
+        stage = changed st a (r .state) (st .under + 1);
         items = set items (st .under) (workItem a b (nodeAt st a));
         bytes = bytes;
         actor = a;
@@ -79,25 +55,25 @@ module _ (st : Stage) (items : List Item) (bytes : List ℕ) where
   sentBy a b r (refused x) = unchanged st items bytes a x
 
   unfoldable pub sendTurn : ℕ → ℕ → Turn
-  sendTurn a b = let r = send base (nodeAt st a) b in sentBy a b r (r .answer)
+  sendTurn a b = let r = onState (λ n. send base n b) (stateAt st a) in sentBy a b r (r .answer)
 
-  -- ---- "i a (idle)"
+  -- ---- i a: idle call
 
   unfoldable pub idleTurn : ℕ → Turn
   idleTurn a =
-      let r = idle base (nodeAt st a) in
+      let r = onState (idle base) (stateAt st a) in
       record {
-        stage = changed st a (r .node) (st .under);
+        stage = changed st a (r .state) (st .under);
         items = items;
         bytes = bytes;
         actor = a;
         answer = outcomeNumber (r .answer);
       }
 
-  -- ---- "b a (barrier call)", with the 76 bytes of a place
+  -- ---- b a: barrier call, with the 76 bytes of a place
 
   -- the frame goes to one receiver, or to two
-  abbrev pub framedTo : ℕ → Node → List ℕ → List ℕ → Turn
+  abbrev pub framedTo : ℕ → State → List ℕ → List ℕ → Turn
   framedTo a after frame [] = unchanged st items bytes a 20
   framedTo a after frame (b ∷ []) =
       choose (ltb (st .under) (roomFor (length items) bytes))
@@ -120,38 +96,39 @@ module _ (st : Stage) (items : List Item) (bytes : List ℕ) where
       })
       (crowded st items bytes a)
 
-  abbrev pub calledBy : ℕ → Given Barrier → Barrier → Turn
+  abbrev pub calledBy : ℕ → Kept Barrier → Barrier → Turn
   calledBy a r (sent to length) =
-      framedTo a (r .node) (frameBytes (dims (nodeAt st a)) (frameDue (nodeAt st a))) to
-  calledBy a r waits = unchanged (changed st a (r .node) (st .under)) items bytes a 21
-  calledBy a r moved = unchanged (changed st a (r .node) (st .under)) items bytes a 22
-  calledBy a r left = unchanged (changed st a (r .node) (st .under)) items bytes a 23
+      framedTo a (r .state) (frameBytes (dims (nodeAt st a)) (frameDue (nodeAt st a))) to
+  calledBy a r waits = unchanged (changed st a (r .state) (st .under)) items bytes a 21
+  calledBy a r moved = unchanged (changed st a (r .state) (st .under)) items bytes a 22
+  calledBy a r left = unchanged (changed st a (r .state) (st .under)) items bytes a 23
   calledBy a r (barred x) = unchanged st items bytes a x
 
   unfoldable pub callTurn : ℕ → Turn
-  callTurn a = let r = barrier base (nodeAt st a) placeSize in calledBy a r (r .answer)
+  callTurn a = let r = stepOn (stateAt st a) placeSize in calledBy a r (r .answer)
 
-  -- ---- "d a b (the oldest item from a reaches b)"
+  -- ---- d a b: the oldest item from a reaches b (rule S8)
 
   -- the call at b for the item at a place
-  abbrev pub called : ℕ → ℕ → ℕ → Given Outcome
+  abbrev pub called : ℕ → ℕ → ℕ → Kept Outcome
   called a b at =
-      choose (eqb (getD items at noItem .kind) 0) (takeCall base (nodeAt st b) a (getD items at noItem .phase))
-      (frameIn base (nodeAt st b) (frameAt st bytes at))
+      choose (eqb (getD items at noItem .kind) 0)
+      (onState (λ n. takeCall base n a (getD items at noItem .phase)) (stateAt st b))
+      (onState (λ n. frameIn base n (frameHeld (st .size) bytes at)) (stateAt st b))
 
-  -- "an early item stays and gives 7"; any other leaves the list
-  abbrev pub deliveredAt : ℕ → ℕ → Given Outcome → ℕ → Turn
+  -- an early item stays; any other leaves the list
+  abbrev pub deliveredAt : ℕ → ℕ → Kept Outcome → ℕ → Turn
   deliveredAt b at r answer =
       choose (eqb answer 7) (unchanged st items bytes b 7)
       (record {
-        stage = changed st b (r .node) (st .under - 1);
+        stage = changed st b (r .state) (st .under - 1);
         items = removed items (st .under) at;
         bytes = closed bytes (st .under) at;
         actor = b;
         answer = answer;
       })
 
-  -- "d with nothing there gives 16"
+  -- nothing on the link is 16
   unfoldable pub deliverTurn : ℕ → ℕ → Turn
   deliverTurn a b =
       let at = oldestAt items (st .under) a b in

@@ -1,4 +1,2 @@
-pub mod Frames
 pub mod Events
 pub mod Acts
-pub mod Pieces

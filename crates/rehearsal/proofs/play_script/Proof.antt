@@ -52,33 +52,33 @@ use Rattle.text.specs.Text.{put, ends}
 use Rattle.items.specs.declared.Item.{Item}
 use Rattle.items.proofs.Item as ItemT
 use Rattle.script.proofs.Parsed.Laws as ParsedL
-use Rattle.turns.specs.declared.Stage.{Stage}
-use Rattle.turns.proofs.Stage as StageT
-use Rattle.turns.proofs.Stage.Laws as StageL
-use Rattle.turns.proofs.Acted.Laws as ActedL
-use Rattle.rehearsal.specs.declared.Opened.{Opened}
-use Rattle.rehearsal.proofs.Opened.Laws as OpenedL
+use Rattle.stage.specs.declared.Stage.{Stage}
+use Rattle.stage.proofs.Stage as StageT
+use Rattle.stage.proofs.Stage.Laws as StageL
+use Rattle.stage.proofs.Acted.Laws as ActedL
+use Rattle.opening.specs.declared.Opened.{Opened}
+use Rattle.opening.proofs.Opened.Laws as OpenedL
 use Rattle.rehearsal.proofs.Values.{opened-fit, stage-fit, parsed-fit, acted-stage, typed-stage, typed-acted}
 use Rattle.rehearsal.proofs.Values.{typed-parsed, typed-opened}
 use Rattle.rehearsal.proofs.Played.{Inv, goal, start, again, finish}
 use Rattle.rehearsal.proofs.Does.{OpenScript, PutOpening, NextLine, PutLine, open-script-does, put-opening-does}
 use Rattle.rehearsal.proofs.Does.{next-line-does, put-line-does}
 use Rattle.rehearsal.proofs.Steps.{Step, step-does}
-use Rattle.rehearsal.proofs.open_script.Symbol as open-script-def
-use Rattle.rehearsal.proofs.open_script.Symbol.{name as #rehearsal·open-script}
-use Rattle.rehearsal.proofs.open_script.Met as open-script-thm
-use Rattle.rehearsal.proofs.put_opening.Symbol as put-opening-def
-use Rattle.rehearsal.proofs.put_opening.Symbol.{name as #rehearsal·put-opening}
-use Rattle.rehearsal.proofs.put_opening.Met as put-opening-thm
-use Rattle.rehearsal.proofs.next_line.Symbol as next-line-def
-use Rattle.rehearsal.proofs.next_line.Symbol.{name as #rehearsal·next-line}
-use Rattle.rehearsal.proofs.next_line.Met as next-line-thm
+use Rattle.opening.proofs.open_script.Symbol as open-script-def
+use Rattle.opening.proofs.open_script.Symbol.{name as #opening·open-script}
+use Rattle.opening.proofs.open_script.Met as open-script-thm
+use Rattle.opening.proofs.put_opening.Symbol as put-opening-def
+use Rattle.opening.proofs.put_opening.Symbol.{name as #opening·put-opening}
+use Rattle.opening.proofs.put_opening.Met as put-opening-thm
+use Rattle.lines.proofs.next_line.Symbol as next-line-def
+use Rattle.lines.proofs.next_line.Symbol.{name as #lines·next-line}
+use Rattle.lines.proofs.next_line.Met as next-line-thm
 use Rattle.rehearsal.proofs.step.Symbol as step-def
 use Rattle.rehearsal.proofs.step.Symbol.{name as #rehearsal·step}
 use Rattle.rehearsal.proofs.step.Met as step-thm
-use Rattle.rehearsal.proofs.put_line.Symbol as put-line-def
-use Rattle.rehearsal.proofs.put_line.Symbol.{name as #rehearsal·put-line}
-use Rattle.rehearsal.proofs.put_line.Met as put-line-thm
+use Rattle.lines.proofs.put_line.Symbol as put-line-def
+use Rattle.lines.proofs.put_line.Symbol.{name as #lines·put-line}
+use Rattle.lines.proofs.put_line.Met as put-line-thm
 use Rattle.rehearsal.proofs.play_script.Key.{name as #rehearsal·play-script}
 use Rattle.rehearsal.proofs.play_script as play-script
 use Rattle.rehearsal.proofs.play_script.Statement as stated
@@ -181,11 +181,11 @@ module _ {M : Type 1} (𝓤 : URA M) (H : Heap 𝓤) (A : Atoms 𝓤) (W : Given
       owned ! usize (Is usize) (uint-makes 𝓤 H A W w64) r _ (refl, r-fits) $ nothing ! $ move ! (5 ∷ 0 ∷ []) $ fjoin ! $
       move ! (4 ∷ 0 ∷ []) $ fjoin ! $ move ! (3 ∷ 0 ∷ []) $ fjoin ! $ move ! (2 ∷ 0 ∷ []) $ fjoin ! $ done !
 
-  module _ (𝓣 : Tables 𝓤 H) (known-open-script : Triple 𝓤 (𝓣 .C #rehearsal·open-script) (OpenScript 𝓤 H A mem run))
-      (known-put-opening : Triple 𝓤 (𝓣 .C #rehearsal·put-opening) (PutOpening 𝓤 H A mem run))
-      (known-next-line : Triple 𝓤 (𝓣 .C #rehearsal·next-line) (NextLine 𝓤 H A mem run))
+  module _ (𝓣 : Tables 𝓤 H) (known-open-script : Triple 𝓤 (𝓣 .C #opening·open-script) (OpenScript 𝓤 H A mem run))
+      (known-put-opening : Triple 𝓤 (𝓣 .C #opening·put-opening) (PutOpening 𝓤 H A mem run))
+      (known-next-line : Triple 𝓤 (𝓣 .C #lines·next-line) (NextLine 𝓤 H A mem run))
       (known-step : Triple 𝓤 (𝓣 .C #rehearsal·step) (Step 𝓤 H A mem run))
-      (known-put-line : Triple 𝓤 (𝓣 .C #rehearsal·put-line) (PutLine 𝓤 H A mem run))
+      (known-put-line : Triple 𝓤 (𝓣 .C #lines·put-line) (PutLine 𝓤 H A mem run))
       (room₀ : Room ItemT.the-row (length items)) (room₁ : Room u8 (length bytes)) (room₂ : Room u8 (length out))
       (room₃ : Room u8 (length script)) where
     abbrev C : Calls 𝓤 H
@@ -263,7 +263,7 @@ module _ {M : Type 1} (𝓤 : URA M) (H : Heap 𝓤) (A : Atoms 𝓤) (W : Given
           stays ! (loc ! 20 refl) $
           -- let told = next_line(script, at, st.size)
           move ! (6 ∷ 7 ∷ []) $ calls-shared ! fm u8 κ₃ q₃ γ₃ b₃ o₃ (s₃ ∷ []) script
-          (next-line-does 𝓤 H A W mem run C fm #rehearsal·next-line known-next-line b₃ o₃ script s₃ at (st .size)
+          (next-line-does 𝓤 H A W mem run C fm #lines·next-line known-next-line b₃ o₃ script s₃ at (st .size)
           (h .at-fits) (stage-fit st (h .is-st)))
           (λ _ _. and-then ! (loc ! 42 refl) (and-then ! (loc ! 34 refl)
           (and-then ! (fieldv ! 36 1 refl refl refl) (no-more !)))) (λ told told-is is-told.
@@ -287,7 +287,7 @@ module _ {M : Type 1} (𝓤 : URA M) (H : Heap 𝓤) (A : Atoms 𝓤) (W : Given
           lets ! (agg ! (and-then ! (loc ! 10 refl) (and-then ! (fieldv ! 44 1 refl refl refl) (no-more !)))) 8 refl
           (tt, (tt, (record { fits = room₂ .0 }, tt))) $
           move ! (4 ∷ 5 ∷ []) $ calls-lent ! fm u8 κ₂ q₂ γ₂ b₂ o₂ (s₂ ∷ []) zs₂
-          (put-line-does 𝓤 H A W mem run C fm #rehearsal·put-line known-put-line b₂ o₂ zs₂ s₂ printed (told .line) r
+          (put-line-does 𝓤 H A W mem run C fm #lines·put-line known-put-line b₂ o₂ zs₂ s₂ printed (told .line) r
           count (h .printed-fits) (parsed-fit told is-told .0) is-r (h .count-fits))
           (λ _ _. and-then ! (loc ! 8 refl) (and-then ! (loc ! 38 refl)
           (and-then ! (fieldv ! 30 0 refl refl refl) (and-then ! (loc ! 28 refl)
@@ -406,7 +406,7 @@ module _ {M : Type 1} (𝓤 : URA M) (H : Heap 𝓤) (A : Atoms 𝓤) (W : Given
         pass1 ! (init ! 42 refl (tt, (tt, (record { fits = room₃ .0 }, tt)))) $ pass0 ! $
         -- let o = open_script(script)
         move ! (6 ∷ 7 ∷ []) $ calls-shared ! fm u8 κ₃ q₃ γ₃ b₃ o₃ (s₃ ∷ []) script
-        (open-script-does 𝓤 H A W mem run C fm #rehearsal·open-script known-open-script b₃ o₃ script s₃)
+        (open-script-does 𝓤 H A W mem run C fm #opening·open-script known-open-script b₃ o₃ script s₃)
         (λ _ _. and-then ! (loc ! 42 refl) (no-more !)) (λ opening′ o-is is-o.
         lands-in ! 40 refl (typed-opened 𝓤 H A W opening′ is-o) $ move ! (2 ∷ 3 ∷ 4 ∷ 5 ∷ 6 ∷ 7 ∷ []) $
         -- let printed = put_opening(out, o.why, o.line)
@@ -414,7 +414,7 @@ module _ {M : Type 1} (𝓤 : URA M) (H : Heap 𝓤) (A : Atoms 𝓤) (W : Given
         lets ! (agg ! (and-then ! (loc ! 26 refl) (and-then ! (fieldv ! 44 1 refl refl refl) (no-more !)))) 24 refl
         (tt, (tt, (record { fits = room₂ .0 }, tt))) $
         move ! (4 ∷ 5 ∷ []) $ calls-lent ! fm u8 κ₂ q₂ γ₂ b₂ o₂ (s₂ ∷ []) out
-        (put-opening-does 𝓤 H A W mem run C fm #rehearsal·put-opening known-put-opening b₂ o₂ out s₂ (opening′ .why)
+        (put-opening-does 𝓤 H A W mem run C fm #opening·put-opening known-put-opening b₂ o₂ out s₂ (opening′ .why)
         (opening′ .line) (opened-fit opening′ is-o .1 .1 .0) (opened-fit opening′ is-o .1 .1 .1))
         (λ _ _. and-then ! (loc ! 24 refl) (and-then ! (fieldv ! 40 2 refl refl refl)
         (and-then ! (fieldv ! 40 3 refl refl refl) (no-more !)))) (λ printed zs₂ l₂′ w is-p.
@@ -439,10 +439,10 @@ module _ {M : Type 1} (𝓤 : URA M) (H : Heap 𝓤) (A : Atoms 𝓤) (W : Given
     (run : Routine → Fun 𝓤) where
   -- that the callees meet their contracts
   abbrev Known : Calls 𝓤 H → Type 1
-  Known C = Triple 𝓤 (C #rehearsal·open-script) (OpenScript 𝓤 H A mem run) ×
-      (Triple 𝓤 (C #rehearsal·put-opening) (PutOpening 𝓤 H A mem run) ×
-      (Triple 𝓤 (C #rehearsal·next-line) (NextLine 𝓤 H A mem run) ×
-      (Triple 𝓤 (C #rehearsal·step) (Step 𝓤 H A mem run) × Triple 𝓤 (C #rehearsal·put-line) (PutLine 𝓤 H A mem run))))
+  Known C = Triple 𝓤 (C #opening·open-script) (OpenScript 𝓤 H A mem run) ×
+      (Triple 𝓤 (C #opening·put-opening) (PutOpening 𝓤 H A mem run) ×
+      (Triple 𝓤 (C #lines·next-line) (NextLine 𝓤 H A mem run) ×
+      (Triple 𝓤 (C #rehearsal·step) (Step 𝓤 H A mem run) × Triple 𝓤 (C #lines·put-line) (PutLine 𝓤 H A mem run))))
 
   play-script-walks : (𝓣 : Tables 𝓤 H) → Known (𝓣 .C) → Walks 𝓤 H A play-script.ended stayed
       (WpFn 𝓤 H (𝓣 .C) (𝓣 .Λ) code.function) (play-script.clauses 𝓤 H A mem run)
@@ -488,19 +488,19 @@ play-script-spec 𝓤 H 𝓜 𝓖 𝓡 =
     (tables 𝓤 H 𝓜 𝓡 code.env .C) (tables 𝓤 H 𝓜 𝓡 code.env .Λ) #rehearsal·play-script code.function
     (code.unfolded 𝓤 H 𝓜 𝓡)
     (play-script-meets 𝓤 H (𝓖 .A) (givenOf 𝓤 H 𝓜 𝓖) (𝓜 .mem) (𝓡 .run) (tablesOf 𝓤 H 𝓜 (tables 𝓤 H 𝓜 𝓡 code.env)) (
-      cited 𝓤 H (OpenScript 𝓤 H (𝓖 .A) (𝓜 .mem) (𝓡 .run)) 𝓜 𝓡 code.env #rehearsal·open-script open-script-def.routine
-          code.calls-rehearsal·open-script (open-script-thm.met 𝓤 H 𝓜 𝓖 𝓡),
+      cited 𝓤 H (OpenScript 𝓤 H (𝓖 .A) (𝓜 .mem) (𝓡 .run)) 𝓜 𝓡 code.env #opening·open-script open-script-def.routine
+          code.calls-opening·open-script (open-script-thm.met 𝓤 H 𝓜 𝓖 𝓡),
       (
-        cited 𝓤 H (PutOpening 𝓤 H (𝓖 .A) (𝓜 .mem) (𝓡 .run)) 𝓜 𝓡 code.env #rehearsal·put-opening put-opening-def.routine
-            code.calls-rehearsal·put-opening (put-opening-thm.met 𝓤 H 𝓜 𝓖 𝓡),
+        cited 𝓤 H (PutOpening 𝓤 H (𝓖 .A) (𝓜 .mem) (𝓡 .run)) 𝓜 𝓡 code.env #opening·put-opening put-opening-def.routine
+            code.calls-opening·put-opening (put-opening-thm.met 𝓤 H 𝓜 𝓖 𝓡),
         (
-          cited 𝓤 H (NextLine 𝓤 H (𝓖 .A) (𝓜 .mem) (𝓡 .run)) 𝓜 𝓡 code.env #rehearsal·next-line next-line-def.routine
-              code.calls-rehearsal·next-line (next-line-thm.met 𝓤 H 𝓜 𝓖 𝓡),
+          cited 𝓤 H (NextLine 𝓤 H (𝓖 .A) (𝓜 .mem) (𝓡 .run)) 𝓜 𝓡 code.env #lines·next-line next-line-def.routine
+              code.calls-lines·next-line (next-line-thm.met 𝓤 H 𝓜 𝓖 𝓡),
           (
             cited 𝓤 H (Step 𝓤 H (𝓖 .A) (𝓜 .mem) (𝓡 .run)) 𝓜 𝓡 code.env #rehearsal·step step-def.routine
                 code.calls-rehearsal·step (step-thm.met 𝓤 H 𝓜 𝓖 𝓡),
             cited 𝓤 H (PutLine 𝓤 H (𝓖 .A) (𝓜 .mem) (𝓡 .run)) 𝓜 𝓡
-                code.env #rehearsal·put-line put-line-def.routine code.calls-rehearsal·put-line
+                code.env #lines·put-line put-line-def.routine code.calls-lines·put-line
                 (put-line-thm.met 𝓤 H 𝓜 𝓖 𝓡),
           ),
         ),

@@ -1,7 +1,7 @@
 -- `put_turn` puts the line of an event, field after field.
 use borrow.Author.Needs.{needs}
 use Rattle.text.proofs.Putting.{then, said}
-use Rattle.text.proofs.Lines.{turn-text}
+use Rattle.text.proofs.Lines.{row-text}
 use Rattle.text.proofs.put_turn.Statement.{statement}
 use Rattle.text.proofs.put_turn.Tie as tie
 
@@ -9,22 +9,20 @@ returns : tie.Need-returns
 returns c =
     let bits = c .before .before in
     let dim = bits .before .before .before .before in
-    let pass = dim .before .before .before .before .before in
-    let phase = pass .before .before .before .before .before in
-    let answer = phase .before .before .before .before .before in
+    let pass = dim .before .before .before .before in
+    let phase = pass .before .before .before .before in
+    let answer = phase .before .before .before .before in
     let actor = answer .before .before .before .before in
     let two = then _ _ _ _ _ _ _ _ (actor .put-field .ensures) (answer .put-field2 .ensures) in
     let three = then _ _ _ _ _ _ _ _ two (phase .put-field3 .ensures) in
     let four = then _ _ _ _ _ _ _ _ three (pass .put-field4 .ensures) in
     let five = then _ _ _ _ _ _ _ _ four (dim .put-field5 .ensures) in
     said _ _ _ _ _ _
-    (turn-text _ _ _ _ _ _ (phase .before .wide .ensures) (pass .before .wide2 .ensures)
-    (dim .before .wide3 .ensures))
+    (row-text _ _ _ _ _ _ _)
     (then _ _ _ _ _ _ _ _ five (bits .put-bits .ensures))
 
 pub put-turn-spec : {M : Type 1} → statement M
 put-turn-spec =
     tie.close
     (tie.spec (λ c κs. search needs) (λ c κs. search needs) (λ c κs. search needs) (λ c κs. search needs)
-    (λ c κs. search needs) (λ c κs. search needs) (λ c κs. search needs) (λ c κs. search needs) (λ c κs. search needs)
-    (λ c. search needs) returns)
+    (λ c κs. search needs) (λ c κs. search needs) (λ c. search needs) returns)

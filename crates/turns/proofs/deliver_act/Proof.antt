@@ -2,14 +2,15 @@
 use borrow.Author.Needs.{needs}
 use native.Mathlib.Omega.{arith}
 use mathlib.Core.Path.{_≡_, refl, sym, _∙_}
-use Prim.Native.Nat.{_≤_, _<_, _*_}
 use mathlib.Core.Bool.{true}
+use Prim.Native.Nat.{_/_, _≤_}
 use lib.ListN.{length}
-use borrow.Author.Tests.{not-true, not-false}
-use Rattle.turns.specs.Acts.{isThere}
-use Rattle.turns.specs.Frames.{placeSize}
-use Rattle.turns.proofs.Acting.{put-same, deliver-none, deliver-early, deliver-off, there-known}
-use Rattle.node.specs.Answers.{replied}
+use borrow.Author.Tests.{lt-ltb, le-leb, not-true, not-false}
+use Rattle.base.proofs.Laws.{choose-yes, both-make}
+use Rattle.states.specs.On.{replied}
+use Rattle.stage.specs.Frames.{placeSize}
+use Rattle.stage.specs.Board.{isThere, quiet}
+use Rattle.turns.proofs.Acting.{one-off, deliver-none, deliver-early, deliver-off, there-known}
 use Rattle.turns.proofs.deliver_act.Statement.{statement}
 use Rattle.turns.proofs.deliver_act.Tie as tie
 
@@ -28,20 +29,10 @@ there c =
     let x = told .before .before .args in
     sym (told .is-there .ensures (x .bytes .now) refl) ∙ not-false _ (c .if1 .left)
 
--- it is one of those under way, and they are lent
-inside : (c : tie.Else1)
-    → let x = c .before .before .before .args in
-    (x .at < x .st .under) × (placeSize * x .st .under ≤ length (x .bytes .now))
-inside c =
-    let x = c .before .before .before .args in
-    let k = there-known (x .st) (x .headers) (x .bytes .now) (x .at) (x .it) (there c) in
-    (k .0, omega arith)
-
 item-call-requires : tie.Need-item-call-requires
 item-call-requires c κs =
     let x = c .before .before .before .before .args in
     let k = there-known (x .st) (x .headers) (x .bytes .now) (x .at) (x .it) (there (c .before)) in
-    let i = inside (c .before) in
     (k .2, omega arith)
 
 returns-2 : tie.Need-returns-2
@@ -55,32 +46,38 @@ returns-2 c =
     (there e) (sym (r .item-call .ensures)) (sym (n .number-of .ensures) ∙ c .before .if2 .taken) in
     (c .quiet2 .ensures ∙ sym (d .0), sym (d .1))
 
-close-gap-requires : tie.Need-close-gap-requires
-close-gap-requires c κs = let i = inside (c .before .before .before .before .before .before) in (i .0, i .1)
-
-sub-with-node : tie.Need-sub-with-node
-sub-with-node c =
-    let i = inside (c .before .before .before .before .before .before .before .before .before .before) in omega arith
+sub-with-state : tie.Need-sub-with-state
+sub-with-state c =
+    let e = c .before .before .before .before .before .before .before .before .before in
+    let x = e .before .before .before .args in
+    let k = there-known (x .st) (x .headers) (x .bytes .now) (x .at) (x .it) (there e) in omega arith
 
 returns-3 : tie.Need-returns-3
 returns-3 c =
-    let gap = c .before .before .before .before in
+    let board = c .before in
+    let gap = board .before .before .before in
     let else = gap .before .before in
     let n = else .before in
     let r = n .before .before in
     let e = r .before .before in
     let x = e .before .before .before .args in
+    let k = there-known (x .st) (x .headers) (x .bytes .now) (x .at) (x .it) (there e) in
+    let l : x .st .under ≤ length (x .bytes .now) / placeSize = omega arith in
     let d =
     deliver-off (x .st) (x .headers) (x .bytes .now) (x .at) (x .it) (x .a) (x .b) (replied (r .item-call .result))
     (there e) (sym (r .item-call .ensures)) (λ q. else .if2 .left (n .number-of .ensures ∙ q)) in (
-      put-same _ _ _ _ (c .with-node .ensures) (n .number-of .ensures) (c .before .no-item .ensures)
-          (c .before .no-item .ensures) ∙ sym (d .0),
-      gap .close-gap .ensures ∙ sym (d .1),
+      one-off (x .st) (x .headers) (x .bytes .now) _ (x .b) _ (x .at) _
+          (c .quiet3 .ensures
+          ∙ (λ i. quiet (x .st) (x .headers) (board .with-state .ensures i) (x .b) (n .number-of .ensures i)))
+          ∙ sym (d .0),
+      gap .close-gap .ensures
+          ∙ choose-yes _ _ (both-make (lt-ltb _ _ (k .0)) (le-leb _ _ l))
+          ∙ sym (d .1),
     )
 
 pub deliver-act-spec : {M : Type 1} → statement M
 deliver-act-spec =
     tie.close
     (tie.spec (λ c κs. search needs) (λ c κs. search needs) returns item-call-requires (λ c κs. search needs)
-    (λ c κs. search needs) (λ c. search needs) returns-2 close-gap-requires (λ c κs. search needs) sub-with-node
+    (λ c κs. search needs) (λ c. search needs) returns-2 (λ c κs. search needs) sub-with-state (λ c κs. search needs)
     (λ c κs. search needs) (λ c. search needs) returns-3)

@@ -3,11 +3,10 @@ use borrow.Author.Needs.{needs}
 use mathlib.Core.Path.{_≡_, sym, ap, _∙_}
 use mathlib.Core.List.{[]}
 use Rattle.base.specs.Limits.{base}
-use Rattle.node.specs.Answers.{replied}
 use Rattle.node.specs.Calls.{idle}
+use Rattle.states.specs.On.{onState, replied}
 use Rattle.items.specs.Places.{noItem}
-use Rattle.turns.specs.Events.{nodeAt}
-use Rattle.turns.specs.Pieces.{still}
+use Rattle.stage.specs.Board.{stateAt, quiet}
 use Rattle.turns.proofs.Acting.{idle-by}
 use Rattle.turns.proofs.idle_act.Statement.{statement}
 use Rattle.turns.proofs.idle_act.Tie as tie
@@ -17,10 +16,10 @@ returns c =
     let board = c .before .before in
     let asked = board .before .before in
     let x = asked .before .before .args in
-    let e : idle base (nodeAt (x .st) (x .a)) ≡ replied (asked .go-idle .result) =
-    ap (idle base) (sym (asked .before .node-at .ensures .0)) ∙ sym (asked .go-idle .ensures) in
+    let e : onState (idle base) (stateAt (x .st) (x .a)) ≡ replied (asked .go-idle .result) =
+    ap (onState (idle base)) (sym (asked .before .state-at .ensures .0)) ∙ sym (asked .go-idle .ensures) in
     c .quiet .ensures
-    ∙ (λ i. still (x .st .under) (x .headers) (board .with-node .ensures i) (x .a) (c .before .number-of .ensures i))
+    ∙ (λ i. quiet (x .st) (x .headers) (board .with-state .ensures i) (x .a) (c .before .number-of .ensures i))
     ∙ sym (idle-by (x .st) (x .headers) [] 0 noItem (x .a) _ e)
 
 pub idle-act-spec : {M : Type 1} → statement M

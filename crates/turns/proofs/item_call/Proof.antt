@@ -5,7 +5,8 @@ use borrow.Author.Tests.{eq-eqb, ne-eqb}
 use Rattle.base.specs.Limits.{base}
 use Rattle.base.proofs.Laws.{choose-yes, choose-no}
 use Rattle.node.specs.Calls.{take as takeCall, frameIn}
-use Rattle.turns.specs.Events.{frameAt}
+use Rattle.states.specs.On.{onState}
+use Rattle.stage.specs.Frames.{frameHeld}
 use Rattle.turns.proofs.item_call.Statement.{statement}
 use Rattle.turns.proofs.item_call.Tie as tie
 
@@ -14,7 +15,7 @@ returns c =
     let n = c .before .before .before in
     let x = n .before .before .args in
     c .take-from .ensures
-    ∙ ap (λ m. takeCall base m (x .a) (x .it .phase)) (n .node-at .ensures .0)
+    ∙ ap (onState (λ m. takeCall base m (x .a) (x .it .phase))) (n .state-at .ensures .0)
     ∙ sym (choose-yes _ _ (eq-eqb _ _ (c .before .if1 .taken)))
 
 returns-2 : tie.Need-returns-2
@@ -22,7 +23,7 @@ returns-2 c =
     let n = c .before .before .before in
     let x = n .before .before .args in
     c .frame-call .ensures
-    ∙ ap (λ m. frameIn base m (frameAt (x .st) (x .bytes .now) (x .at))) (n .node-at .ensures .0)
+    ∙ ap (onState (λ m. frameIn base m (frameHeld (x .st .size) (x .bytes .now) (x .at)))) (n .state-at .ensures .0)
     ∙ sym (choose-no _ _ (ne-eqb _ _ (c .before .if1 .left)))
 
 pub item-call-spec : {M : Type 1} → statement M

@@ -1,0 +1,16 @@
+-- `link_of` is `endsOf`.
+use mathlib.Core.Path.{sym, ap}
+use borrow.Author.Needs.{needs}
+use Rattle.lines.specs.Told.{endsOf}
+use Rattle.lines.proofs.Tags.{no-link}
+use Rattle.lines.proofs.link_of.Statement.{statement}
+use Rattle.lines.proofs.link_of.Tie as tie
+
+returns : tie.Need-returns
+returns c = sym (ap endsOf (c .before .line .given .1))
+
+returns-2 : tie.Need-returns-2
+returns-2 c = sym (no-link (c .before .args .line) (c .match .keys2))
+
+pub link-of-spec : {M : Type 1} → statement M
+link-of-spec = tie.close (tie.spec (λ c. search needs) (λ c. search needs) (λ c. search needs) returns returns-2)

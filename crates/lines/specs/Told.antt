@@ -1,0 +1,45 @@
+-- A line of a script after the first, as the player takes it.
+use mathlib.Core.Bool.{Bool, true, false}
+use mathlib.Core.List.{List}
+use Prim.Native.Nat.{ℕ, _%_}
+use lib.Dec.{ltb}
+use lib.ListN.{length}
+use Rattle.base.specs.Choice.{choose, both}
+use Rattle.script.specs.Script.{lineAt}
+use Rattle.script.specs.declared.Line.{Line}
+use Rattle.script.specs.declared.Line.the-variants.{Nodes, Sends, Delivers, Idles, Calls, Bad}
+use Rattle.script.specs.declared.Parsed.{Parsed}
+use Rattle.lines.specs.declared.Ends.{Ends}
+
+-- the line as a board of so many nodes takes it
+abbrev pub taken : ℕ → Line → Line
+taken size (Nodes P) = Bad
+taken size (Sends a b) = choose (both (ltb a size) (ltb b size)) (Sends a b) Bad
+taken size (Delivers a b) = choose (both (ltb a size) (ltb b size)) (Delivers a b) Bad
+taken size (Idles a) = choose (ltb a size) (Idles a) Bad
+taken size (Calls a) = choose (ltb a size) (Calls a) Bad
+taken size Bad = Bad
+
+abbrev pub stops : Line → Bool
+stops (Nodes P) = true
+stops (Sends a b) = false
+stops (Delivers a b) = false
+stops (Idles a) = false
+stops (Calls a) = false
+stops Bad = true
+
+-- after a line that stops the play there is none
+unfoldable pub toldAt : List ℕ → ℕ → ℕ → Parsed
+toldAt script at size =
+    let p = lineAt script at in
+    let line = taken size (p .line) in
+    record { line = line; next = choose (stops line) (length script) (p .next) }
+
+-- the ends of the link that it delivers on, as bytes
+abbrev pub endsOf : Line → Ends
+endsOf (Nodes P) = record { from = 0; to = 0 }
+endsOf (Sends a b) = record { from = 0; to = 0 }
+endsOf (Delivers a b) = record { from = a % 256; to = b % 256 }
+endsOf (Idles a) = record { from = 0; to = 0 }
+endsOf (Calls a) = record { from = 0; to = 0 }
+endsOf Bad = record { from = 0; to = 0 }

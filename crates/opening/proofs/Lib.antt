@@ -1,0 +1,4 @@
+pub mod Tags
+pub mod Starts
+pub mod Texts
+pub mod Sizes

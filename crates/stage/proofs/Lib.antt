@@ -1,0 +1,4 @@
+pub mod Board
+pub mod Parts
+pub mod There
+pub mod Lines
