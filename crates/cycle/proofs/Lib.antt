@@ -1,4 +1,4 @@
--- Demand 3 apart from bytes and states. Sums and lists; what is asked of the tree.
+-- The claim about runs apart from bytes and states. Sums and lists; what is asked of the tree.
 pub mod Sums
 pub mod Lists
 pub mod Tree

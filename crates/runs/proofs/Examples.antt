@@ -1,4 +1,4 @@
--- Document 01's worked script and the trap of four nodes come out of the definitions by computation.
+-- The worked script (rule S10) and the trap of four nodes (rule P7) come out of the definitions by computation.
 use mathlib.Core.Path.{_≡_, refl}
 use mathlib.Core.Bool.{true}
 use mathlib.Core.List.{List, [], _∷_}
@@ -17,8 +17,7 @@ use Rattle.node.specs.Barrier.{frameDue, barrier}
 use Rattle.runs.specs.Board.{Board, Event, sends, idles, calls, delivers, start, step, run}
 use Rattle.runs.specs.Printed.{line, lines}
 
--- "Script, its lines parted here by commas: nodes 2, i 0, b 0, i 1, d 0 1, b 1, b 1, b 1, d 1 0, b 0, b 0, d 1 0, b 0,
--- d 0 1, b 1."
+-- the lines of scripts/worked after the first, on a board of two
 abbrev script : List Event
 script =
     idles 0
@@ -37,7 +36,7 @@ script =
     ∷ calls 1 76
     ∷ []
 
--- "Output whole"
+-- and the lines that are printed for them
 pub worked : lines 2 (start 2) script ≡
     (0 ∷ 0 ∷ 0 ∷ 1 ∷ 0 ∷ 1 ∷ 0 ∷ [])
     ∷ (0 ∷ 20 ∷ 0 ∷ 1 ∷ 0 ∷ 0 ∷ 0 ∷ [])
@@ -61,9 +60,9 @@ unfolding smallestFrom dimension part runBelow runOf placeIn place awaited recei
     frameIn frameDue barrier step
 worked = refl
 
--- "P 4: 2 signs in with zeros; 1 sends to 2 (slow), signs in to 0; 3 sends to 1; 1 wakes, sends to 3; 3 takes it, goes
--- idle and signs in to 2; 2 passes dimension 0 and sends to 0; then the slow message reaches 2, which sends work to 0.
--- Node 0 takes it, goes idle, passes dimension 0 and now sees 1 against 1 both ways while 1 is busy."
+-- On a board of four, node 1 sends 2 a message that is slow, and signs in to 0. Node 3 wakes 1, takes work from it, and
+-- signs in to 2, which has signed in before and moves on. Then the slow message wakes 2, and 2 sends work to 0. So the
+-- sums that meet in node 0 are of different moments: they agree while node 1 is busy.
 abbrev trap : List Event
 trap =
     idles 2
@@ -96,7 +95,7 @@ trap =
 abbrev trapped : Board
 trapped = run base 4 trap
 
--- "Here it may move to pass 2 with T = 2 and must wait there."
+-- node 0 is in pass 2 with T = 2, and waits there
 pub in-the-trap :
     (line 0 (barrierNumber (barrier base (trapped .nodes 0) 76 .answer)) (trapped .nodes 0)
     ≡ 0 ∷ 21 ∷ 0 ∷ 2 ∷ 0 ∷ 0 ∷ 0 ∷ [])

@@ -21,7 +21,7 @@ pub mod Taking
 pub mod Storing
 pub mod Delivering
 pub mod Steps
--- The first half of demand 3; both halves for one node.
+-- The first half of the claim; both halves for one node.
 pub mod Safety
 pub mod Lone
 -- The second half: no state is refused, nothing but early items is refused, and no board sticks.
@@ -32,7 +32,8 @@ pub mod Room
 pub mod Early
 pub mod Calm
 pub mod Lively
--- Demand 3.
+-- The claim.
 pub mod Whole
 -- What a maker may rely on besides.
 pub mod Facts
+pub mod LinkBytes

@@ -1,4 +1,4 @@
--- The second half of demand 3, for two nodes and more: no board sticks.
+-- The second half of the claim (rule P5), for two nodes and more: no board sticks.
 use mathlib.Core.Path.{_≡_, refl, sym, ap, _∙_, subst}
 use mathlib.Core.Logic.{_≢_, _⊎_, inl, inr}
 use mathlib.Core.Bool.{Bool, true, false}

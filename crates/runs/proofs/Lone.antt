@@ -1,4 +1,4 @@
--- A board of one node: both halves of demand 3.
+-- A board of one node: both halves of the claim.
 use mathlib.Core.Path.{_≡_, refl, sym, ap, _∙_, subst}
 use mathlib.Core.Bool.{Bool, true, false}
 use mathlib.Core.Option.{none, some}
@@ -22,6 +22,7 @@ use Rattle.runs.specs.Board.{Board, Event, sends, idles, calls, delivers
 use Rattle.runs.specs.Board.{lessOne, gave, afterSend, afterIdle, afterCall, deliveredOldest, step, after, run}
 use Rattle.runs.specs.Claim.{SendDone, TakeDone, Leaves, Safe, Goes, Lives}
 use Rattle.runs.proofs.Tools.{put-same}
+use Rattle.runs.proofs.PhaseByte.{next-byte}
 use Rattle.node.proofs.Ways.{SendWay, send-way, IdleWay, idle-way}
 
 module _ (L : Limits) (one-node : 1 ≤ L .nodes) where
@@ -52,6 +53,7 @@ module _ (L : Limits) (one-node : 1 ≤ L .nodes) where
 
   pub record Alone (w : Board) : Type 0 where
     pub phase : ℕ
+    pub byte : phase ≡ w .count 0 % 256
     pub node : w .nodes 0 ≡ only phase (w .busy 0)
     pub items : w .items ≡ []
     pub untaken : (i : ℕ) → w .untaken i ≡ none
@@ -72,6 +74,7 @@ module _ (L : Limits) (one-node : 1 ≤ L .nodes) where
         record {
           alone = record {
             phase = i .phase;
+            byte = i .byte;
             node = put-same (w .nodes) 0 n ∙ e
                 ∙ i .node;
             items = i .items;
@@ -93,6 +96,7 @@ module _ (L : Limits) (one-node : 1 ≤ L .nodes) where
         record {
           alone = record {
             phase = i .phase;
+            byte = i .byte;
             node = put-same (w .nodes) 0 (withBusy (w .nodes 0) false)
                 ∙ ap (λ n. withBusy n false) (i .node)
                 ∙ ap (only (i .phase)) (sym (put-same (w .busy) 0 false));
@@ -114,6 +118,9 @@ module _ (L : Limits) (one-node : 1 ≤ L .nodes) where
         (record {
           alone = record {
             phase = (i .phase + 1) % 256;
+            byte =
+                ap (λ x. (x + 1) % 256) (i .byte) ∙ next-byte (w .count 0)
+                ∙ ap (λ c. c % 256) (sym (put-same (w .count) 0 (suc (w .count 0))));
             node = put-same (w .nodes) 0 (freshIn 1 0 ((i .phase + 1) % 256))
                 ∙ ap (only ((i .phase + 1) % 256)) (sym (put-same (w .busy) 0 true));
             items = i .items;
@@ -149,6 +156,7 @@ module _ (L : Limits) (one-node : 1 ≤ L .nodes) where
         record {
           alone = record {
             phase = i .phase;
+            byte = i .byte;
             node = i .node;
             items = ap (lessOne j) (i .items)
                 ∙ none-of j;
@@ -232,4 +240,4 @@ module _ (L : Limits) (one-node : 1 ≤ L .nodes) where
   lone-on w i (e ∷ es) = lone-on (step L 1 w e) (went w i e .alone) es
 
   pub lone : (es : List Event) → Alone (run L 1 es)
-  lone es = lone-on (start 1) (record { phase = 0; node = refl; items = refl; untaken = λ j. refl }) es
+  lone es = lone-on (start 1) (record { phase = 0; byte = refl; node = refl; items = refl; untaken = λ j. refl }) es

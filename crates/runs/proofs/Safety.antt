@@ -1,4 +1,4 @@
--- The first half of demand 3, for two nodes and more.
+-- The first half of the claim (rule P4), for two nodes and more.
 use mathlib.Core.Path.{_≡_, refl, sym, ap, _∙_, subst}
 use mathlib.Core.Logic.{_≢_, _⊎_, inl, inr}
 use mathlib.Core.Bool.{true, false}

@@ -1,4 +1,4 @@
--- Demand 3 over the definitions, for every number of nodes.
+-- The claim (rule P4, rule P5) over the definitions, for every number of nodes.
 use mathlib.Core.Path.{_≡_, subst}
 use mathlib.Core.List.{List}
 use Prim.Native.Nat.{ℕ, _≤_, _<_}

@@ -1,4 +1,4 @@
--- "Runs": the board, its events, what each event does, and the history that the claim speaks of.
+-- Runs: the board, its events, what each event does, and the history that the claim speaks of (rule H1 to rule H5).
 use mathlib.Core.Bool.{Bool, true, false}
 use mathlib.Core.Option.{Option, none, some}
 use mathlib.Core.List.{List, [], _∷_, _++_, map}
@@ -18,12 +18,12 @@ use Rattle.node.specs.declared.Node.{Node}
 abbrev pub put : {A : Type 0} → (ℕ → A) → ℕ → A → ℕ → A
 put f i v j = choose (eqb j i) v (f j)
 
--- what is on a link: "a work message, with its sender's phase byte", or the bytes of a frame
+-- what is on a link: a work message with the phase byte of its sender, or the bytes of a frame
 pub data Load : Type 0 where
   work : ℕ → Load
   frame : List ℕ → Load
 
--- An item under way. History: "An item belongs to the phase its sender was in", counted without end; and which of all
+-- An item under way. History (rule H5): the phase of its sender when it was sent, counted without end; and which of all
 -- sends done it is, counted from 0.
 pub record Item : Type 0 where
   pub from : ℕ
@@ -32,8 +32,8 @@ pub record Item : Type 0 where
   pub phase : ℕ
   pub name : ℕ
 
--- The nodes, and the items of all links, oldest first. History: "A node's phase counts its barrier calls so far that
--- left, without end"; whether it is busy; for each send done, the phase of its message while that is untaken; the
+-- The nodes, and the items of all links, oldest first. History (rule H5): how many barrier calls of a node have left,
+-- counted without end; whether it is busy; for each send done, the phase of its message while that is untaken; the
 -- sends done.
 pub record Board : Type 0 where
   pub nodes : ℕ → Node
@@ -43,8 +43,8 @@ pub record Board : Type 0 where
   pub untaken : ℕ → Option ℕ
   pub sends : ℕ
 
--- "A send, idle or barrier call at a node, with any arguments and buffer", here the buffer's length; "A delivery from
--- a to b"; "A loss: any item is off its link, without a call"
+-- rule H2: a send of a node to a number; an idle call; a barrier call with a buffer of a length; a delivery from a node
+-- to another; a loss of the j-th item
 pub data Event : Type 0 where
   sends : ℕ → ℕ → Event
   idles : ℕ → Event
@@ -52,7 +52,7 @@ pub data Event : Type 0 where
   delivers : ℕ → ℕ → Event
   loses : ℕ → Event
 
--- "A board starts with P fresh nodes and empty links." "A node is busy .. from the start"
+-- rule H1: fresh nodes, all busy, and empty links
 abbrev pub start : ℕ → Board
 start P =
     record {
@@ -86,7 +86,7 @@ lessOne (suc j) (m ∷ ms) = m ∷ lessOne j ms
 
 -- ---- What an answer does to the board
 
--- "Each call gets the state that the last call at its node gave back"
+-- rule H3: the next call at the node gets this state
 abbrev pub gave : Board → ℕ → Node → Board
 gave w a n =
     record {
@@ -113,7 +113,7 @@ turns w a t =
       sends = w .sends;
     }
 
--- "A send done puts a work message last on the link to its receiver"
+-- rule H3: a work message goes last on the link to its receiver; it is untaken
 abbrev pub sentOut : Board → ℕ → ℕ → Board
 sentOut w a b =
     record {
@@ -132,17 +132,17 @@ afterSend w a b done = sentOut w a b
 afterSend w a b dropped = w
 afterSend w a b (refused x) = w
 
--- busy "until its next idle done"
+-- an idle call that is done ends busy
 abbrev pub afterIdle : Board → ℕ → Outcome → Board
 afterIdle w a done = turns w a false
 afterIdle w a dropped = w
 afterIdle w a (refused x) = w
 
--- "a sent the written bytes last on the link to each receiver"
+-- rule H3: the written bytes, for each receiver an item, in their order
 abbrev pub posted : ℕ → List ℕ → ℕ → List ℕ → List Item
 posted a bytes phase to = map (λ b. record { from = a; to = b; load = frame bytes; phase = phase; name = 0 }) to
 
--- n is the state before the call; busy "from each leaving"
+-- n is the state before the call; who leaves is busy again
 abbrev pub afterCall : Board → ℕ → Node → Barrier → Board
 afterCall w a n (sent to length) = carries w (w .items ++ posted a (frameBytes (dims n) (frameDue n)) (w .count a) to)
 afterCall w a n waits = w
@@ -158,11 +158,11 @@ afterCall w a n left =
     }
 afterCall w a n (barred x) = w
 
--- "and then off the link unless it is early"
+-- rule H4: refused with 7, an item stays on its link
 abbrev pub offUnlessEarly : Board → ℕ → ℕ → ℕ → Board
 offUnlessEarly w a b x = choose (eqb x 7) w (carries w (without a b (w .items)))
 
--- busy "from each take that makes it busy"; "A message is untaken until its take is done, a lost one for good."
+-- a take that is done makes the node busy, and the message is no longer untaken
 abbrev pub afterTake : Board → ℕ → ℕ → Item → Outcome → Board
 afterTake w a b m done =
     record {
@@ -184,14 +184,14 @@ afterFrame w a b (refused x) = offUnlessEarly w a b x
 -- ---- Events and runs
 
 module _ (L : Limits) (P : ℕ) where
-  -- "the oldest item of that link goes into take (a work message ..) or frame in (a frame) at b"
+  -- rule H4: work is handed to take and a frame to frame in, at b
   abbrev pub delivered : Board → ℕ → ℕ → Item → Load → Board
   delivered w a b m (work phase) =
       let r = take L (w .nodes b) a phase in afterTake (gave w b (r .node)) a b m (r .answer)
   delivered w a b m (frame bytes) =
       let r = frameIn L (w .nodes b) bytes in afterFrame (gave w b (r .node)) a b (r .answer)
 
-  -- "With none there nothing happens."
+  -- with nothing on the link nothing happens
   abbrev pub deliveredOldest : Board → ℕ → ℕ → Option Item → Board
   deliveredOldest w a b none = w
   deliveredOldest w a b (some m) = delivered w a b m (m .load)
@@ -218,6 +218,6 @@ module _ (L : Limits) (P : ℕ) where
   after w [] = w
   after w (e ∷ es) = after (step w e) es
 
-  -- "A run is any list of these events"
+  -- rule H1: any list of events
   abbrev pub run : List Event → Board
   run es = after (start P) es

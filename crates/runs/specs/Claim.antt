@@ -1,4 +1,4 @@
--- Demand 3, in its order and words.
+-- The claim about every run of every board: rule P4, by its points, and rule P5.
 use mathlib.Core.Path.{_≡_}
 use mathlib.Core.Logic.{_≢_}
 use mathlib.Core.Bool.{true, false}
@@ -28,26 +28,26 @@ module _ (L : Limits) (P : ℕ) where
   Leaves w a room = barrier L (w .nodes a) room .answer ≡ left
 
   pub record Safe (w : Board) : Type 0 where
-    -- "only busy nodes send work"
+    -- 1: a send is done at busy nodes only,
     pub busySend : (a b : ℕ) → a < P → SendDone w a b → w .busy a ≡ true
-    -- "A node is busy, as its state must say too"
+    -- and a state says busy where the history does
     pub busyIs : (a : ℕ) → a < P → w .nodes a .busy ≡ w .busy a
-    -- "within a phase only taken work wakes an idle one"
+    -- 2: an idle node becomes busy without leaving only by a take of a message of its own phase
     pub wakes : (e : Event) (a : ℕ) → a < P → w .busy a ≡ false → step L P w e .busy a ≡ true
         → step L P w e .count a ≡ w .count a → TakeDone w a (w .count a) e
-    -- "no node leaves a phase while a work message of it is untaken,
+    -- 3: a node leaves only where no message of its phase is untaken,
     pub leavesTaken : (a room : ℕ) → a < P → Leaves w a room → (i : ℕ) → w .untaken i ≢ some (w .count a)
-    -- a node still in it is busy,
+    -- no node that is still in it is busy,
     pub leavesIdle : (a room : ℕ) → a < P → Leaves w a room → (b : ℕ) → b < P → w .count b ≡ w .count a
         → w .busy b ≡ false
-    -- or a node hasn't reached it;
+    -- and no node has yet to reach it
     pub leavesReached : (a room : ℕ) → a < P → Leaves w a room → (b : ℕ) → b < P → w .count a ≤ w .count b
-    -- and once a node has left a phase, no work message of it is sent
+    -- 4: once a node has left a phase, no message of it is sent,
     pub leftSend : (a : ℕ) → a < P → (n : ℕ) → n < w .count a → (b c : ℕ) → b < P → w .count b ≡ n → SendDone w b c → ⊥
-    -- or taken."
+    -- and none is taken
     pub leftTake : (a : ℕ) → a < P → (n : ℕ) → n < w .count a → (b : ℕ) (e : Event) → TakeDone w b n e → ⊥
 
-  -- "would send, move or leave"
+  -- a barrier call sends, moves or leaves
   pub data Goes : Barrier → Type 0 where
     sending : (to : List ℕ) (length : ℕ) → Goes (sent to length)
     moving : Goes moved
@@ -57,15 +57,15 @@ module _ (L : Limits) (P : ℕ) where
   abbrev pub Oldest : Board → ℕ → Type 0
   Oldest w a = (a < P) × ((b : ℕ) → b < P → w .count a ≤ w .count b)
 
-  -- "some node in the oldest phase is busy, has something of that phase under way to it, or would send, move or leave
-  -- on a barrier call with a long enough buffer"
+  -- some node of the oldest phase is busy, has an item of that phase under way to it, or would go on with a barrier
+  -- call whose buffer is long enough for any frame
   pub data Lives (w : Board) : Type 0 where
     busy : (a : ℕ) → Oldest w a → w .busy a ≡ true → Lives w
     underWay : (a : ℕ) → Oldest w a → (m : Item) → List·Memᴰ m (w .items) → m .to ≡ a → m .phase ≡ w .count a → Lives w
     goes : (a : ℕ) → Oldest w a
         → ((room : ℕ) → frameLength (dimension P) 1 0 ≤ room → Goes (barrier L (w .nodes a) room .answer)) → Lives w
 
--- "After every run without a loss"
+-- a run without a loss
 abbrev pub NoLoss : List Event → Type 0
 NoLoss [] = Unit {0}
 NoLoss (sends a b ∷ es) = NoLoss es

@@ -1,9 +1,10 @@
--- What a maker may rely on in every run, with losses or without, besides demand 3.
+-- What a maker may rely on in every run, with losses or without, besides the claim (rule P6).
 use mathlib.Core.Path.{_≡_}
 use mathlib.Core.Bool.{true}
 use mathlib.Core.Option.{some}
 use mathlib.Core.List.{List, List·Memᴰ}
-use Prim.Native.Nat.{ℕ, suc, _≤_, _<_}
+use Prim.Native.Nat.{ℕ, suc, _%_, _≤_, _<_}
+use lib.ListN.{getD}
 use Rattle.base.specs.Limits.{Limits}
 use Rattle.node.specs.State.{valid}
 use Rattle.node.specs.Answers.{refused}
@@ -22,6 +23,11 @@ module _ (L : Limits) (P : ℕ) where
     -- an item under way goes to a node of the board, and is at most one phase away from it
     pub underWay : (m : Item) → List·Memᴰ m (w .items)
         → (m .to < P) × ((m .phase ≤ suc (w .count (m .to))) × (w .count (m .to) ≤ suc (m .phase)))
+    -- the phase byte of a node, of a work message under way and of a frame under way is the low byte of the phase
+    pub phaseByte : (a : ℕ) → a < P → w .nodes a .phase ≡ w .count a % 256
+    pub workByte : (m : Item) (byte : ℕ) → List·Memᴰ m (w .items) → m .load ≡ work byte → byte ≡ m .phase % 256
+    pub frameByte : (m : Item) (bytes : List ℕ) → List·Memᴰ m (w .items) → m .load ≡ frame bytes
+        → getD bytes 1 0 ≡ m .phase % 256
     -- a delivered work message is refused for being early (7) or not at all: never with 2, 3, 6, 8 or 13
     pub takeEarly : (a b : ℕ) (m : Item) (byte x : ℕ) → oldest a b (w .items) ≡ some m → m .load ≡ work byte
         → take L (w .nodes b) a byte .answer ≡ refused x → x ≡ 7

@@ -1,4 +1,5 @@
 pub mod Board
 pub mod Claim
 pub mod Facts
+pub mod LinkBytes
 pub mod Printed

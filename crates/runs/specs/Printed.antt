@@ -1,5 +1,4 @@
--- What a rehearsal prints for an event: "acting node (receiver for d), answer, then its phase, pass, dimension, flag,
--- 1 if busy."
+-- The numbers that a rehearsal prints for an event (rule S9).
 use mathlib.Core.Bool.{Bool}
 use mathlib.Core.Option.{Option, none, some}
 use mathlib.Core.List.{List, [], _∷_}
@@ -23,7 +22,7 @@ abbrev pub loadAnswer : Board → ℕ → ℕ → Load → ℕ
 loadAnswer w a b (work phase) = outcomeNumber (take base (w .nodes b) a phase .answer)
 loadAnswer w a b (frame bytes) = outcomeNumber (frameIn base (w .nodes b) bytes .answer)
 
--- "d with nothing there gives 16"
+-- a delivery with nothing on the link is 16 (rule S8)
 abbrev pub deliveryAnswer : Board → ℕ → ℕ → Option Item → ℕ
 deliveryAnswer w a b none = 16
 deliveryAnswer w a b (some m) = loadAnswer w a b (m .load)

@@ -1,0 +1,4 @@
+pub mod AnyInput
+pub mod Tree
+pub mod Frames
+pub mod Whole

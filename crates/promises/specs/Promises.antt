@@ -1,0 +1,127 @@
+-- What the part promises, at the limits of this build. Each field cites the definitions that the contracts of the functions cite, so
+-- that a change of either is seen here. Carried by contracts alone: that every call ends, touches nothing but what is lent, and gives
+-- the state, answer and bytes of its definition (the functions of crates/barrier_c/src/lib.rt); that a wait names a clause that fails
+-- (`ocb_barrier`, ensures clause).
+use mathlib.Core.Path.{_≡_}
+use mathlib.Core.Logic.{_≢_}
+use mathlib.Core.Bool.{Bool, true, false}
+use mathlib.Core.Option.{some}
+use mathlib.Core.List.{List, [], _∷_, List·Memᴰ}
+use Prim.Native.Nat.{ℕ, _^_, _≤_, _<_}
+use lib.Dec.{eqb}
+use lib.ListN.{length}
+use Rattle.base.specs.Choice.{choose}
+use Rattle.base.specs.Limits.{base}
+use Rattle.base.specs.Refusal.{found}
+use Rattle.tree.specs.Tree.{dimension, hermit, alone, place, awaited, receivers, distance}
+use Rattle.tree.specs.Lookups.{dimensionLookup, placeLookup, distanceLookup}
+use Rattle.frame.specs.Frame.{frameBytes, readFrame, writeFrame}
+use Rattle.frame.specs.Shapes.{Shaped, Bytes}
+use Rattle.frame.specs.declared.Frame.{Frame}
+use Rattle.node.specs.Answers.{Given, Outcome, outcomeNumber, Barrier, barred, barrierNumber}
+use Rattle.node.specs.Calls.{send, take, idle, frameIn}
+use Rattle.node.specs.declared.Node.{Node}
+use Rattle.node_calls.specs.Fresh.{freshOn, freshWords}
+use Rattle.fields.specs.Fields.{writeOn, writtenOn, frameWords}
+use Rattle.barrier_c.specs.Exports.{answerOn, wordsOn, barrierOn, barrierState, barrierBuffer, detailWords}
+use Rattle.barrier_c.specs.Exports.{lookupNumber, numberWords, placeWords}
+use Rattle.runs.specs.Board.{Event, run}
+use Rattle.runs.specs.Claim.{Safe, Lives, NoLoss}
+use Rattle.runs.specs.Facts.{Facts}
+use Rattle.runs.specs.LinkBytes.{LinkBytes}
+use Rattle.starred.specs.Rows.{All, table}
+use Rattle.rehearsed.specs.Run.{EveryRehearsal}
+use Rattle.rehearsed.specs.Fits.{EveryTextFits}
+
+abbrev pub among : List ℕ → ℕ → Bool
+among [] x = false
+among (n ∷ ns) x = choose (eqb x n) true (among ns x)
+
+abbrev pub OneOf : List ℕ → ℕ → Type 0
+OneOf ns x = among ns x ≡ true
+
+-- ---- 1. Any input: an answer of ours, and a refused call leaves all that was lent as it was
+
+-- a call on words answers one of its numbers, and leaves the words with every answer but 0
+pub record Answers (ns : List ℕ) (call : Node → Given Outcome) : Type 0 where
+  pub ours : (ws : List ℕ) → OneOf ns (answerOn base call ws)
+  pub stay : (ws : List ℕ) → answerOn base call ws ≢ 0 → wordsOn base call ws ≡ ws
+
+pub record AnyInput : Type 0 where
+  pub fresh : (P a : ℕ) (ws : List ℕ) → OneOf (1 ∷ 2 ∷ 13 ∷ 0 ∷ []) (outcomeNumber (freshOn base P a ws))
+  pub freshStays : (P a : ℕ) (ws : List ℕ) → outcomeNumber (freshOn base P a ws) ≢ 0 → freshWords base P a ws ≡ ws
+  pub sends : (to : ℕ) → Answers (13 ∷ 2 ∷ 3 ∷ 4 ∷ 5 ∷ 0 ∷ []) (λ n. send base n to)
+  pub takes : (from phase : ℕ) → Answers (13 ∷ 2 ∷ 3 ∷ 7 ∷ 8 ∷ 6 ∷ 0 ∷ []) (λ n. take base n from phase)
+  pub idles : Answers (13 ∷ 0 ∷ []) (idle base)
+  pub frames : (bs : List ℕ)
+      → Answers (13 ∷ 9 ∷ 10 ∷ 2 ∷ 3 ∷ 11 ∷ 7 ∷ 8 ∷ 24 ∷ 0 ∷ []) (λ n. frameIn base n bs)
+  pub steps : (ws : List ℕ) (room : ℕ)
+      → OneOf (13 ∷ 12 ∷ 14 ∷ 20 ∷ 21 ∷ 22 ∷ 23 ∷ []) (barrierNumber (barrierOn base ws room))
+  pub stepStays : (ws buf ds : List ℕ) (x clause : ℕ) → barrierOn base ws (length buf) ≡ barred x
+      → (barrierState base ws (length buf) ≡ ws)
+      × ((barrierBuffer base ws buf ≡ buf) × (detailWords ds clause (barrierOn base ws (length buf)) ≡ ds))
+  pub dimensions : (P : ℕ) → OneOf (1 ∷ 0 ∷ []) (lookupNumber (dimensionLookup base P))
+  pub places : (P k a : ℕ) → OneOf (1 ∷ 2 ∷ 10 ∷ 0 ∷ []) (lookupNumber (placeLookup base P k a))
+  pub distances : (P a b : ℕ) → OneOf (1 ∷ 2 ∷ 3 ∷ 0 ∷ []) (lookupNumber (distanceLookup base P a b))
+  -- what is lent for the answer stays too
+  pub dimensionStays : (P : ℕ) (ws : List ℕ) → lookupNumber (dimensionLookup base P) ≢ 0
+      → numberWords (dimensionLookup base P) ws ≡ ws
+  pub placeStays : (P k a : ℕ) (ws : List ℕ) → lookupNumber (placeLookup base P k a) ≢ 0
+      → placeWords (placeLookup base P k a) ws ≡ ws
+  pub distanceStays : (P a b : ℕ) (ws : List ℕ) → lookupNumber (distanceLookup base P a b) ≢ 0
+      → numberWords (distanceLookup base P a b) ws ≡ ws
+  pub writes : (P room : ℕ) (ws : List ℕ) → OneOf (1 ∷ 10 ∷ 2 ∷ 14 ∷ 0 ∷ []) (lookupNumber (writeOn base P ws room))
+  pub writeStays : (P : ℕ) (ws buf size : List ℕ) → lookupNumber (writeOn base P ws (length buf)) ≢ 0
+      → (writtenOn base P ws buf ≡ buf) × (numberWords (writeOn base P ws (length buf)) size ≡ size)
+  pub reads : (P : ℕ) (bs : List ℕ) → OneOf (1 ∷ 9 ∷ 10 ∷ 2 ∷ 0 ∷ []) (lookupNumber (readFrame base P bs))
+  pub readStays : (P : ℕ) (bs ws : List ℕ) → lookupNumber (readFrame base P bs) ≢ 0
+      → frameWords (readFrame base P bs) ws ≡ ws
+
+-- ---- 2. The tree, and frames that survive writing and reading
+
+pub record Tree (P : ℕ) : Type 0 where
+  -- the dimension is the smallest number with P ≤ 2 ^ it
+  pub fits : P ≤ 2 ^ dimension P
+  pub smallest : (q : ℕ) → P ≤ 2 ^ q → dimension P ≤ q
+  -- who sends to whom, and who awaits whom, are one
+  pub sent : (k a b : ℕ) → a < P → List·Memᴰ b (receivers P k a) → (b < P) × (awaited P k b ≡ some a)
+  pub awaits : (k a b : ℕ) → b < P → awaited P k b ≡ some a → List·Memᴰ b (receivers P k a)
+  -- a hermit sends nothing, and awaits the next node
+  pub hermits : (k a b : ℕ) → place P k a ≡ hermit b → (receivers P k a ≡ []) × (awaited P k a ≡ some b)
+  -- a node is alone in dimension 0 only
+  pub alones : (k a : ℕ) → a < P → k < dimension P → place P k a ≡ alone → k ≡ 0
+  -- the distance is the same both ways
+  pub symmetric : (a b : ℕ) → a < P → b < P → a ≢ b → distance P a b ≡ distance P b a
+
+pub record Frames (P : ℕ) : Type 0 where
+  pub writtenRead : (f : Frame) → Shaped f → (room n : ℕ) → writeFrame base P f room ≡ found n
+      → readFrame base P (frameBytes (dimension P) f) ≡ found f
+  pub readBytes : (bs : List ℕ) → Bytes bs → (f : Frame) → readFrame base P bs ≡ found f
+      → frameBytes (dimension P) f ≡ bs
+  pub readWritten : (bs : List ℕ) (f : Frame) → readFrame base P bs ≡ found f → (room : ℕ) → length bs ≤ room
+      → writeFrame base P f room ≡ found (length bs)
+  pub sameBytes : (f g : Frame) → Shaped f → Shaped g → (room m n : ℕ) → writeFrame base P f room ≡ found m
+      → writeFrame base P g room ≡ found n → frameBytes (dimension P) f ≡ frameBytes (dimension P) g → f ≡ g
+
+-- ---- 3. Every run of a board
+
+pub record Runs (P : ℕ) : Type 0 where
+  pub safe : (es : List Event) → Safe base P (run base P es)
+  pub lives : (es : List Event) → NoLoss es → Lives base P (run base P es)
+  -- and what a maker may rely on besides, losses or not
+  pub facts : (es : List Event) → Facts base P (run base P es)
+
+-- ---- All of it
+
+pub record Promises : Type 0 where
+  pub anyInput : AnyInput
+  pub tree : (P : ℕ) → 1 ≤ P → P ≤ base .nodes → Tree P
+  pub frames : (P : ℕ) → 1 ≤ P → P ≤ base .nodes → Frames P
+  pub runs : (P : ℕ) → 1 ≤ P → P ≤ base .nodes → Runs P
+  -- the bytes on a link are those that the barrier call has written
+  pub links : LinkBytes
+  -- the boards whose numbers are written out
+  pub starred : All table
+  -- every rehearsal is a run, and its text fits what the program lends for it
+  pub rehearsals : EveryRehearsal
+  pub texts : EveryTextFits
