@@ -8,40 +8,91 @@
  * The functions hold no memory of their own. The caller lends each call what it reads and writes: for each node a state
  * of OCB_STATE_WORDS(nodes) words, which the calls read and change in place, frames as bytes, a few words for an answer.
  * Any numbers and bytes may be handed in; what is not allowed is refused with its number, and a refused call leaves all
- * that was lent as it was. What stays with the caller: links that keep the order of what one node sends to another; one
- * call at a time on a state; pointers that are aligned and not null, also where a count is 0, to memory that does not
- * overlap.
+ * that was lent as it was. docs/BARRIER.md explains the barrier, and has a line for each refusal.
  *
- * The cycle of a kernel, whole. The functions link_.. and work_.. and fault are the kernel's. An item on a link is a
- * frame, or a piece of work with the phase byte of its sender.
+ * What stays with the caller:
  *
- *     enum { WORDS = OCB_STATE_WORDS(5) };     // for boards of up to five nodes
+ * - Memory. Pointers are aligned and not null, also where a count is 0, and what they point to does not overlap. One
+ *   call at a time on a state, which nobody else writes. On a Cortex-M0 a call takes up to OCB_STACK_BYTES of stack.
+ * - Links, one from each node to each other, each a single queue for work and frames. They keep order, and neither lose,
+ *   double nor alter what they carry.
+ * - Room. A frame or a piece of work that does not fit its link is lost, and after a loss the board may stop for good:
+ *   no node leaves too soon, but all may wait for ever. So look for room before ocb_barrier, for one frame to each of up
+ *   to two receivers, and before ocb_send. Room for one item on each link is enough, as long as a node that finds none
+ *   goes on taking in what comes. A link that has room whatever happens holds the work that its sender sends over it in
+ *   one cycle, at most 65,535 pieces, and OCB_LINK_FRAMES(woken) frames.
+ * - Early items. What is answered with OCB_EARLY is of the next cycle. It stays on its link, with all that is behind it,
+ *   and is not handed in again before OCB_LEFT: until then it gets the same answer. So a node that waits can sleep.
+ * - Work that is refused. It must not be sent. 4: the node is idle; what turns up there, other than by ocb_take, is kept
+ *   for the next cycle. 5: 65,535 pieces are sent; the rest is kept for the next cycle.
+ * - Starting anew. After a lost item, after a refusal that the example takes for a fault, and where a node has started
+ *   alone, the whole board is started: all nodes are made fresh together, and all links are empty.
+ *
+ * The cycle of a kernel, whole: tests/example compiles it as it stands here, and runs it. kernel.h is the kernel's:
+ *
+ * - struct item is a frame (bytes, count), or a piece of work with the phase byte of its sender (is_work, phase).
+ * - link_oldest gives the oldest item of the link from a node, or null, and link_drop_oldest takes it off that link.
+ *   work_queue takes over an item: it is the queue's then, and the link drops no more than its reference.
+ * - link_room says whether one more item fits on the link to a node; link_send_work and link_send_frame put it there.
+ * - link_wait_item comes back when there is an item on a link that is not held, link_wait_room also when there is room
+ *   on a link that was full: places to sleep.
+ * - work_left says whether there is work of this cycle, and work_run does some; false: it has met NO_ROOM, a number that
+ *   is none of this header's.
+ * - fault stops the board, and does not come back.
+ *
+ *     #include "ocb.h"
+ *     #include "kernel.h"
+ *     #include <string.h>
+ *
+ *     #ifndef BOARD_NODES
+ *     #define BOARD_NODES 5    // of the largest board that this kernel is for
+ *     #endif
+ *
+ *     enum { WORDS = OCB_STATE_WORDS(BOARD_NODES) };
  *     static uint32_t state[WORDS];
+ *     static bool held[BOARD_NODES];    // links with an early item in front: not looked at until this node has left
  *
+ *     // At each node when the board starts, with empty links.
  *     void start(uint32_t nodes, uint32_t me)
  *     {
- *         if (ocb_fresh(state, WORDS, nodes, me) != OCB_DONE) fault();
+ *         if (nodes > BOARD_NODES || ocb_fresh(state, WORDS, nodes, me) != OCB_DONE) fault();
+ *         memset(held, 0, sizeof held);
  *     }
  *
- *     // Work for another node: count it, then send it. What is refused must not be sent.
+ *     // Work for another node: look for room, count it, send it. Answered NO_ROOM, it is tried again in this cycle.
+ *     // Refused with OCB_RESTING or OCB_SENT_OUT, it is kept for the next one.
  *     uint32_t send_work(uint32_t to, const struct work *work)
  *     {
+ *         if (!link_room(to)) return NO_ROOM;
  *         uint32_t answer = ocb_send(state, WORDS, to);
  *         if (answer == OCB_DONE) link_send_work(to, (uint8_t)state[OCB_AT_PHASE], work);
  *         return answer;
  *     }
  *
- *     // The oldest item on the link from a node. An early one is of the next cycle: it stays on its link, with all
- *     // that is behind it, and is handed in again until this node has left its cycle.
+ *     // The oldest item on the link from a node.
  *     void item_in(uint32_t from)
  *     {
  *         struct item *item = link_oldest(from);
  *         uint32_t answer = item->is_work ? ocb_take(state, WORDS, from, item->phase)
  *                                         : ocb_frame_in(state, WORDS, item->bytes, item->count);
- *         if (answer == OCB_EARLY) return;
- *         if (answer == OCB_DONE && item->is_work) work_queue(item);
+ *         if (answer == OCB_EARLY) {
+ *             held[from] = true;
+ *             return;
+ *         }
  *         if (answer != OCB_DONE && answer != OCB_DROPPED) fault();
+ *         if (item->is_work) work_queue(item);
  *         link_drop_oldest(from);
+ *     }
+ *
+ *     // Whether the frame that is due, if one is, has room on the link to each of its receivers.
+ *     bool frame_room(void)
+ *     {
+ *         uint32_t place[OCB_PLACE_WORDS];
+ *         if (state[OCB_AT_NODES] == 1 || !state[OCB_AT_FLAG]) return true;
+ *         if (ocb_place(state[OCB_AT_NODES], state[OCB_AT_DIMENSION], state[OCB_AT_NUMBER], place) != OCB_DONE) fault();
+ *         for (uint32_t i = 1; i < place[0]; i++)    // a neighbour has one receiver, a messenger two, others none
+ *             if (!link_room(place[i])) return false;
+ *         return true;
  *     }
  *
  *     // One cycle: work while there is work, and without it one step of the barrier after the other.
@@ -51,12 +102,16 @@
  *         uint32_t details[OCB_DETAIL_WORDS];
  *         for (;;) {
  *             for (uint32_t from = 0; from < state[OCB_AT_NODES]; from++)
- *                 if (link_oldest(from)) item_in(from);
+ *                 if (!held[from] && link_oldest(from)) item_in(from);
  *             if (work_left()) {
- *                 work_run();
+ *                 if (!work_run()) link_wait_room(held);
  *                 continue;
  *             }
  *             if (state[OCB_AT_BUSY] && ocb_idle(state, WORDS) != OCB_DONE) fault();
+ *             if (!frame_room()) {
+ *                 link_wait_room(held);
+ *                 continue;
+ *             }
  *             switch (ocb_barrier(state, WORDS, frame, sizeof frame, details)) {
  *             case OCB_SENT:
  *                 for (uint32_t i = 0; i < details[0]; i++)
@@ -65,9 +120,11 @@
  *             case OCB_MOVED:
  *                 break;
  *             case OCB_WAITS:
- *                 break;      // nothing to do until an item comes in: a place to sleep
- *             case OCB_LEFT:
- *                 return;     // the cycle is over, and items that were early are of this node's cycle now
+ *                 link_wait_item(held);
+ *                 break;
+ *             case OCB_LEFT:    // the cycle is over, and items that were early are of this node's cycle now
+ *                 memset(held, 0, sizeof held);
+ *                 return;
  *             default:
  *                 fault();
  *             }
@@ -84,6 +141,9 @@
 extern "C" {
 #endif
 
+/* Grows by 1 with each change that a caller can see. In 1 every state had 200 words, and no call was told how many. */
+#define OCB_VERSION 2
+
 /* Nodes of the largest board, bytes of its longest frame. */
 #define OCB_NODES 256
 #define OCB_FRAME_BYTES 76
@@ -95,6 +155,21 @@ extern "C" {
 
 /* Words of a node's state on a board of so many nodes: a state has the numbers that its board has, and no others. */
 #define OCB_STATE_WORDS(nodes) (8 + OCB_DIMENSION(nodes) * (OCB_DIMENSION(nodes) + 9))
+
+/*
+ * Frames that are on one link at once, at most, where work has woken idle nodes of the board so often in the sender's
+ * cycle and the one before: two nodes have one step in each pass in common, and a frame of it goes out again only after
+ * work has woken a node whose counts are in it. Found by reasoning (docs/BARRIER.md) and by playing boards
+ * (tests/example/links.c); it is not proved by machine, and neither is that room for one item is enough.
+ */
+#define OCB_LINK_FRAMES(woken) (2 + (woken))
+
+/*
+ * Bytes of stack that any call takes on a Cortex-M0, at -O2 and at -Os, at most: a bound, rounded up. What is there
+ * already, and what interrupts put there, comes on top. docs/COST.md has the bound of each function, and it is checked
+ * that none is above this.
+ */
+#define OCB_STACK_BYTES 640
 
 /* Words that a barrier call, a place and a frame's fields take. */
 #define OCB_DETAIL_WORDS 5
@@ -128,10 +203,10 @@ enum {
     OCB_BOARD = 1,      /* board: no nodes, or more than OCB_NODES */
     OCB_STRANGER = 2,   /* stranger: a node number that the board does not have */
     OCB_SELF = 3,       /* self: the other end is the node itself */
-    OCB_RESTING = 4,    /* resting: send while idle */
-    OCB_SENT_OUT = 5,   /* sent out: 65,535 sent in this cycle */
+    OCB_RESTING = 4,    /* resting: send while idle; keep the work for the next cycle */
+    OCB_SENT_OUT = 5,   /* sent out: 65,535 sent in this cycle; keep the work for the next */
     OCB_TAKEN_FULL = 6, /* taken full: 16,711,425 taken in this cycle */
-    OCB_EARLY = 7,      /* early: of the next cycle; hold it back and hand it in again after leaving */
+    OCB_EARLY = 7,      /* early: of the next cycle; leave it on its link until OCB_LEFT, then hand it in again */
     OCB_FOREIGN = 8,    /* foreign: of another cycle; for work also of the one before */
     OCB_LENGTH = 9,     /* length: under 4 bytes, or not the frame's stated length */
     OCB_FIELD = 10,     /* field: a pass, a dimension or a number that a frame or a board cannot have */
@@ -156,7 +231,8 @@ enum {
 uint32_t ocb_fresh(uint32_t *state, size_t words, uint32_t nodes, uint32_t number);
 
 /*
- * Counts one piece of work sent to a node. Call it before the work goes out, and send the work with the state's phase.
+ * Counts one piece of work sent to a node. Call it when the link has room, before the work goes out, and send the work
+ * with the state's phase.
  * Refusals: 13, 2, 3, 4, 5.
  */
 uint32_t ocb_send(uint32_t *state, size_t words, uint32_t to);
@@ -180,7 +256,8 @@ uint32_t ocb_idle(uint32_t *state, size_t words);
 uint32_t ocb_frame_in(uint32_t *state, size_t words, const uint8_t *bytes, size_t count);
 
 /*
- * One step of the barrier at an idle node, with a buffer of count bytes; OCB_FRAME_BYTES are always enough.
+ * One step of the barrier at an idle node, with a buffer of count bytes; OCB_FRAME_BYTES are always enough. Call it when
+ * the links to the receivers have room.
  * OCB_SENT: a frame stands at the buffer's start and goes to one or two receivers; OCB_WAITS; OCB_MOVED; OCB_LEFT.
  * details, by word: how many receivers, the first, the second, the frame's length, and for OCB_WAITS the number of a
  * clause that fails (0: no frame has come; 1, 2: counts of sent and taken work differ; 3: a sum is above the limit; 4:
@@ -200,8 +277,8 @@ uint32_t ocb_dimension(uint32_t nodes, uint32_t found[1]);
 
 /*
  * The place of a node in a dimension, by word: its kind, the node it awaits, and the hermit that its frame goes to as
- * well. Kinds: 0 alone (neither sends nor awaits), 1 hermit (awaits and does not send), 2 neighbour, 3 messenger. What
- * a kind does not have is 0.
+ * well. Kinds: 0 alone (neither sends nor awaits), 1 hermit (awaits and does not send), 2 neighbour (sends to the node
+ * it awaits), 3 messenger (sends to that node and to its hermit). What a kind does not have is 0.
  * Refusals: 1, 2, 10.
  */
 uint32_t ocb_place(uint32_t nodes, uint32_t dimension, uint32_t node, uint32_t found[OCB_PLACE_WORDS]);
@@ -221,7 +298,7 @@ uint32_t ocb_distance(uint32_t nodes, uint32_t a, uint32_t b, uint32_t found[1])
 
 /*
  * Writes a frame for a board into a buffer of count bytes, and its length into length. Refused, both stay.
- * Refusals: 1, 10 (a word that is no byte where a frame has a byte), 10 (pass, dimension), 10 (numbers), 2, 14.
+ * Refusals: 1, 10 (a phase above 255), 10 (pass, dimension), 10 (numbers), 2, 14.
  */
 uint32_t ocb_frame_write(uint32_t nodes, const uint32_t fields[OCB_FIELD_WORDS], uint8_t *buffer, size_t count,
                          uint32_t length[1]);
