@@ -1,5 +1,5 @@
 /*
- * The node of document 01 as one would write it by hand in C on the library's own terms: in place on the same words, with
+ * The node of docs/RULES.md as one would write it by hand in C on the library's own terms: in place on the same words, with
  * the same checks, refusals and results. It stands here to be measured beside the library, and is neither proved nor part
  * of it. Answers and refusals have the numbers of include/ocb.h.
  */

@@ -1,6 +1,6 @@
 /*
- * The node of document 01 as one would write it by hand in C: a struct that the calls change in place, with every check
- * that the library makes. It stands here to be measured beside the library, and is neither proved nor part of it.
+ * The node of docs/RULES.md as one would write it by hand in C: a struct that the calls change in place, with every
+ * check that the library makes. It stands here to be measured beside the library, and is neither proved nor part of it.
  * Answers and refusals have the numbers of include/ocb.h.
  */
 #ifndef INPLACE_H

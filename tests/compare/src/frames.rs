@@ -119,9 +119,10 @@ fn read_all(report: &mut Report, random: &mut Random, nodes: u32, bytes: &[u8]) 
     }
 }
 
-/// Words that are no byte where a frame has one: the C writer gives 10, after 1 and before all else.
+/// Words that are no byte where a frame has one: a phase gives 10 after 1 and before all else, the others what any other
+/// value that the board does not have gives.
 fn no_bytes(report: &mut Report) {
-    for (nodes, expected) in [(0, 1), (1, 10), (2, 10), (256, 10), (257, 1)] {
+    for nodes in [0, 1, 2, 256, 257] {
         for (at, word) in (0..4).flat_map(|at| [256, 257, 65_537, u32::MAX].map(|word| (at, word))) {
             for room in [0, 76] {
                 let mut words = library::field_words(&Fields { pass: 1, sender: 1, ..Fields::default() });
@@ -129,7 +130,9 @@ fn no_bytes(report: &mut Report) {
                 let (mut bytes, mut length) = (library::pattern::<76>(), [0xa5a5_a5a5; 1]);
                 let answer = library::frame_write(nodes, &words, &mut bytes[..room], &mut length);
                 let again = || format!("ocb_frame_write({nodes}u, {}, buffer, {room}, &length);", c_array(&words));
-                let stays = (expected, library::pattern::<76>(), [0xa5a5_a5a5; 1]);
+                let mut theirs = library::pattern::<76>();
+                let refused = frame::write_words(nodes, &words, &mut theirs[..room]).expect_err("no frame");
+                let stays = (u32::from(refused), theirs, [0xa5a5_a5a5; 1]);
                 same("frame with a word that is no byte", &(answer, bytes, length), &stays, again);
                 report.count("frames with a word that is no byte");
             }

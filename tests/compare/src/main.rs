@@ -35,7 +35,7 @@ const WANTED: [(&str, &[u32]); 12] = [
 ];
 
 /// How many pairs of refusals of a call the cases bring due at once, the earlier being given. For frame in and the frame
-/// reader the number is what the cases reach, not one derived from document 01; fewer means poorer cases.
+/// reader the number is what the cases reach, not one derived from rule R3; fewer means poorer cases.
 const PAIRS: [(&str, usize); 9] = [
     ("place", 2),
     ("distance", 3),

@@ -31,7 +31,7 @@ impl Report {
         self.answers.contains_key(&(call, answer))
     }
 
-    /// "Each is given when its condition is met and none before it is, and not otherwise."
+    /// Rule R2: the refusal is that of the first condition that is met.
     pub fn order(&mut self, call: &'static str, order: &[Refusal], answer: u32) {
         let met: Vec<&Refusal> = order.iter().filter(|(_, _, met)| *met).collect();
         let Some(first) = met.first() else {

@@ -1,4 +1,4 @@
-//! Runs of whole boards: the model plays an event and checks demand 3, and the library plays it beside.
+//! Runs of whole boards: the model plays an event and checks rule P4 and rule P5, and the library plays it beside.
 
 use crate::{calls, orders};
 use crate::library::{self, at, Words};
@@ -58,7 +58,7 @@ impl Pair {
         self.run.events.push(event);
         let acted = self.beside(report, event)?;
         let (_, faults) = self.board.play_and_tell(event);
-        held("demand 3", &Vec::<String>::new(), &faults, || "the script".to_string())?;
+        held("the claim about runs", &Vec::<String>::new(), &faults, || "the script".to_string())?;
         if let Some((at, _)) = acted {
             let model = library::words_of(&self.board.nodes[at as usize]);
             held("a state of the run", &self.states[at as usize], &model, || "the script".to_string())?;
@@ -98,7 +98,7 @@ fn fail(run: &Run, difference: Difference) -> ! {
     eprintln!("---- end of the script, with the difference at its last line");
     if !script::is_rehearsal(&short, &lines) {
         eprintln!("The rehearsal program does not take it: it has more than 16 nodes or 4,096 bytes, or lines that");
-        eprintln!("document 01's grammar lacks (b .. room, lose, s to a node that the board lacks).");
+        eprintln!("no script may have (b .. room, lose, s to a node that the board lacks).");
     }
     if let Some((_, difference)) = first_difference(&short) {
         difference.print();

@@ -1,4 +1,4 @@
-//! A run as a script: document 01's grammar, and named lines for what that grammar cannot say.
+//! A run as a script: lines of rule S3, and named lines for what these cannot say.
 //!
 //! - `b A room N`: a barrier call with a buffer of N bytes, where N is not 76.
 //! - `lose A B N`: the N-th item on the link from A to B, the oldest being the 0-th, is lost.

@@ -1,16 +1,17 @@
-//! "Runs": a board of P nodes with its links and its history, and a checker for demand 3.
+//! Runs (rule H1 to rule H5): a board of P nodes with its links and its history, and a checker for rule P4
+//! and rule P5.
 
 use crate::node::{self, Answer, Barrier, Node};
 use crate::{no, LONGEST};
 
-/// What an item carries: "a work message, with its sender's phase byte", or "a frame".
+/// What an item carries: a work message with its sender's phase byte, or a frame.
 #[derive(Clone, Debug, PartialEq, Eq, Hash)]
 pub enum Load {
     Work { message: u64, byte: u8 },
     Frame { bytes: Vec<u8> },
 }
 
-/// An item under way. "An item belongs to the phase its sender was in", counted without end.
+/// An item under way, with the phase of its sender when it was sent, counted without end (rule H5).
 #[derive(Clone, Debug, PartialEq, Eq, Hash)]
 pub struct Item {
     pub from: u32,
@@ -44,23 +45,23 @@ pub enum Outcome {
     Nothing,
 }
 
-/// "A board starts with P fresh nodes and empty links."
+/// A board with its history. It starts with fresh nodes and empty links (rule H1).
 #[derive(Clone, Debug)]
 pub struct Board {
     pub nodes: Vec<Node>,
-    /// "A node's phase counts its barrier calls so far that left, without end".
+    /// How many barrier calls of each node have left, counted without end.
     pub phases: Vec<u64>,
     /// Busy by history.
     pub busy: Vec<bool>,
     /// All links in one list, oldest first; a link is the part with its two ends.
     pub links: Vec<Item>,
-    /// "A message is untaken until its take is done, a lost one for good."
+    /// The messages whose take was not done, lost ones too.
     pub untaken: Vec<Message>,
     pub messages: u64,
     pub lost: bool,
 }
 
-/// What an event did that demand 3 speaks of.
+/// What an event did that rule P4 speaks of.
 #[derive(Clone, Copy, Debug, PartialEq, Eq)]
 enum Deed {
     Sent { at: usize, phase: u64 },
@@ -91,14 +92,14 @@ impl Board {
         }
     }
 
-    /// Plays an event and asserts every sentence of demand 3.
+    /// Plays an event and asserts every point of rule P4, and rule P5.
     pub fn play(&mut self, event: Event) -> Outcome {
         let (outcome, faults) = self.play_and_tell(event);
         assert!(faults.is_empty(), "{faults:?} after {event:?} on {self:?}");
         outcome
     }
 
-    /// Plays an event and gives the sentences of demand 3 that fail.
+    /// Plays an event and tells which points of rule P4 fail, and whether rule P5 does.
     pub fn play_and_tell(&mut self, event: Event) -> (Outcome, Vec<String>) {
         let past = self.past();
         let (outcome, deed) = self.happen(event);
@@ -132,7 +133,7 @@ impl Board {
         }
     }
 
-    /// "A send done puts a work message last on the link to its receiver".
+    /// A send that is done puts a work message last on its link (rule H3).
     fn send(&mut self, at: u32, to: u32) -> (Outcome, Deed) {
         let place = at as usize;
         let phase = self.phases[place];
@@ -178,7 +179,7 @@ impl Board {
         (Outcome::Step(answer), deed)
     }
 
-    /// "a sent the written bytes last on the link to each receiver".
+    /// The written bytes go last on the link to each receiver (rule H3).
     fn post(&mut self, from: u32, receivers: &[u32], bytes: &[u8]) {
         let phase = self.phases[from as usize];
         for &to in receivers {
@@ -186,8 +187,7 @@ impl Board {
         }
     }
 
-    /// "A delivery from a to b: the oldest item of that link goes into take ... or frame in ... at b,
-    /// and then off the link unless it is early. With none there nothing happens."
+    /// The oldest item of a link is handed to its receiver; an early one stays (rule H4).
     fn deliver(&mut self, from: u32, to: u32) -> (Outcome, Deed) {
         let Some(oldest) = self.links.iter().position(|item| item.from == from && item.to == to) else {
             return (Outcome::Nothing, Deed::Other);
@@ -215,7 +215,7 @@ impl Board {
         }
     }
 
-    /// "A loss: any item is off its link, without a call."
+    /// An item goes off its link without a call (rule H2).
     fn lose(&mut self, item: usize) -> (Outcome, Deed) {
         if item < self.links.len() {
             self.links.remove(item);
@@ -226,10 +226,10 @@ impl Board {
 }
 
 // ---------------------------------------------------------------------------------------------
-// Demand 3
+// Rule P4 and rule P5
 
 impl Board {
-    /// The first half, "for every run", and what document 01 says the state must say.
+    /// Rule P4, and that states say what the history does (rule P6 for the phase).
     fn first_half(&self, past: &Past, deed: Deed) -> Vec<String> {
         let mut faults = vec![];
         for at in 0..self.nodes.len() {
@@ -248,23 +248,21 @@ impl Board {
         faults
     }
 
-    /// "the byte being that count modulo 256"; "A node is busy, as its state must say too".
+    /// The phase is the low byte of the count, and busy is what the history says.
     fn state_says_the_history(&self, at: usize) -> Option<String> {
         let node = &self.nodes[at];
         let same = u64::from(node.phase) == self.phases[at] % 256 && node.busy == self.busy[at];
         (!same).then(|| format!("the state of {at} is not what its history gives"))
     }
 
-    /// "within a phase only taken work wakes an idle one".
+    /// Only a take makes an idle node busy, unless it leaves.
     fn woken_by_work(&self, past: &Past, deed: Deed, at: usize) -> Option<String> {
         let woken = !past.busy[at] && self.nodes[at].busy && self.phases[at] == past.phases[at];
         let took = matches!(deed, Deed::Took { at: taker, .. } if taker == at);
         (woken && !took).then(|| format!("{at} woke without taken work"))
     }
 
-    /// "After every run without a loss, no board sticks: some node in the oldest phase is busy, has
-    /// something of that phase under way to it, or would send, move or leave on a barrier call with
-    /// a long enough buffer."
+    /// Rule P5: without a loss, some node of the oldest phase goes on.
     fn second_half(&self) -> Option<String> {
         if self.lost {
             return None;
@@ -287,19 +285,18 @@ impl Board {
     }
 }
 
-/// "only busy nodes send work".
+/// A send is done at busy nodes only.
 fn sent_by_busy(past: &Past, at: usize) -> Option<String> {
     (!past.busy[at]).then(|| format!("{at} sent work while idle"))
 }
 
-/// "once a node has left a phase, no work message of it is sent or taken".
+/// No message of a phase is sent or taken once a node has left it.
 fn nobody_has_left(past: &Past, phase: u64) -> Option<String> {
     let left = past.phases.iter().any(|&other| other > phase);
     left.then(|| format!("work of phase {phase} was sent or taken after a node left it"))
 }
 
-/// "no node leaves a phase while a work message of it is untaken, a node still in it is busy, or a
-/// node hasn't reached it".
+/// A node leaves only where all messages of its phase are taken, all nodes in it idle, and none is behind.
 fn may_leave(past: &Past, at: usize, phase: u64) -> Vec<String> {
     let mut faults = vec![];
     if past.untaken.iter().any(|message| message.phase == phase) {

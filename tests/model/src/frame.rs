@@ -1,4 +1,4 @@
-//! "Frames": fields, writer, reader, and the timing of phase bytes.
+//! Frames (rule F1 to rule F6): fields, writer, reader, and the timing of phase bytes.
 
 use crate::{no, tree, FIELD_LIMIT, SHELLS};
 
@@ -16,7 +16,7 @@ pub struct Fields {
     pub t: u32,
 }
 
-/// "0 now, 1 early, 255 late, 2 to 254 foreign".
+/// When an item was sent, seen from the node that gets it (rule F5).
 #[derive(Clone, Copy, Debug, PartialEq, Eq)]
 pub enum Timing {
     Now,
@@ -25,7 +25,7 @@ pub enum Timing {
     Foreign,
 }
 
-/// "The phase difference is frame (or message) minus node, modulo 256".
+/// Rule F5, by the phase bytes of an item and of a node.
 pub fn timing(item: u8, node: u8) -> Timing {
     match (256 + u32::from(item) - u32::from(node)) % 256 {
         0 => Timing::Now,
@@ -35,7 +35,7 @@ pub fn timing(item: u8, node: u8) -> Timing {
     }
 }
 
-/// "Pass 1: ... length 4 + 8(p − k) + 8. Pass 2: ... length 12." Wants pass 1 or 2 and k below p.
+/// The length of a frame by rule F3. Wants pass 1 or 2 and k below p.
 pub fn stated_length(p: u32, pass: u32, k: u32) -> usize {
     if pass == 1 {
         4 + 8 * (p - k) as usize + 8
@@ -44,12 +44,12 @@ pub fn stated_length(p: u32, pass: u32, k: u32) -> usize {
     }
 }
 
-/// "pass not 1 or 2, k not below p".
+/// The step of a frame is one of the board's; else 10.
 fn pass_and_dim_stand(p: u32, pass: u32, k: u32) -> bool {
     (pass == 1 || pass == 2) && k < p
 }
 
-/// "Frame writer, given P: 1, 10 (pass, k), 10 (numbers), 2, 14." Gives the length.
+/// The frame writer, in the order of rule R3: 1, 10 step, 10 numbers, 2, 14. Gives the length.
 pub fn write(board: u32, fields: &Fields, buffer: &mut [u8]) -> Result<usize, u8> {
     let p = tree::dimension(board)?;
     if !pass_and_dim_stand(p, fields.pass, fields.dim) {
@@ -65,12 +65,33 @@ pub fn write(board: u32, fields: &Fields, buffer: &mut [u8]) -> Result<usize, u8
     if buffer.len() < bytes.len() {
         return Err(no::BUFFER);
     }
-    // "A written frame touches its own bytes only."
+    // The other bytes stay (rule F6).
     buffer[..bytes.len()].copy_from_slice(&bytes);
     Ok(bytes.len())
 }
 
-/// No number is "above 16,776,960", and "the others are 0".
+/// The frame writer on the words of a frame (rule C6 and rule C7): a phase above 255 gives 10, after 1.
+pub fn write_words(board: u32, words: &[u32; 23], buffer: &mut [u8]) -> Result<usize, u8> {
+    tree::dimension(board)?;
+    let Ok(phase) = u8::try_from(words[1]) else {
+        return Err(no::FIELD);
+    };
+    let mut fields = Fields {
+        pass: words[0],
+        phase,
+        dim: words[2],
+        sender: words[3],
+        total_sent: words[4],
+        total_taken: words[5],
+        t: words[6],
+        ..Fields::default()
+    };
+    fields.sent.copy_from_slice(&words[7..15]);
+    fields.taken.copy_from_slice(&words[15..]);
+    write(board, &fields, buffer)
+}
+
+/// No number is above the limit, and those that the frame lacks are 0; else 10.
 fn numbers_stand(p: u32, fields: &Fields) -> bool {
     let mut all = vec![fields.total_sent, fields.total_taken, fields.t];
     all.extend(fields.sent);
@@ -91,8 +112,7 @@ fn others(p: u32, fields: &Fields) -> Vec<u32> {
     others
 }
 
-/// "Byte 0 the pass, byte 1 the phase, byte 2 the dimension k, byte 3 the sender; then four-byte
-/// numbers, low byte first."
+/// The bytes of a frame: four of the head (rule F1), then its numbers (rule F2).
 fn layout(p: u32, fields: &Fields) -> Vec<u8> {
     let mut bytes = vec![fields.pass as u8, fields.phase, fields.dim as u8, fields.sender as u8];
     for number in numbers(p, fields) {
@@ -101,8 +121,7 @@ fn layout(p: u32, fields: &Fields) -> Vec<u8> {
     bytes
 }
 
-/// "Pass 1: sent for shells k to p − 1, taken for the same, total sent, total taken ... Pass 2: T,
-/// total sent".
+/// The numbers of a frame in the order of rule F3.
 fn numbers(p: u32, fields: &Fields) -> Vec<u32> {
     if fields.pass == 2 {
         return vec![fields.t, fields.total_sent];
@@ -116,7 +135,7 @@ fn numbers(p: u32, fields: &Fields) -> Vec<u32> {
     numbers
 }
 
-/// "Frame reader, given P: 1, then as Frame from 9 (under 4) to 2", so 1, 9, 10, 9, 10, 2.
+/// The frame reader, in the order of rule R3: 1, 9, 10, 9, 10, 2.
 pub fn read(board: u32, bytes: &[u8]) -> Result<Fields, u8> {
     let p = tree::dimension(board)?;
     if bytes.len() < 4 {
@@ -141,7 +160,7 @@ pub fn read(board: u32, bytes: &[u8]) -> Result<Fields, u8> {
     Ok(with_numbers(p, head, &numbers))
 }
 
-/// "four-byte numbers, low byte first".
+/// Numbers of four bytes, the low byte first (rule F2).
 fn words(bytes: &[u8]) -> Vec<u32> {
     bytes.chunks(4).map(|w| u32::from_le_bytes([w[0], w[1], w[2], w[3]])).collect()
 }

@@ -1,4 +1,4 @@
-//! "The node": its state, the state test, the clauses and the calls.
+//! The node (rule N1 to rule N17): its state, the state test, the clauses and the calls.
 
 use crate::frame::{self, Fields, Timing};
 use crate::{no, tree, FIELD_LIMIT, SENT_LIMIT, SHELLS, TAKEN_LIMIT};
@@ -21,9 +21,7 @@ pub struct Second {
     pub total_sent: u32,
 }
 
-/// "A node has: P, its number, a phase (one byte), busy or idle, a sent tally and a taken tally per
-/// shell, a position (pass 1 or 2, dimension, a send flag), the latest stored frame per pass and
-/// dimension, and the agreed total T". P is `board`.
+/// A node's state with room for eight shells and dimensions (rule N1). P is `board`.
 #[derive(Clone, Copy, Debug, PartialEq, Eq, Hash)]
 pub struct Node {
     pub board: u32,
@@ -68,7 +66,7 @@ pub struct Sums {
 }
 
 impl Answer {
-    /// "Answers: a refusal, 0 done, ... 24 dropped."
+    /// The number of the answer (rule N18).
     pub fn number(&self) -> u8 {
         match self {
             Answer::Done => 0,
@@ -79,7 +77,7 @@ impl Answer {
 }
 
 impl Barrier {
-    /// "Answers: a refusal, ... 20 sent, 21 waits, 22 moved, 23 left".
+    /// The number of the answer (rule N18).
     pub fn number(&self) -> u8 {
         match self {
             Barrier::Sent { .. } => 20,
@@ -126,7 +124,7 @@ impl Node {
 // ---------------------------------------------------------------------------------------------
 // The state test
 
-/// "State is 13 when ..." none of these holds.
+/// Rule R5: unless all of these hold, a call answers 13.
 pub fn state_stands(node: &Node) -> bool {
     name_stands(node)
         && position_stands(node)
@@ -137,12 +135,12 @@ pub fn state_stands(node: &Node) -> bool {
         && earlier_steps_agree(node)
 }
 
-/// "P, own number ... is outside the bounds above".
+/// A board of 1 to 256 nodes, and one of its numbers.
 fn name_stands(node: &Node) -> bool {
     (1..=256).contains(&node.board) && node.number < node.board
 }
 
-/// "pass (1 when p is 0), dimension (0 when p is 0)".
+/// A pass and a dimension of the board; where p is 0, pass 1 and dimension 0.
 fn position_stands(node: &Node) -> bool {
     if node.p() == 0 {
         return node.pass == 1 && node.dim == 0;
@@ -150,7 +148,7 @@ fn position_stands(node: &Node) -> bool {
     (node.pass == 1 || node.pass == 2) && u32::from(node.dim) < node.p()
 }
 
-/// "tallies ... outside the bounds above"; "held with more shells than it has, ... the others are 0".
+/// Totals within the limits, and 0 for shells that the board lacks.
 fn tallies_stand(node: &Node) -> bool {
     let p = node.p() as usize;
     node.total_sent() <= u64::from(SENT_LIMIT)
@@ -163,8 +161,8 @@ fn stored_frames_stand(node: &Node) -> bool {
     (0..SHELLS).all(|k| first_stands(node, k) && second_stands(node, k))
 }
 
-/// "a stored field is outside the bounds above", "a frame is stored for a step that awaits none",
-/// and "the others are 0".
+/// A frame is stored only where one is awaited, its numbers are within the limit, and numbers that the
+/// place lacks are 0.
 fn first_stands(node: &Node, k: usize) -> bool {
     let frame = &node.first[k];
     if !frame.present {
@@ -190,25 +188,24 @@ fn second_stands(node: &Node, k: usize) -> bool {
     node.awaited(k as u32).is_some() && frame.t <= FIELD_LIMIT && frame.total_sent <= FIELD_LIMIT
 }
 
-/// "T ... is outside the bounds above, or T is not what its pass gives": "T (0 in pass 1)", and "the
-/// move then sets T to that number".
+/// T is 0 in pass 1, and in pass 2 what the move to it set.
 fn total_stands(node: &Node) -> bool {
     let given = if node.pass == 1 { 0 } else { agreed_total(node) };
     node.t <= FIELD_LIMIT && u64::from(node.t) == given
 }
 
-/// The total sent of clause 4, "own and frame's added".
+/// The total sent of clause 4, with the frame's added.
 fn agreed_total(node: &Node) -> u64 {
     let last = node.p() - 1;
     own_sums(node, last).total_sent + u64::from(node.first[last as usize].total_sent)
 }
 
-/// "a busy node is not at (1, 0, 1)".
+/// A busy node is at (1, 0, 1).
 fn busy_stands(node: &Node) -> bool {
     !node.busy || (node.pass, node.dim, node.flag) == (1, 0, true)
 }
 
-/// "a step before the position doesn't agree". Passes come first, then dimensions.
+/// Every step before the position agrees. Passes come first, then dimensions.
 fn earlier_steps_agree(node: &Node) -> bool {
     for pass in [1, 2] {
         for k in 0..node.p() {
@@ -221,10 +218,10 @@ fn earlier_steps_agree(node: &Node) -> bool {
 }
 
 // ---------------------------------------------------------------------------------------------
-// Own sums and clauses. These want a state whose P and number are in bounds, and k below p.
+// Own sums (rule N14) and clauses (rule N15). These want a state whose P and number are in bounds, and k
+// below p.
 
-/// "The own sums for pass 1, dimension k are the node's tallies for shells k to p − 1, and its total
-/// sent and total taken, plus the same fields of the stored pass 1 frames of dimensions below k."
+/// Own sums of pass 1: the node's numbers, and those of its stored pass 1 frames of dimensions below k.
 pub fn own_sums(node: &Node, k: u32) -> Sums {
     let mut own = Sums { total_sent: node.total_sent(), total_taken: node.total_taken(), ..Sums::default() };
     let lower: Vec<&First> = node.first[..k as usize].iter().filter(|frame| frame.present).collect();
@@ -243,7 +240,7 @@ pub fn own_sums(node: &Node, k: u32) -> Sums {
     own
 }
 
-/// "For pass 2 it is total sent plus that field of the stored pass 2 frames below k."
+/// The own sum of pass 2: the node's total sent, and those of its stored pass 2 frames below k.
 pub fn own_sum_pass_2(node: &Node, k: u32) -> u64 {
     let mut own = node.total_sent();
     for frame in node.second[..k as usize].iter().filter(|frame| frame.present) {
@@ -252,7 +249,7 @@ pub fn own_sum_pass_2(node: &Node, k: u32) -> u64 {
     own
 }
 
-/// The clauses of a step that fail. "An alone step has no clause."
+/// The clauses of a step that fail; a step at which the node is alone has none.
 pub fn failing(node: &Node, pass: u8, k: u32) -> Vec<u8> {
     if node.awaited(k).is_none() {
         return vec![];
@@ -264,7 +261,7 @@ pub fn failing(node: &Node, pass: u8, k: u32) -> Vec<u8> {
     }
 }
 
-/// "A step agrees when none of these clauses fails".
+/// Rule N16.
 pub fn agrees(node: &Node, pass: u8, k: u32) -> bool {
     failing(node, pass, k).is_empty()
 }
@@ -278,24 +275,24 @@ fn those_that_fail(clauses: &[(u8, bool)]) -> Vec<u8> {
 fn failing_pass_1(node: &Node, k: u32) -> Vec<u8> {
     let frame = &node.first[k as usize];
     if !frame.present {
-        // "no frame is stored (then no other is tried)".
+        // Nothing to compare with: a wait names this clause and no other (rule N17).
         return vec![0];
     }
     let (own, p, shell) = (own_sums(node, k), node.p(), k as usize);
     let total_sent = own.total_sent + u64::from(frame.total_sent);
     let total_taken = own.total_taken + u64::from(frame.total_taken);
     those_that_fail(&[
-        // "own sent for shell k is the frame's taken".
+        // What this side sent the other has taken.
         (1, own.sent[shell] == u64::from(frame.taken[shell])),
-        // "own taken for shell k is the frame's sent".
+        // And the other way.
         (2, own.taken[shell] == u64::from(frame.sent[shell])),
         (3, sums_fit(&own, frame, k, p)),
-        // "last dimension: total sent equals total taken, own and frame's added".
+        // On the whole board as much is taken as is sent.
         (4, k + 1 != p || total_sent == total_taken),
     ])
 }
 
-/// "no own sum with the frame's field added (shells above k and both totals ...) is above 16,776,960".
+/// Clause 3 of pass 1: shells above k and both totals, with the frame's added, are within the limit.
 fn sums_fit(own: &Sums, frame: &First, k: u32, p: u32) -> bool {
     let mut sums =
         vec![own.total_sent + u64::from(frame.total_sent), own.total_taken + u64::from(frame.total_taken)];
@@ -314,11 +311,11 @@ fn failing_pass_2(node: &Node, k: u32) -> Vec<u8> {
     }
     let total_sent = own_sum_pass_2(node, k) + u64::from(frame.total_sent);
     those_that_fail(&[
-        // "in pass 2 total sent".
+        // The sum is within the limit.
         (3, total_sent <= u64::from(FIELD_LIMIT)),
-        // "both T are equal".
+        // The other side has agreed on the same total.
         (5, node.t == frame.t),
-        // "last dimension: total sent, own and frame's added, is T".
+        // T is what the whole board has sent.
         (6, k + 1 != node.p() || total_sent == u64::from(node.t)),
     ])
 }
@@ -326,7 +323,7 @@ fn failing_pass_2(node: &Node, k: u32) -> Vec<u8> {
 // ---------------------------------------------------------------------------------------------
 // The calls
 
-/// "Fresh: phase 0, busy, tallies 0, nothing stored, position (1, 0, flag 1)."
+/// A fresh node (rule N4).
 fn fresh_state(board: u32, number: u32) -> Node {
     Node {
         board,
@@ -344,7 +341,7 @@ fn fresh_state(board: u32, number: u32) -> Node {
     }
 }
 
-/// "Fresh: 1, 2."
+/// Fresh (rule N4): 1, 2.
 pub fn fresh(board: u32, number: u32) -> Result<Node, u8> {
     tree::dimension(board)?;
     if number >= board {
@@ -353,7 +350,7 @@ pub fn fresh(board: u32, number: u32) -> Result<Node, u8> {
     Ok(fresh_state(board, number))
 }
 
-/// "Send: 13, 2, 3, 4, 5."
+/// Send (rule N5): 13, 2, 3, 4, 5.
 pub fn send(node: Node, to: u32) -> (Node, Answer) {
     match send_refusal(&node, to) {
         Some(number) => (node, Answer::Refused(number)),
@@ -385,14 +382,14 @@ fn shell_of(node: &Node, other: u32) -> usize {
     tree::distance(node.board, node.number, other).expect("two nodes of the board") as usize
 }
 
-/// "Send to a node adds 1 to the sent tally of its shell."
+/// One message more to the shell that the receiver is in.
 fn with_sent(node: Node, to: u32) -> Node {
     let mut after = node;
     after.sent[shell_of(&node, to)] += 1;
     after
 }
 
-/// "Take: 13, 2, 3, 7 or 8, 6." `phase` is the message's phase byte.
+/// Take (rule N6): 13, 2, 3, 7, 8, 6. `phase` is the message's phase byte.
 pub fn take(node: Node, from: u32, phase: u8) -> (Node, Answer) {
     match take_refusal(&node, from, phase) {
         Some(number) => (node, Answer::Refused(number)),
@@ -413,7 +410,7 @@ fn take_refusal(node: &Node, from: u32, phase: u8) -> Option<u8> {
     match frame::timing(phase, node.phase) {
         Timing::Now => {}
         Timing::Early => return Some(no::EARLY),
-        // "difference 2 to 254; for work also 255".
+        // Late work is foreign too (rule R1).
         Timing::Late | Timing::Foreign => return Some(no::FOREIGN),
     }
     if node.total_taken() == u64::from(TAKEN_LIMIT) {
@@ -422,8 +419,7 @@ fn take_refusal(node: &Node, from: u32, phase: u8) -> Option<u8> {
     None
 }
 
-/// "Take from a node adds 1 to the taken tally of its shell, makes the node busy and sets position
-/// (1, 0, 1) and T to 0."
+/// One message more from the sender's shell; the node is busy at (1, 0, 1), without T.
 fn with_taken(node: Node, from: u32) -> Node {
     let mut after = node;
     after.taken[shell_of(&node, from)] += 1;
@@ -433,7 +429,7 @@ fn with_taken(node: Node, from: u32) -> Node {
     after
 }
 
-/// "Idle: 13." "Idle makes the node idle. Already idle: accepted, no effect."
+/// Idle (rule N7): 13. An idle node may say it again.
 pub fn idle(node: Node) -> (Node, Answer) {
     if !state_stands(&node) {
         return (node, Answer::Refused(no::STATE));
@@ -441,7 +437,7 @@ pub fn idle(node: Node) -> (Node, Answer) {
     (Node { busy: false, ..node }, Answer::Done)
 }
 
-/// "Frame: 13, 9 (under 4), 10 (pass, k), 9, 10 (numbers), 2, 3, 11, then phase."
+/// Frame in (rule N8): 13, 9, 10, 9, 10, 2, 3, 11, and the phase last of all (rule R7).
 pub fn frame_in(node: Node, bytes: &[u8]) -> (Node, Answer) {
     let fields = match admitted_frame(&node, bytes) {
         Ok(fields) => fields,
@@ -450,7 +446,7 @@ pub fn frame_in(node: Node, bytes: &[u8]) -> (Node, Answer) {
     match frame::timing(fields.phase, node.phase) {
         Timing::Now => (with_frame(node, &fields), Answer::Done),
         Timing::Early => (node, Answer::Refused(no::EARLY)),
-        // "A late frame is accepted and dropped, without effect."
+        // Accepted, without effect.
         Timing::Late => (node, Answer::Dropped),
         Timing::Foreign => (node, Answer::Refused(no::FOREIGN)),
     }
@@ -471,9 +467,8 @@ fn admitted_frame(node: &Node, bytes: &[u8]) -> Result<Fields, u8> {
     Ok(fields)
 }
 
-/// "Frame in stores the frame for its pass and dimension. If that step is earlier than the node's
-/// position (pass first, then dimension), the position becomes that step with flag 0, and T becomes
-/// 0 if the pass is 1."
+/// The frame is stored; one of an earlier step takes the position back to it, with flag 0, and T is 0 if
+/// that is in pass 1.
 fn with_frame(node: Node, fields: &Fields) -> Node {
     let mut after = node;
     let (pass, k) = (fields.pass as u8, fields.dim);
@@ -501,7 +496,7 @@ fn stored_first(fields: &Fields) -> First {
     }
 }
 
-/// "Barrier call, one step." "Barrier: 13, 12, 14."
+/// Barrier call (rule N9): 13, 12, 14.
 pub fn barrier(node: Node, buffer: &mut [u8]) -> (Node, Barrier) {
     if !state_stands(&node) {
         return (node, Barrier::Refused(no::STATE));
@@ -510,19 +505,18 @@ pub fn barrier(node: Node, buffer: &mut [u8]) -> (Node, Barrier) {
         return (node, Barrier::Refused(no::WORKING));
     }
     if node.board == 1 {
-        // "With P = 1 an idle node leaves on its first call."
+        // There is nobody to ask.
         return (left(node), Barrier::Left);
     }
     let receivers = tree::receivers(node.board, node.number, u32::from(node.dim)).expect("k below p");
     if node.flag && !receivers.is_empty() {
         return sign_in(node, receivers, buffer);
     }
-    // "Flag 1 and nobody to send to: same call goes on as for flag 0."
+    // Also with flag 1, where there is nobody to send to.
     look(node)
 }
 
-/// "Flag 1 and someone to send to: writes the frame, flag 0, answer sent, naming one or two
-/// receivers, the neighbour first."
+/// Rule N10: the frame is written, and the flag is 0 from then on.
 fn sign_in(node: Node, receivers: Vec<u32>, buffer: &mut [u8]) -> (Node, Barrier) {
     match frame::write(node.board, &due_frame(&node), buffer) {
         Ok(length) => (Node { flag: false, ..node }, Barrier::Sent { receivers, length }),
@@ -560,7 +554,7 @@ fn narrow(sum: u64) -> u32 {
     u32::try_from(sum).expect("clause 3 keeps the own sums of later steps in bounds")
 }
 
-/// "Flag 0: with agreement (or alone) it moves ... Else it waits, the flag being 0 then."
+/// Rule N11 where the step agrees, else rule N12.
 fn look(node: Node) -> (Node, Barrier) {
     let (pass, k) = (node.pass, u32::from(node.dim));
     let failing = failing(&node, pass, k);
@@ -569,22 +563,22 @@ fn look(node: Node) -> (Node, Barrier) {
     }
     let last = k + 1 == node.p();
     if last && pass == 2 {
-        // "after the last of pass 2 it leaves".
+        // Both passes are through.
         return (left(node), Barrier::Left);
     }
     let mut after = node;
     if last {
-        // "after the last dimension of pass 1 to (2, 0, 1) with T set".
+        // To pass 2, with the total that was found.
         after.set_position(2, 0, true);
         after.t = narrow(agreed_total(&node));
     } else {
-        // "it moves to the next dimension with flag 1".
+        // To the next dimension, whose frame is yet to be sent.
         after.set_position(pass, k + 1, true);
     }
     (after, Barrier::Moved)
 }
 
-/// "Leaving adds 1 to the phase, 255 going to 0, and makes the rest fresh."
+/// Rule N13: the next phase, and the rest fresh.
 fn left(node: Node) -> Node {
     let phase = if node.phase == 255 { 0 } else { node.phase + 1 };
     Node { phase, ..fresh_state(node.board, node.number) }

@@ -1,15 +1,15 @@
-//! "Rehearsal": from the bytes of a script to the bytes printed.
+//! The rehearsal (rule S1 to rule S9): from the bytes of a script to the bytes printed.
 
 use crate::node::{self, Answer, Barrier, Node};
 use crate::{frame, no, tree, LONGEST};
 
-/// "a script of at most 4,096 bytes".
+/// The most bytes of a script (rule S2).
 pub const SCRIPT_LIMIT: usize = 4096;
 
-/// "Items under way, at most 512".
+/// The most places for items (rule S5).
 pub const PLACES: usize = 512;
 
-/// "rehearsal: above 16".
+/// The most nodes of a rehearsal's board (rule S4).
 const LARGEST_BOARD: u32 = 16;
 
 #[derive(Clone, Copy, Debug, Default, PartialEq, Eq)]
@@ -19,7 +19,7 @@ pub enum Kind {
     Frame,
 }
 
-/// An item of the "list of headers lent by the caller, oldest first".
+/// An item of the lent list of headers (rule S5).
 #[derive(Clone, Copy, Debug, Default, PartialEq, Eq)]
 pub struct Header {
     pub from: u32,
@@ -68,7 +68,7 @@ fn play_script(
     output: &mut Vec<u8>,
 ) -> Result<(), (u8, usize)> {
     if script.len() > SCRIPT_LIMIT {
-        // "17 at line 0 for a script too long".
+        // Too long: before any line is looked at (rule S4).
         return Err((no::SCRIPT, 0));
     }
     let (first, mut rest) = cut_line(script).ok_or((no::SCRIPT, 1))?;
@@ -95,12 +95,12 @@ fn cut_line(script: &[u8]) -> Option<(&[u8], &[u8])> {
     Some((&script[..end], &script[end + 1..]))
 }
 
-/// "One blank between parts".
+/// The parts between blanks (rule S3).
 fn parts(line: &[u8]) -> Vec<&[u8]> {
     line.split(|&byte| byte == b' ').collect()
 }
 
-/// "decimal, one to three digits, no leading zeros".
+/// A number of a line (rule S3).
 fn number(part: &[u8]) -> Option<u32> {
     let digits = (1..=3).contains(&part.len()) && part.iter().all(u8::is_ascii_digit);
     let leading_zero = part.len() > 1 && part[0] == b'0';
@@ -110,7 +110,7 @@ fn number(part: &[u8]) -> Option<u32> {
     Some(part.iter().fold(0, |value, digit| 10 * value + u32::from(digit - b'0')))
 }
 
-/// `nodes P`: 17 when not of that form, 1 when "P is 0 or above 256 (rehearsal: above 16)".
+/// `nodes P`: 17 when not of that form, 1 when no rehearsal has such a board (rule S4).
 fn board_size(line: &[u8]) -> Result<u32, u8> {
     let parts = parts(line);
     if parts.len() != 2 || parts[0] != b"nodes" {
@@ -123,8 +123,7 @@ fn board_size(line: &[u8]) -> Result<u32, u8> {
     Ok(size)
 }
 
-/// "`s a b` (a sends work to b), `d a b` (the oldest item from a reaches b), `i a` (idle), `b a`
-/// (barrier call)". "Node numbers not below P give 17."
+/// A later line (rule S3); none where it is not of the form, or names a node that the board lacks.
 fn parse_line(line: &[u8], size: u32) -> Option<Line> {
     let parts = parts(line);
     let mut ends = vec![];
@@ -144,7 +143,7 @@ fn parse_line(line: &[u8], size: u32) -> Option<Line> {
 // The events
 
 impl Stage<'_> {
-    /// "acting node (receiver for `d`), answer, then its phase, pass, dimension, flag, 1 if busy".
+    /// Plays a line, and gives what is printed for it (rule S9).
     fn play(&mut self, line: Line) -> String {
         let (acting, answer) = match line {
             Line::Send { a, b } => (a, self.send(a, b)),
@@ -157,8 +156,7 @@ impl Stage<'_> {
         format!("{acting} {answer} {} {} {} {flag} {busy}\n", node.phase, node.pass, node.dim)
     }
 
-    /// "A call that needs more places than are left, and would be accepted otherwise, gives 15 and
-    /// changes nothing."
+    /// 15, where there is no place left, comes after every refusal of the call (rule S7).
     fn send(&mut self, a: u32, b: u32) -> u8 {
         let (after, answer) = node::send(self.nodes[a as usize], b);
         if answer == Answer::Done {
@@ -193,7 +191,7 @@ impl Stage<'_> {
         answer.number()
     }
 
-    /// "`d` with nothing there gives 16; an early item stays and gives 7."
+    /// Rule S8: 16 with nothing on the link; an early item stays.
     fn deliver(&mut self, a: u32, b: u32) -> u8 {
         let on_link = |header: &Header| header.from == a && header.to == b;
         let Some(place) = self.headers[..self.count].iter().position(on_link) else {
@@ -216,12 +214,12 @@ impl Stage<'_> {
 // The places
 
 impl Stage<'_> {
-    /// The places lent, "at most 512", less those in use.
+    /// The places lent, 512 at most, less those in use.
     fn left(&self) -> usize {
         PLACES.min(self.headers.len()).min(self.buffer.len() / LONGEST) - self.count
     }
 
-    /// "Each frame is written at its item's place". Other bytes stay.
+    /// A frame goes to the start of its item's place; other bytes stay (rule S6).
     fn append(&mut self, header: Header, bytes: &[u8]) {
         let start = self.count * LONGEST;
         self.headers[self.count] = header;
@@ -237,7 +235,7 @@ impl Stage<'_> {
         bytes[..length].to_vec()
     }
 
-    /// "Removal closes the gap." The last place in use keeps what it had.
+    /// All places above move down; the last place in use keeps what it had (rule S6).
     fn remove(&mut self, place: usize) {
         for above in place + 1..self.count {
             self.headers[above - 1] = self.headers[above];

@@ -1,4 +1,4 @@
-//! "The tree": dimension, runs, places, partners and distance.
+//! The tree (rule T1 to rule T6): dimension, runs, places, partners and distance.
 
 use crate::no;
 
@@ -27,8 +27,7 @@ impl Run {
         self.first <= node && node <= self.last
     }
 
-    /// "A run i to j splits into i to floor((i + j) / 2) and the rest ...; a run of one node has no
-    /// right part."
+    /// Rule T3: the two parts of a run; a run of one node has no right part.
     fn split(self) -> (Run, Option<Run>) {
         let middle = (self.first + self.last) / 2;
         let left = Run { first: self.first, last: middle };
@@ -39,7 +38,7 @@ impl Run {
     }
 }
 
-/// "The dimension p is the smallest number with P ≤ 2^p, so 1 gives 0."
+/// Rule T2: the smallest number p with P ≤ 2^p.
 pub fn dimension(board: u32) -> Result<u32, u8> {
     if board == 0 || board > 256 {
         return Err(no::BOARD);
@@ -51,7 +50,7 @@ pub fn dimension(board: u32) -> Result<u32, u8> {
     Ok(p)
 }
 
-/// "Tree lookups: 1, 2, then 10 (k)". Gives p.
+/// The refusals of a lookup in a dimension, in the order of rule R3. Gives p.
 fn admit(board: u32, node: u32, k: u32) -> Result<u32, u8> {
     let p = dimension(board)?;
     if node >= board {
@@ -63,8 +62,8 @@ fn admit(board: u32, node: u32, k: u32) -> Result<u32, u8> {
     Ok(p)
 }
 
-/// "The root, of dimension p, is the run 0 to P − 1. A run ... splits into ..., each one dimension
-/// lower." Wants a node of the board and k at most p.
+/// Rule T3: the run of a node in dimension k, by splits of the whole board. Wants a node of the board and k
+/// at most p.
 fn descend(board: u32, p: u32, node: u32, k: u32) -> Run {
     let mut run = Run { first: 0, last: board - 1 };
     for _ in k..p {
@@ -86,24 +85,23 @@ pub fn run(board: u32, node: u32, k: u32) -> Result<Run, u8> {
 pub fn place(board: u32, node: u32, k: u32) -> Result<Place, u8> {
     let p = admit(board, node, k)?;
     Ok(match descend(board, p, node, k + 1).split() {
-        // "A node whose run has no sibling is alone."
+        // Its run has no sibling.
         (_, None) => Place::Alone,
         (left, Some(right)) if left.has(node) => place_left(left, right, node),
         (left, Some(right)) => place_right(left, right, node),
     })
 }
 
-/// "If the left run is longer and its sibling exists, its last node is a hermit: it ... awaits the
-/// next node".
+/// Rule T4 for the left part: its last node is a hermit where it is the longer one.
 fn place_left(left: Run, right: Run, node: u32) -> Place {
     if left.count() > right.count() && node == left.last {
         return Place::Hermit { awaits: node + 1 };
     }
-    // "The m-th nodes of two sibling runs are neighbours".
+    // The node at the same place of the other part.
     Place::Neighbour { neighbour: right.first + (node - left.first) }
 }
 
-/// "the next node, the messenger, which sends its frame to its own neighbour and to the hermit."
+/// Rule T4 for the right part: its first node is the messenger where there is a hermit.
 fn place_right(left: Run, right: Run, node: u32) -> Place {
     let neighbour = left.first + (node - right.first);
     if left.count() > right.count() && node == left.last + 1 {
@@ -122,7 +120,7 @@ pub fn awaited(board: u32, node: u32, k: u32) -> Result<Option<u32>, u8> {
     })
 }
 
-/// The nodes that get this node's frame of dimension k, "the neighbour first".
+/// The nodes that get this node's frame of dimension k, the neighbour first.
 pub fn receivers(board: u32, node: u32, k: u32) -> Result<Vec<u32>, u8> {
     Ok(match place(board, node, k)? {
         Place::Alone | Place::Hermit { .. } => vec![],
@@ -131,7 +129,7 @@ pub fn receivers(board: u32, node: u32, k: u32) -> Result<Vec<u32>, u8> {
     })
 }
 
-/// "The distance of two nodes is the largest dimension in which they are in different runs."
+/// Rule T6: the largest dimension in which the runs of two nodes differ.
 pub fn distance(board: u32, a: u32, b: u32) -> Result<u32, u8> {
     let p = dimension(board)?;
     if a >= board || b >= board {

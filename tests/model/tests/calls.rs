@@ -28,7 +28,7 @@ fn fresh_order_of_refusals() {
     assert_eq!((node.sent, node.taken), ([0; 8], [0; 8]));
 }
 
-/// "Send: 13, 2, 3, 4, 5."
+/// Send: 13, 2, 3, 4, 5 (rule R3).
 #[test]
 fn send_order_of_refusals() {
     for bad in [false, true] {
@@ -51,7 +51,7 @@ fn send_order_of_refusals() {
     }
 }
 
-/// "Take: 13, 2, 3, 7 or 8, 6."
+/// Take: 13, 2, 3, 7, 8, 6 (rule R3).
 #[test]
 fn take_order_of_refusals() {
     for bad in [false, true] {
@@ -83,7 +83,7 @@ fn take_order_of_refusals() {
     }
 }
 
-/// "Idle: 13." "Already idle: accepted, no effect."
+/// Idle: 13 (rule R3); an idle node may say it again (rule N7).
 #[test]
 fn idle_calls() {
     let node = fresh(3, 1).unwrap();
@@ -94,7 +94,7 @@ fn idle_calls() {
     assert_eq!(idle(bad), (bad, Answer::Refused(13)));
 }
 
-/// "Barrier: 13, 12, 14."
+/// Barrier: 13, 12, 14 (rule R3).
 #[test]
 fn barrier_order_of_refusals() {
     for bad in [false, true] {
@@ -120,7 +120,7 @@ fn barrier_order_of_refusals() {
     }
 }
 
-/// "Frame: 13, 9 (under 4), 10 (pass, k), 9, 10 (numbers), 2, 3, 11, then phase."
+/// Frame in: 13, 9, 10, 9, 10, 2, 3, 11, then the phase (rule R3, rule R7).
 #[test]
 fn frame_in_order_of_refusals() {
     for bad in [false, true] {
@@ -173,7 +173,7 @@ fn frame_in_case(bad: bool, pass: u8, dim: u8, by: i32, number: u32, sender: u8,
     }
 }
 
-/// "Send 65,535 done, the next 5."
+/// The last send that is done, and the first that is refused with 5 (rule R1).
 #[test]
 fn sends_to_the_limit() {
     let mut node = fresh(5, 0).unwrap();
@@ -205,7 +205,7 @@ fn takes_to_the_limit() {
     assert_eq!(take(node, 1, 0), (node, Answer::Refused(13)));
 }
 
-/// "makes the node busy and sets position (1, 0, 1) and T to 0"; stored frames stay.
+/// A take makes the node busy at (1, 0, 1) without T; stored frames stay (rule N6).
 #[test]
 fn a_take_goes_back_to_the_start() {
     let mut node = Node { busy: false, pass: 2, dim: 0, flag: false, ..fresh(2, 1).unwrap() };
@@ -235,8 +235,7 @@ fn settled(pass: u8, dim: u8, flag: bool) -> Node {
     node
 }
 
-/// "If that step is earlier than the node's position (pass first, then dimension), the position
-/// becomes that step with flag 0".
+/// A frame of an earlier step takes the position back to it, with flag 0 (rule N8).
 #[test]
 fn frames_of_earlier_steps_roll_back() {
     let steps = [(1, 0), (1, 1), (2, 0), (2, 1)];
@@ -269,7 +268,7 @@ fn a_pass_1_frame_sets_t_to_0() {
     assert_eq!(barrier(back, &mut []).1, Barrier::Waits { failing: vec![1, 4] });
 }
 
-/// "Treating a late frame as now."
+/// A late frame is not taken for one of now (rule R7).
 #[test]
 fn a_late_frame_is_dropped() {
     let node = Node { phase: 0, ..fresh(2, 0).unwrap() };
@@ -305,8 +304,8 @@ fn the_steps_of_a_settled_node() {
     assert_eq!(node, Node { phase: 1, ..fresh(4, 0).unwrap() });
 }
 
-/// "Forgetting the hermit's frame, or awaiting one from it": on a board of 3, node 1 is the hermit of
-/// node 2 in dimension 1.
+/// The hermit gets a frame and sends none (rule T4): on a board of 3, node 1 is the hermit of node 2 in
+/// dimension 1.
 #[test]
 fn hermit_messenger_and_alone() {
     let alone = Node { busy: false, ..fresh(3, 2).unwrap() };

@@ -1,6 +1,6 @@
 //! Frames: lengths, bytes, round trips, the order of refusals, and the timing of phase bytes.
 
-use model::frame::{read, stated_length, timing, write, Fields, Timing};
+use model::frame::{read, stated_length, timing, write, write_words, Fields, Timing};
 use model::random::Random;
 use model::tree::dimension;
 use model::{FIELD_LIMIT, LONGEST, SHELLS};
@@ -71,7 +71,7 @@ fn random_fields(random: &mut Random, board: u32) -> Fields {
     fields
 }
 
-/// "frames survive writing and reading".
+/// What is written is read as the same fields (rule F7).
 #[test]
 fn what_is_written_is_read() {
     let mut random = Random::new(1);
@@ -87,7 +87,7 @@ fn what_is_written_is_read() {
     }
 }
 
-/// "every frame read is the one its fields write".
+/// What is read is written as the same bytes (rule F7).
 #[test]
 fn what_is_read_is_written() {
     let mut random = Random::new(2);
@@ -116,7 +116,7 @@ fn first(conditions: &[(bool, u8)]) -> Option<u8> {
     conditions.iter().find(|(met, _)| *met).map(|(_, number)| *number)
 }
 
-/// "Frame writer, given P: 1, 10 (pass, k), 10 (numbers), 2, 14."
+/// Frame writer: 1, 10 step, 10 numbers, 2, 14 (rule R3).
 #[test]
 fn writer_order_of_refusals() {
     for board in [0, 1, 2, 6, 256, 257, u32::MAX] {
@@ -156,8 +156,32 @@ fn writer_order_of_refusals() {
     }
 }
 
-/// "Where a ... frame is held with more shells than it has, or ... with numbers that its pass doesn't
-/// have, the others are 0, else ... 10 (numbers) from the writer."
+/// Words above 255 where a frame has a byte: a phase gives 10 after 1, the others what the writer gives (rule C7).
+#[test]
+fn words_that_are_no_byte() {
+    for (board, sender) in [(0, 1), (1, 10), (2, 2), (6, 2), (256, 2), (257, 1)] {
+        let others = if sender == 1 { 1 } else { 10 };
+        for (at, expected) in [(0, others), (1, others), (2, others), (3, sender)] {
+            for word in [256, 257, 65_537, u32::MAX] {
+                let mut words = [0; 23];
+                (words[0], words[3]) = (1, 1);
+                words[at] = word;
+                let mut buffer = [0x5a; 76];
+                assert_eq!(write_words(board, &words, &mut buffer), Err(expected));
+                assert_eq!(buffer, [0x5a; 76]);
+            }
+        }
+    }
+    let mut words = [0; 23];
+    (words[0], words[1], words[3], words[4], words[6]) = (2, 257, 9, 3, 258);
+    assert_eq!(write_words(2, &words, &mut []), Err(10));
+    (words[1], words[3]) = (255, 1);
+    let mut buffer = [0; 12];
+    assert_eq!(write_words(2, &words, &mut buffer), Ok(12));
+    assert_eq!(buffer, [2, 255, 0, 1, 2, 1, 0, 0, 3, 0, 0, 0]);
+}
+
+/// A number that the frame lacks is 0, else the writer gives 10 (rule F4).
 #[test]
 fn writer_wants_the_other_numbers_0() {
     let mut buffer = [0; LONGEST];
@@ -181,7 +205,7 @@ fn writer_wants_the_other_numbers_0() {
     }
 }
 
-/// "Field 16,776,960 taken, 16,776,961 gives 10", at each number of a frame.
+/// The largest number is accepted and the next gives 10 (rule F2), at each number of a frame.
 #[test]
 fn each_number_at_its_limit() {
     let mut buffer = [0; LONGEST];
@@ -203,7 +227,7 @@ fn each_number_at_its_limit() {
     }
 }
 
-/// "Frame reader, given P: 1, then ... 9 (under 4), 10 (pass, k), 9, 10 (numbers), 2".
+/// Frame reader: 1, 9 under 4 bytes, 10 step, 9 length, 10 numbers, 2 (rule R3).
 #[test]
 fn reader_order_of_refusals() {
     for board in [0, 1, 2, 6, 256, 257, u32::MAX] {

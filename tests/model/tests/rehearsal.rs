@@ -128,7 +128,7 @@ fn refusals_are_printed() {
     assert_eq!(lines(script), expected);
 }
 
-/// "an early item stays and gives 7": the worked script up to where 0 has left, and 0 sends on.
+/// An early item stays (rule S8): the worked script up to where 0 has left, and 0 sends on.
 #[test]
 fn an_early_item_stays() {
     let head = "nodes 2\ni 0\nb 0\ni 1\nd 0 1\nb 1\nb 1\nb 1\nd 1 0\nb 0\nb 0\nd 1 0\nb 0\n";
@@ -199,7 +199,7 @@ fn places_are_those_lent() {
     assert!(lent[PLACES..].iter().all(|header| header.phase == 99));
 }
 
-/// "Each frame is written at its item's place"; "Removal closes the gap."
+/// What the lent memory holds after frames are put and removed (rule S6).
 #[test]
 fn the_lent_memory() {
     let mut headers = vec![Header::default(); 4];

@@ -1,4 +1,4 @@
-//! Runs with every sentence of demand 3 checked after every event.
+//! Runs with rule P4 and rule P5 checked after every event.
 
 use model::board::{Board, Event, Item, Load, Outcome};
 use model::node::{self, Answer, Barrier, Node};
@@ -147,7 +147,7 @@ fn boards_up_to_256() {
     }
 }
 
-/// "Leaving adds 1 to the phase, 255 going to 0".
+/// After phase 255 comes phase 0 (rule N13).
 #[test]
 fn phases_follow_255_by_0() {
     let mut board = Board::new(1);
@@ -313,7 +313,7 @@ fn the_checker_notices_a_board_that_sticks() {
     assert_eq!(faults(&mut board, Event::Idle { at: 0 }), "");
 }
 
-/// "With none there nothing happens", and refused calls put nothing on a link.
+/// A delivery without an item does nothing (rule H4), and refused calls put nothing on a link (rule H3).
 #[test]
 fn refused_calls_change_nothing() {
     let mut board = resting_pair();

@@ -173,7 +173,7 @@ fn a_board_of_one() {
     assert_eq!(frame_in(node, &[1, 0, 0, 0]).1, Answer::Refused(10));
 }
 
-/// "a frame is stored for a step that awaits none": node 2 of 6 is alone in 0.
+/// No frame is stored for a step that awaits none (rule R5): node 2 of 6 is alone in 0.
 #[test]
 fn an_alone_step_stores_nothing() {
     let node = fresh(6, 2).unwrap();

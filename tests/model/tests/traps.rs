@@ -1,4 +1,4 @@
-//! "Traps in the printed form", played on boards with demand 3 checked.
+//! Runs that a simpler barrier gets wrong, with rule P4 and rule P5 checked.
 
 use model::board::{Board, Event, Outcome};
 use model::node::{Answer, Barrier};
@@ -27,34 +27,34 @@ fn signs_in(board: &mut Board, at: u32, to: u32) {
     assert!(matches!(barrier(board, at), Barrier::Sent { receivers, .. } if receivers == [to]));
 }
 
-/// The printed story up to the point where node 0 "now sees 1 against 1 both ways".
+/// The run of rule P7 up to the point where node 0 finds that sums of different moments agree.
 fn trapped() -> Board {
     let mut board = Board::new(4);
-    // "2 signs in with zeros".
+    // Node 2 has neither sent nor taken anything when it signs in.
     idle(&mut board, 2);
     signs_in(&mut board, 2, 3);
-    // "1 sends to 2 (slow), signs in to 0".
+    // A message from 1 to 2 stays under way for long.
     send(&mut board, 1, 2);
     idle(&mut board, 1);
     signs_in(&mut board, 1, 0);
     deliver(&mut board, 1, 0);
-    // "3 sends to 1; 1 wakes, sends to 3".
+    // Work wakes 1 again, which sends some itself.
     send(&mut board, 3, 1);
     deliver(&mut board, 3, 1);
     send(&mut board, 1, 3);
-    // "3 takes it, goes idle and signs in to 2".
+    // So 3 tells 2 of one message each way with the other half.
     deliver(&mut board, 1, 3);
     idle(&mut board, 3);
     signs_in(&mut board, 3, 2);
     deliver(&mut board, 3, 2);
-    // "2 passes dimension 0 and sends to 0".
+    // Node 2 passes that on to 0.
     assert_eq!(barrier(&mut board, 2), Barrier::Moved);
     signs_in(&mut board, 2, 0);
     deliver(&mut board, 2, 0);
-    // "then the slow message reaches 2, which sends work to 0".
+    // Only now the slow message comes, and 2 sends work on.
     deliver(&mut board, 1, 2);
     send(&mut board, 2, 0);
-    // "Node 0 takes it, goes idle, passes dimension 0".
+    // Node 0 takes it, and by the first frame of 1 its half has one message each way too.
     deliver(&mut board, 2, 0);
     idle(&mut board, 0);
     signs_in(&mut board, 0, 1);
@@ -62,7 +62,7 @@ fn trapped() -> Board {
     board
 }
 
-/// "Here it may move to pass 2 with T = 2 and must wait there."
+/// Rule P7: it moves to pass 2 with T = 2, and waits there.
 #[test]
 fn leaving_after_one_pass() {
     let mut board = trapped();
@@ -99,7 +99,7 @@ fn the_trapped_board_ends_its_phase() {
     assert_eq!(board.phases, [1; 4]);
 }
 
-/// "Document 002 sets the flag to 0 here; then the new tally never goes out."
+/// A take sets flag 1 (rule N6); with flag 0 the new tally would never go out.
 #[test]
 fn a_new_tally_goes_out_after_a_take() {
     let mut board = Board::new(2);
@@ -118,7 +118,7 @@ fn a_new_tally_goes_out_after_a_take() {
     assert_eq!(board.nodes[0].t, 1);
 }
 
-/// "Undoing tallies on a rollback": a frame that rolls back leaves the node's tallies alone.
+/// A frame that takes the position back leaves the node's tallies alone (rule N8).
 #[test]
 fn a_rollback_undoes_no_tally() {
     let mut board = trapped();

@@ -83,7 +83,7 @@ fn receivers_are_those_that_await() {
     }
 }
 
-/// "it happens in dimension 0 only"; "It is never the last dimension."
+/// A node is alone in dimension 0 only, and never in the last one (rule T5).
 #[test]
 fn alone_in_dimension_0_only() {
     for board in 1..=256 {
@@ -139,7 +139,7 @@ fn distance_is_the_largest_dimension_of_different_runs() {
     }
 }
 
-/// "Tree lookups: 1, 2, then 10 (k) or, for a distance, 3."
+/// Lookups: 1, 2, then 10 for a place and 3 for a distance (rule R3).
 #[test]
 fn order_of_refusals() {
     let values = [0, 1, 2, 3, 5, 6, 7, 8, 9, 16, 255, 256, 257, 65_536, u32::MAX];
