@@ -19,6 +19,7 @@ from partners import partners as partners_picture
 from partners import tree
 
 PAGE = played.ROOT / "docs" / "BARRIER.md"
+COST = played.ROOT / "docs" / "COST.md"
 PICTURES = played.ROOT / "docs" / "pictures"
 MADE = re.compile(r"(<!-- made: ([^>]*) -->)(.*?)(<!-- end -->)", re.DOTALL)
 NUMBERED = re.compile(r"^\| (\d+) \| `(OCB_\w+)` \| ([a-z ]+) \|", re.MULTILINE)
@@ -121,6 +122,7 @@ def costs():
     rows = [(f"state of a node, on a board of {nodes}", f"{words} words of 4 bytes: {4 * words} bytes")
             for nodes, words in zip(boards, played.state_words(boards))]
     rows += [("buffer for a frame", f"{longest} bytes, the longest frame of any board"),
+             ("stack of a call, on a Cortex-M0", f"at most {numbers['OCB_STACK_BYTES']} bytes (`OCB_STACK_BYTES`)"),
              ("code of the C library, on x86-64", f"less than {CODE_LIMIT // 1024} KB")]
     if played.code_size() >= CODE_LIMIT:
         raise played.Trouble(f"docs/BARRIER.md: the C library has {played.code_size()} bytes of code")
@@ -174,6 +176,16 @@ def check_names(text):
         raise played.Trouble("docs/BARRIER.md: not every answer and refusal stands once in its tables")
 
 
+def check_stack():
+    """The header's bytes of stack are enough: no bound of docs/COST.md is above them."""
+    tables = {match[2].strip(): match[3] for match in MADE.finditer(COST.read_text(encoding="utf-8"))}
+    titles, _, *rows = [line.strip("| ").split(" | ") for line in tables["m0-stack"].strip().splitlines()]
+    columns = [at for at, title in enumerate(titles) if title.startswith("library's bound")]
+    most = max(int(row[at]) for row in rows for at in columns)
+    if most > played.header()["OCB_STACK_BYTES"]:
+        raise played.Trouble(f"include/ocb.h: a call takes up to {most} bytes by docs/COST.md, more than OCB_STACK_BYTES")
+
+
 def check_paths(text, pictures):
     """What the page names is there, and every picture is shown."""
     for path in PATH.findall(text):
@@ -203,6 +215,7 @@ def wanted():
     text = page(PAGE.read_text(encoding="utf-8"))
     made = pictures()
     check_names(text)
+    check_stack()
     check_paths(text, made)
     files = {PICTURES / f"{name}.svg": picture for name, picture in made.items()}
     files[PAGE] = text

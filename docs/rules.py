@@ -3,7 +3,7 @@
 
 The rules of a chapter are numbered from 1 without a gap. Each has one line that says where it is defined and where it is
 proved or tested: paths that exist, each followed by names that stand in it. The decisions that it names are in
-docs/DECISIONS.md. A rule named in another text, in the form "rule F2", is one of the page's. Prints a line for each fault,
+docs/DECISIONS.md. A rule named in another text, in the form "rule F2", is one of the page's. The lines of HEADLINE stand. Prints a line for each fault,
 and ends with status 1 where there is one.
 """
 import functools
@@ -17,6 +17,25 @@ ROOT = pathlib.Path(__file__).resolve().parent.parent
 PAGE = ROOT / "docs" / "RULES.md"
 DECISIONS = ROOT / "docs" / "DECISIONS.md"
 CHAPTERS = "TNFRHPSC"
+# what is promised and where it is proved: a crate of theorems passes whatever it still says, so each of these lines must stand
+HEADLINE = {
+    "crates/promises/specs/Promises.antt": [
+        "pub anyInput : AnyInput", "pub tree : (P : ℕ) → 1 ≤ P → P ≤ base .nodes → Tree P",
+        "pub frames : (P : ℕ) → 1 ≤ P → P ≤ base .nodes → Frames P",
+        "pub runs : (P : ℕ) → 1 ≤ P → P ≤ base .nodes → Runs P", "pub links : LinkBytes", "pub starred : All table",
+        "pub rehearsals : EveryRehearsal", "pub texts : EveryTextFits",
+        "pub safe : (es : List Event) → Safe base P (run base P es)",
+        "pub lives : (es : List Event) → NoLoss es → Lives base P (run base P es)",
+        "pub facts : (es : List Event) → Facts base P (run base P es)"],
+    "crates/promises/proofs/Whole.antt": ["pub promises : Promises"],
+    "crates/runs/specs/Claim.antt": [
+        "pub busySend :", "pub busyIs :", "pub wakes :", "pub leavesTaken :", "pub leavesIdle :", "pub leavesReached :",
+        "pub leftSend :", "pub leftTake :", "pub record Demand3 : Type 0 where"],
+    "crates/runs/proofs/Whole.antt": ["pub demand3 : Demand3"],
+    "crates/rehearsed/proofs/Whole.antt": ["pub every-rehearsal : EveryRehearsal"],
+    "crates/starred/proofs/Starred.antt": ["pub starred : All table"],
+    "crates.txt": ["promises:", "runs:", "rehearsed:", "starred:"],
+}
 # where rules may be named
 TEXTS = ["crates", "include", "tests", "targets", "docs", "README.md"]
 
@@ -43,6 +62,15 @@ def rules(page):
             chapter = match[1]
         else:
             yield chapter, match[2], int(match[3]), page[match.start():after.start() if after else len(page)]
+
+
+def check_headline():
+    for name, lines in HEADLINE.items():
+        path = ROOT / name
+        text = path.read_text(encoding="utf-8") if path.exists() else ""
+        for line in lines:
+            if not re.search(rf"^\s*{re.escape(line)}", text, re.MULTILINE):
+                yield f"{name}: a headline is gone: {line}"
 
 
 def check_numbers(page, found):
@@ -137,7 +165,7 @@ def main():
     page = PAGE.read_text(encoding="utf-8")
     found = [*rules(page)]
     known = {f"{letter}{number}" for _, letter, number, _ in found}
-    faults = [*check_numbers(page, found), *check_rules(found), *check_named(known)]
+    faults = [*check_headline(), *check_numbers(page, found), *check_rules(found), *check_named(known)]
     for fault in faults:
         print(fault)
     if not faults:
