@@ -8,18 +8,29 @@ module hardly depends on the data layout, and what does is changed:
 
 - the triple and the data layout;
 - the functions' attributes: "target-cpu" and "probe-stack" are x86-64's and go; at Os `optsize` comes;
-- a count that an exported function is given, 64 bits in the module, comes in as C's size_t of 32 bits and is widened.
+- a count that an exported function is given, 64 bits in the module, comes in as C's size_t of 32 bits and is widened;
+- a copy, which the kit writes without alignment, states that of its two addresses: on a core that faults at a word which
+  is not aligned, clang would take the bytes one by one.
+
+These alignments are read off the module, and nothing is assumed. A place of a function is aligned as its alloca states,
+on every target; no more than 8 is made of that, which is what a stack has. A field is a fixed number of bytes behind an
+address: what divides both divides the field's. A parameter of an internal function has the least that its calls hand
+over, and all its calls are known, since a function is named at its head and where it is called and nowhere else. The
+parameters start at the highest and are lowered until every call fits. Then what is said of them holds at each call that
+a run comes to, if it held at those before: nothing is said of what C hands to an exported function, of an address that
+was loaded, or of one with a computed offset.
 
 A pointer keeps its slot of 8 bytes and fills 4 of them. That is sound while no pointer is looked at as a number: none is
 converted or compared, and no slot holds both. Slots are followed within a function, through its copies; that what one
 function leaves in memory as a pointer is no number to another is by Rattle's types. A place for a pointer alone has 4
 bytes on the target, so nothing but a load or a store may touch it. Offsets of 64 bits are cut to 32 where an address is
 computed; they are below the size of an object, hence below 2^32. A target must be little-endian, with pointers of 32
-bits, and its C compiler must hand over numbers of 32 bits as they are.
+bits and a stack aligned to 8 bytes, and its C compiler must hand over numbers of 32 bits as they are.
 
 Whatever this does not cover is refused, with its line: the lists below name all that a module may have.
 """
 import collections
+import math
 import pathlib
 import re
 import sys
@@ -46,17 +57,21 @@ INTRINSICS = {"llvm.memmove.p0.p0.i64", "llvm.ctlz.i32"}
 SIZES = {"i1": 1, "i8": 1, "i16": 2, "i32": 4, "i64": 8, "ptr": 8}  # bytes of a place
 LOOSE = re.compile(r"[{<]|\b(?:asm|float|double|half|bfloat|fp128|addrspace|volatile|atomic|inttoptr|ptrtoint|bitcast)\b")
 KIND = "(?:i1|i8|i16|i32|i64|ptr)"
+ARGUMENT = rf"{KIND} (?:%[\w.]+|-?\d+|true|false)"
+CALL = re.compile(rf'call (?:noundef )?(?:zeroext )?(?:void|{KIND}) @(?!llvm\.memmove)("[^"]+"|[\w.]+)'
+                  rf"\(((?:{ARGUMENT}(?:, {ARGUMENT})*)?)\)$", re.M)
 FORMS = {
     "alloca": re.compile(rf"= alloca (?:{KIND}|\[\d+ x i8\]), align \d+$"),
     "load": re.compile(rf"= load {KIND}, ptr %[\w.]+, align \d+(?:, !(?:noundef|range) !\d+)*$"),
     "store": re.compile(rf"  store {KIND} [^ ,]+, ptr %[\w.]+, align \d+$"),
     "getelementptr": re.compile(r"= getelementptr (?:inbounds nuw )?i8, ptr %[\w.]+, i64 (?:\d+|%[\w.]+)$"),
-    "call": re.compile(rf'call (?:noundef )?(?:zeroext )?(?:void|{KIND}) @(?!llvm\.memmove)["\w]'
-                       r"|@llvm\.memmove\.p0\.p0\.i64\(ptr %[\w.]+, ptr %[\w.]+, i64 \d+, i1 false\)$"),
+    "call": re.compile(CALL.pattern + r"|@llvm\.memmove\.p0\.p0\.i64\(ptr %[\w.]+, ptr %[\w.]+, i64 \d+, i1 false\)$"),
 }
+NAMED = re.compile(r"(?:define|declare|  (?:%[\w.]+ = )?call) [\w ]*@[^@]*")
 PARAMETER = rf"{KIND} noundef(?: zeroext)? %a\d+"
 INTERNAL = re.compile(rf'define internal (?:noundef (?:zeroext )?{KIND}|void) @"[^"]+"'
                       rf"\((?:{PARAMETER}(?:, {PARAMETER})*)?\) #0 \{{$")
+BODY = re.compile(r"^define .*?^}", re.M | re.S)
 OUTER = re.compile(r"$|;|source_filename = |}$|define |declare |attributes #|target |!llvm\.ident = |!\d+ = !\{|[\w.]+:")
 
 
@@ -119,6 +134,8 @@ def check(number, line):
         refuse(number, line, "a global, a named type or a line that was not looked at")
     elif line.startswith("define internal") and not INTERNAL.match(line):
         refuse(number, line, "a head of a function that was not looked at")
+    if "@" in line and not line.startswith((";", "source_filename")) and not NAMED.fullmatch(line):
+        refuse(number, line, "a function is named outside its head and its calls")
 
 
 class Slots:
@@ -181,7 +198,7 @@ class Slots:
 
 
 def check_slots(text):
-    for body in re.findall(r"^define .*?^}", text, re.M | re.S):
+    for body in BODY.findall(text):
         Slots(body).check()
 
 
@@ -256,12 +273,75 @@ class Module:
         return "\n".join(self.lines)
 
 
+# ---- Alignment
+
+PLACE = re.compile(r"  (%[\w.]+) = alloca .*, align (\d+)$")
+FIELD = re.compile(r"  (%[\w.]+) = getelementptr (?:inbounds nuw )?i8, ptr (%[\w.]+), i64 (\d+)$")
+COPY = re.compile(r"(?<=@llvm\.memmove\.p0\.p0\.i64\()ptr (%[\w.]+), ptr (%[\w.]+)(?=, i64)")
+MOST = 8
+
+
+def name_of(body):
+    return re.match(r'define [\w ]*@("[^"]+"|\w+)', body)[1]
+
+
+class Alignment:
+    """How the addresses of a module are aligned, each by a power of two up to MOST that divides it."""
+
+    def __init__(self, text):
+        self.bodies = {name_of(body): body for body in BODY.findall(text)}
+        self.parameters = {name: self.start(body) for name, body in self.bodies.items()}
+        while any([self.lower(name) for name in self.bodies]):
+            pass
+
+    @staticmethod
+    def start(body):
+        """The parameters as they start: C may hand anything to an exported function."""
+        head = body.split("\n")[0]
+        return dict.fromkeys(re.findall(r"%\w+", head), MOST if head.startswith("define internal ") else 1)
+
+    def known(self, name):
+        """The alignment of a function's addresses; that of one that is not listed is 1."""
+        known = dict(self.parameters[name])
+        for line in self.bodies[name].split("\n"):
+            if place := PLACE.match(line):
+                known[place[1]] = min(int(place[2]), MOST)
+            elif field := FIELD.match(line):
+                known[field[1]] = math.gcd(known.get(field[2], 1), int(field[3]))
+        return known
+
+    def lower(self, name):
+        """Lowers the parameters of the functions that a function calls to what it hands over; whether that was news."""
+        known = self.known(name)
+        return any([self.lower_to(called, [known.get(word.split()[1], 1) for word in arguments.split(", ") if word])
+                    for called, arguments in CALL.findall(self.bodies[name]) if not called.startswith("llvm.")])
+
+    def lower_to(self, called, given):
+        before = self.parameters.get(called)
+        if before is None or len(before) != len(given):
+            raise Refused(f"a call that no function is for: {called} with {len(given)} arguments")
+        self.parameters[called] = {name: min(both) for name, *both in zip(before, before.values(), given)}
+        return self.parameters[called] != before
+
+    def stated(self, body):
+        """A function whose copies state the alignment."""
+        known = self.known(name_of(body))
+        words = {name: f"ptr align {known[name]} {name}" for name in known if known[name] > 1}
+        return COPY.sub(lambda copy: ", ".join(words.get(name, f"ptr {name}") for name in copy.groups()), body)
+
+
+def align_copies(text):
+    alignment = Alignment(text)
+    return BODY.sub(lambda body: alignment.stated(body[0]), text)
+
+
 def retarget(text, target, level):
+    """The module for a target. It is checked as the kit wrote it; the copies' alignment comes last."""
     module = Module(target, level)
     for number, line in enumerate(text.split("\n"), 1):
         module.take(number, line)
     check_slots(text)
-    return module.whole()
+    return align_copies(module.whole())
 
 
 if __name__ == "__main__":

@@ -1,4 +1,5 @@
 """Tests retarget.py on modules that it must refuse: the real one, each with a small edit, and the reason for the refusal.
+The alignment that it finds is tested on small modules.
 
 python3 targets/test_retarget.py    wants the module that build.py keeps in target/targets/module
 """
@@ -13,6 +14,9 @@ from table import TARGETS
 
 # The start of a function that is lent two places, %a0 and %a1.
 INSIDE = r"^(define internal void @\"[\w:]+\"\(ptr noundef %a0, ptr noundef %a1\) #0 \{\nstart:\n)"
+
+# A function that is lent one.
+LENT = '@"base::of_build"'
 
 # An edit: what it makes, the pattern of the line that it changes (the first that is found), its new text, the reason.
 EDITS = [
@@ -51,6 +55,13 @@ EDITS = [
     ("a copy of a computed size", r"(@llvm\.memmove\.p0\.p0\.i64\(ptr %\w+, ptr %\w+, i64) \d+", r"\1 %size",
      "a form of call"),
     ("a call through a pointer", INSIDE, r"\1  call void %a0(i32 1)\n", "a form of call"),
+    ("a function handed over", INSIDE, r"\1  call void %s(ptr @ocb_send)\n" % LENT, "a form of call"),
+    ("an argument with a mark", INSIDE, r"\1  call void %s(ptr align 8 %%a0)\n" % LENT, "a form of call"),
+    ("a function stored", INSIDE, r"\1  store ptr @ocb_send, ptr %a0, align 8\n", "a function is named outside"),
+    ("a function returned", INSIDE, r"\1  ret ptr @ocb_send\n", "a function is named outside"),
+    ("a function in the notes", r"^!1 = !\{\}", "!1 = !{ptr @ocb_send}", "a function is named outside"),
+    ("an argument more", INSIDE, r"\1  call void %s(ptr %%a0, ptr %%a1)\n" % LENT, "a call that no function is for"),
+    ("a call of no function", INSIDE, r'\1  call void @"base::no_such"(ptr %a0)\n', "a call that no function is for"),
     ("an export that no header has", r"^define internal noundef i32 ", "define noundef i32 ", "a head of an exported"),
     ("an export of another name", r"^(define .*)@ocb_send\(", r"\1@ocb_forget(", "the header does not have"),
     ("an unknown number of 64 bits", r"(@ocb_send\(ptr noundef %a0, i64 noundef %a1,) i32", r"\1 i64",
@@ -78,6 +89,30 @@ EDITS = [
     ("the place of a pointer lent", INSIDE, r"\1  %p = alloca ptr, align 8\n  store ptr %p, ptr %a0, align 8\n",
      "the place of a pointer is lent or copied"),
 ]
+
+# Small modules: what is tested, the alignment that the parameter %a of @"in" must have, and the lines of ocb_out, which C
+# calls, of @"in" and of @"by". Each has a place %p on 16 bytes, of which 8 count. "in %p" is a call and "%p + 4" a field.
+ALIGNED = [
+    ("a place", 8, ["in %p"], [], []),
+    ("a field", 4, ["%f = %p + 12", "in %f"], [], []),
+    ("a field at the start", 8, ["%f = %p + 0", "in %f"], [], []),
+    ("a field of a field", 2, ["%f = %p + 4", "%g = %f + 6", "in %g"], [], []),
+    ("a place and a field", 4, ["in %p", "%f = %p + 4", "in %f"], [], []),
+    ("a place of 1", 1, ["%q = alloca [64 x i8], align 1", "in %q"], [], []),
+    ("what C gave", 1, ["in %p", "in %a"], [], []),
+    ("a field of what C gave", 1, ["%f = %a + 8", "in %f"], [], []),
+    ("a loaded address", 1, ["%f = load ptr, ptr %p, align 8", "in %f"], [], []),
+    ("a field of a loaded address", 1, ["%f = load ptr, ptr %p, align 8", "%g = %f + 8", "in %g"], [], []),
+    ("a computed offset", 1, ["%f = %p + %n", "in %f"], [], []),
+    ("an address passed on", 8, ["by %p"], [], ["in %a"]),
+    ("a field passed on", 4, ["by %p"], [], ["%f = %a + 4", "in %f"]),
+    ("what C gave, passed on", 1, ["in %p", "by %a"], [], ["in %a"]),
+    ("a function that calls itself", 4, ["in %p"], ["%f = %a + 12", "in %f"], []),
+    ("functions that call each other", 2, ["in %p"], ["by %a"], ["%f = %a + 2", "in %f"]),
+    ("a function on the way that calls itself", 4, ["by %p"], [], ["in %a", "%f = %a + 4", "by %f"]),
+    ("a computed offset on the way round", 1, ["in %p"], ["by %a"], ["%f = %a + %n", "in %f"]),
+]
+COPIED = "call void @llvm.memmove.p0.p0.i64(ptr %p, ptr %a, i64 16, i1 false)"
 
 
 # Which parameters of an exported function are counts, by their places.
@@ -108,6 +143,25 @@ def try_edit(text, target, name, pattern, new, reason):
     raise tools.Trouble(f"retarget: {name}: not refused")
 
 
+def small_function(head, lines):
+    """A function that is lent %a, with a place and the lines of a small module."""
+    lines = [re.sub(r"^(%\w) = (%\w) \+ (\S+)$", r"\1 = getelementptr i8, ptr \2, i64 \3", line) for line in lines]
+    lines = [re.sub(r"^(\w+) (%\w)$", r'call void @"\1"(ptr \2)', line) for line in lines]
+    lines = ["%p = alloca [16 x i8], align 16", *lines, "ret void"]
+    return "\n".join([f"define {head}(ptr noundef %a) #0 {{", "start:", *("  " + line for line in lines), "}", ""])
+
+
+def try_alignment(name, wanted, outer, inner, by):
+    """The copy states the alignment of its place and what is wanted of the parameter, and nothing else changes."""
+    heads = ["void @ocb_out", 'internal void @"in"', 'internal void @"by"']
+    text = "\n".join(map(small_function, heads, [outer, [COPIED, *inner], by]))
+    aligned = COPIED.replace("ptr %p", "ptr align 8 %p")
+    if wanted > 1:
+        aligned = aligned.replace("ptr %a", f"ptr align {wanted} %a")
+    if retarget.align_copies(text) != text.replace(COPIED, aligned):
+        raise tools.Trouble(f"retarget: {name}: another alignment than {wanted}")
+
+
 def test(names):
     path = build.MODULE / "module.ll"
     if not path.exists():
@@ -117,7 +171,9 @@ def test(names):
         check_counts(retarget.retarget(text, TARGETS[name], "O2"))
     for edit in EDITS:
         try_edit(text, TARGETS[names[0]], *edit)  # the same for all: a row has no say in what is refused
-    print(f"retarget: {len(EDITS)} wrong modules refused")
+    for case in ALIGNED:
+        try_alignment(*case)
+    print(f"retarget: {len(EDITS)} wrong modules refused, {len(ALIGNED)} alignments found")
 
 
 if __name__ == "__main__":

@@ -33,6 +33,7 @@ FUNCTIONS = ["send", "take", "idle", "frame_in", "barrier", "fresh", "dimension"
 STATE_CALLS = FUNCTIONS[:6]
 WAYS = [("average", "", 1), ("most", "-most", 2)]  # in words, in a table's name, and where it stands in a line
 EXACT = ["-icount", "shift=10"]  # as measure.c has it
+COPY = "call void @llvm.memmove."
 TRACE = ["-singlestep", "-d", "exec,nochain", "-D"]
 
 
@@ -213,12 +214,15 @@ def print_needs():
 
 
 def print_lines():
-    """The lines of the module that are changed for the target, as a difference."""
+    """The lines of the module that are changed for the target, as a difference. The commonest copy stands for all."""
     old, new = ((folder / name).read_text(encoding="utf-8").splitlines()
                 for folder, name in ((build.MODULE, "module.ll"), (library("Os").parent, f"{build.CRATE}.ll")))
     lines = [line for line in difflib.unified_diff(old, new, n=0, lineterm="")
              if not line.startswith(("---", "+++", "@@")) and line[1:] != "start:"]
-    sheet.save("m0-lines", "Cortex-M0: lines of the module that differ", "```diff\n" + "\n".join(lines) + "\n```\n")
+    copies = list(zip(*([line for line in lines if line[0] == sign and COPY in line] for sign in "-+")))
+    shown = [line for line in lines if COPY not in line] + list(collections.Counter(copies).most_common(1)[0][0])
+    sheet.save("m0-lines", "Cortex-M0: lines of the module that differ", "```diff\n" + "\n".join(shown) + "\n```\n\n"
+               f"And {len(copies) - 1} more copies likewise, of the {sum(COPY in line for line in old)} in the module.\n")
 
 
 def print_tools():
