@@ -7,18 +7,19 @@ use mathlib.Core.Logic.{_≢_}
 use mathlib.Core.Bool.{Bool, true, false}
 use mathlib.Core.Option.{some}
 use mathlib.Core.List.{List, [], _∷_, List·Memᴰ}
-use Prim.Native.Nat.{ℕ, _^_, _≤_, _<_}
+use Prim.Native.Nat.{ℕ, _+_, _^_, _≤_, _<_}
 use lib.Dec.{eqb}
 use lib.ListN.{length}
 use Rattle.base.specs.Choice.{choose}
 use Rattle.base.specs.Limits.{base}
 use Rattle.base.specs.Refusal.{found}
-use Rattle.tree.specs.Tree.{dimension, hermit, alone, place, awaited, receivers, distance}
+use Rattle.tree.specs.Tree.{dimension, runOf, alone, hermit, neighbour, messenger, place, awaited, receivers}
+use Rattle.tree.specs.Tree.{inside, distance, InShell}
 use Rattle.tree.specs.Lookups.{dimensionLookup, placeLookup, distanceLookup}
 use Rattle.frame.specs.Frame.{frameBytes, readFrame, writeFrame}
 use Rattle.frame.specs.Shapes.{Shaped, Bytes}
 use Rattle.frame.specs.declared.Frame.{Frame}
-use Rattle.node.specs.Answers.{Given, Outcome, outcomeNumber, Barrier, barred, barrierNumber}
+use Rattle.node.specs.Answers.{Given, Outcome, outcomeNumber, barred, barrierNumber}
 use Rattle.node.specs.Calls.{send, take, idle, frameIn}
 use Rattle.node.specs.declared.Node.{Node}
 use Rattle.node_calls.specs.Fresh.{freshOn, freshWords}
@@ -86,12 +87,36 @@ pub record Tree (P : ℕ) : Type 0 where
   -- who sends to whom, and who awaits whom, are one
   pub sent : (k a b : ℕ) → a < P → List·Memᴰ b (receivers P k a) → (b < P) × (awaited P k b ≡ some a)
   pub awaits : (k a b : ℕ) → b < P → awaited P k b ≡ some a → List·Memᴰ b (receivers P k a)
-  -- a hermit sends nothing, and awaits the next node
+  -- neighbours await each other
+  pub neighbours : (k a b : ℕ) → a < P → place P k a ≡ neighbour b
+      → (receivers P k a ≡ b ∷ []) × (awaited P k a ≡ some b) × (awaited P k b ≡ some a)
+  -- a hermit sends nothing, and awaits the next node, the messenger
   pub hermits : (k a b : ℕ) → place P k a ≡ hermit b → (receivers P k a ≡ []) × (awaited P k a ≡ some b)
+  pub hermitNext : (k a b : ℕ) → a < P → place P k a ≡ hermit b
+      → (b ≡ a + 1) × ((c : ℕ) × (place P k b ≡ messenger c a))
+  -- a messenger sends to its neighbour, whom it awaits, and then to the hermit before it; both await it
+  pub messengers : (k a b h : ℕ) → a < P → place P k a ≡ messenger b h
+      → (receivers P k a ≡ b ∷ h ∷ []) × (awaited P k a ≡ some b) × (awaited P k b ≡ some a)
+      × (awaited P k h ≡ some a)
+  pub hermitBefore : (k a b h : ℕ) → a < P → place P k a ≡ messenger b h → (h + 1 ≡ a) × (place P k h ≡ hermit a)
+  -- a node and its neighbour, the first that it sends to, stand at the same place in their runs
+  pub samePlace : (k a b : ℕ) (bs : List ℕ) → k < dimension P → a < P → receivers P k a ≡ b ∷ bs
+      → runOf P k a .low + b ≡ runOf P k b .low + a
   -- a node is alone in dimension 0 only
   pub alones : (k a : ℕ) → a < P → k < dimension P → place P k a ≡ alone → k ≡ 0
+  -- two nodes are in one run of dimension k exactly if k is above their distance
+  pub near : (k a b : ℕ) → a < P → b < P → a ≢ b → k ≤ dimension P → inside (runOf P k a) b ≡ true → distance P a b < k
+  pub nearer : (k a b : ℕ) → a < P → b < P → a ≢ b → k ≤ dimension P → distance P a b < k → inside (runOf P k a) b ≡ true
+  pub below : (a b : ℕ) → a < P → b < P → a ≢ b → distance P a b < dimension P
   -- the distance is the same both ways
   pub symmetric : (a b : ℕ) → a < P → b < P → a ≢ b → distance P a b ≡ distance P b a
+  -- shell k of a node is the run of the node that it awaits in k, and nobody where it is alone
+  pub shells : (k a w b : ℕ) → k < dimension P → a < P → awaited P k a ≡ some w
+      → (InShell P k a b → inside (runOf P k w) b ≡ true) × (inside (runOf P k w) b ≡ true → InShell P k a b)
+  pub aloneShells : (k a b : ℕ) → k < dimension P → a < P → place P k a ≡ alone → InShell P k a b → ⊥
+  -- the nodes of a run have the same shells from its dimension up
+  pub sameShells : (k m a c b : ℕ) → a < P → k ≤ m → m < dimension P → inside (runOf P k a) c ≡ true
+      → (InShell P m a b → InShell P m c b) × (InShell P m c b → InShell P m a b)
 
 pub record Frames (P : ℕ) : Type 0 where
   pub writtenRead : (f : Frame) → Shaped f → (room n : ℕ) → writeFrame base P f room ≡ found n

@@ -8,13 +8,13 @@ use native.Mathlib.Decide.{decLe}
 use native.Mathlib.Omega.{arith}
 use borrow.Author.Tests.{le-leb, lt-leb}
 use Rattle.base.specs.Choice.{choose}
-use Rattle.base.proofs.Laws.{choose-yes, choose-no}
-use Rattle.tree.specs.Tree.{dimension, part, runBelow, runOf, awaited, inside, distanceBelow, distance}
+use Rattle.base.proofs.Laws.{clash, choose-yes, choose-no}
+use Rattle.tree.specs.Tree.{dimension, part, runBelow, runOf, awaited, inside, distanceBelow, distance, InShell}
 use Rattle.tree.specs.declared.Run.{Run}
 use Rattle.tree.proofs.Runs.{In, below-step, run-zero, run-top, run-has, run-same, run-grows}
 use Rattle.tree.proofs.Halves.{joined-other, joined-apart, joined-has, joined, awaited-below, alone-keeps}
 
-inside-yes : (r : Run) (b : ℕ) → In r b → inside r b ≡ true
+pub inside-yes : (r : Run) (b : ℕ) → In r b → inside r b ≡ true
 inside-yes r b h = rw (le-leb (r .low) b (h .0), le-leb b (r .high) (h .1))
 
 inside-no : (r : Run) (b : ℕ) → (In r b → ⊥) → inside r b ≡ false
@@ -32,6 +32,13 @@ dec-in r b = go (decLe (r .low) b) (decLe b (r .high))
     go (yes l) (yes m) = yes (l, m)
     go (yes l) (no m) = no (λ i. m (i .1))
     go (no l) m = no (λ i. l (i .0))
+
+pub inside-in : (r : Run) (b : ℕ) → inside r b ≡ true → In r b
+inside-in r b e = go (dec-in r b)
+  where
+    go : Dec (In r b) → In r b
+    go (yes i) = i
+    go (no i) = clash (sym e ∙ inside-no r b i)
 
 module _ (P a b k : ℕ) where
   pub below-together : In (runOf P k a) b → distanceBelow P a b (suc k) ≡ distanceBelow P a b k
@@ -147,10 +154,6 @@ distance-symmetric P a b ha hb ne =
     let u = other-way P a b ha hb ne (suc (distance P a b)) x (omega arith) in
     let v = other-way P b a hb ha (λ q. ne (sym q)) (suc (distance P b a)) y (omega arith) in
     omega arith
-
--- rule T7: b is in shell k of a
-abbrev pub InShell : ℕ → ℕ → ℕ → ℕ → Type 0
-InShell P k a b = (b < P) × (a ≢ b) × (distance P a b ≡ k)
 
 module _ (P k a : ℕ) (l : k < dimension P) (ha : a < P) where
   -- shell k of a node is the run of the node that it awaits in k

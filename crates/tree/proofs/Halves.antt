@@ -2,14 +2,17 @@
 use mathlib.Core.Path.{_≡_, refl, sym, ap, _∙_}
 use mathlib.Core.Logic.{_≢_}
 use mathlib.Core.Option.{none, some}
+use mathlib.Core.List.{List, _∷_}
 use Prim.Native.Nat.{ℕ, suc, _+_, _-_, _≤_, _<_}
 use native.Mathlib.Decide.{decLe}
 use native.Mathlib.Omega.{arith}
 use lib.Pow.{pow-mono}
-use Rattle.tree.specs.Tree.{dimension, root, left, part, runOf, awaited}
+use Rattle.base.proofs.Laws.{clash}
+use Rattle.tree.specs.Tree.{dimension, root, left, part, runOf, Place, sendsTo, awaited, receivers}
 use Rattle.tree.specs.declared.Run.{Run}
 use Rattle.tree.proofs.Runs.{In, size, run-is, part-left, part-right, run-has, run-same, run-step, run-top}
 use Rattle.tree.proofs.Runs.{run-large}
+use Rattle.tree.proofs.Places.{PlaceIs, isAlone, isHermit, isMessenger, isLeft, isRight, here}
 use Rattle.tree.proofs.Places.{Sides, leftRight, rightLeft, awaited-side, awaited-in, alone-one}
 
 -- two runs side by side, that make up a third
@@ -69,6 +72,33 @@ module _ (P k a : ℕ) (l : k < dimension P) (h : a < P) where
           let x = e ∙ part-right r a (omega arith) in
           let y = f ∙ part-left r b (j .1) in
           rw (x, y) (after refl refl)
+
+  -- a node and its neighbour stand at the same place in their runs
+  pub same-place : (b : ℕ) (bs : List ℕ) → receivers P k a ≡ b ∷ bs → runOf P k a .low + b ≡ runOf P k b .low + a
+  unfolding receivers
+  same-place b bs q = go (here P k a h) q (run-has P (suc k) a h)
+    where
+      go : {x : Place} → PlaceIs r a x → sendsTo x ≡ b ∷ bs → In r a → runOf P k a .low + b ≡ runOf P k b .low + a
+      go (isAlone e) q i = clash (cc)
+      go (isHermit e s m) q i = clash (cc)
+      go (isMessenger u e m f) q i =
+          let z : u ≡ b = cc in
+          let j : In r b = omega arith in
+          let x = own-run ∙ part-right r a (omega arith) in
+          let y = part-run P k a b l h j ∙ part-left r b (omega arith) in
+          rw (x, y) (omega arith)
+      go (isLeft u e m f) q i =
+          let z : u ≡ b = cc in
+          let j : In r b = omega arith in
+          let x = own-run ∙ part-left r a e in
+          let y = part-run P k a b l h j ∙ part-right r b (omega arith) in
+          rw (x, y) (omega arith)
+      go (isRight u e m f) q i =
+          let z : u ≡ b = cc in
+          let j : In r b = omega arith in
+          let x = own-run ∙ part-right r a e in
+          let y = part-run P k a b l h j ∙ part-left r b (omega arith) in
+          rw (x, y) (omega arith)
 
   -- sizes of sibling runs differ by at most one
   pub sizes-close : (b : ℕ) → awaited P k a ≡ some b

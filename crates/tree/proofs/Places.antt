@@ -8,7 +8,7 @@ use Prim.Native.Nat.{ℕ, suc, _+_, _-_, _≤_, _<_}
 use native.Mathlib.Decide.{decLe, ℕ-discrete}
 use native.Mathlib.Omega.{arith}
 use borrow.Author.Tests.{le-leb, lt-leb, lt-ltb, le-ltb, eq-eqb, ne-eqb}
-use Rattle.base.proofs.Laws.{choose-yes, choose-no}
+use Rattle.base.proofs.Laws.{clash, choose-yes, choose-no}
 use Rattle.tree.specs.Tree.{middle, left, right, leftSize, rightSize, across, Place, alone, hermit, neighbour}
 use Rattle.tree.specs.Tree.{messenger, placeIn, place, awaits, sendsTo, awaited, receivers, runOf}
 use Rattle.tree.specs.declared.Run.{Run}
@@ -128,10 +128,10 @@ module _ (r : Run) (a b : ℕ) (ha : In r a) (hb : In r b) where
 
   -- whom b awaits sends to b: b a hermit, in the left part, in the right part
   to-hermit : {x : Place} → b ≡ middle r → a ≡ middle r + 1 → rightSize r < leftSize r → PlaceIs r a x
-      → List·Memᴰ b (sendsTo x)
+      → (c : ℕ) × (x ≡ messenger c b)
   to-hermit e f l (isAlone g) = absurd (omega arith)
   to-hermit e f l (isHermit g s m) = absurd (omega arith)
-  to-hermit e f l (isMessenger u g m n) = List·Memᴰ·tail (List·Memᴰ·head e)
+  to-hermit e f l (isMessenger u g m n) = (u, ap (messenger u) (sym e))
   to-hermit e f l (isLeft u g m n) = absurd (omega arith)
   to-hermit e f l (isRight u g m n) = absurd (m l f)
 
@@ -151,7 +151,10 @@ module _ (r : Run) (a b : ℕ) (ha : In r a) (hb : In r b) where
 
   heard : {x y : Place} → PlaceIs r a x → PlaceIs r b y → awaits y ≡ some a → List·Memᴰ b (sendsTo x)
   heard p (isAlone e) q = no-one q
-  heard p (isHermit e s l) q = let z : b + 1 ≡ a = cc in to-hermit e (omega arith) l p
+  heard p (isHermit e s l) q =
+      let z : b + 1 ≡ a = cc in
+      let m = to-hermit e (omega arith) l p in
+      subst (λ x. List·Memᴰ b (sendsTo x)) (sym (m .1)) (List·Memᴰ·tail (List·Memᴰ·head refl))
   heard p (isMessenger u e l f) q = let z : u ≡ a = cc in to-right (omega arith) (omega arith) p
   heard p (isLeft u l m e) q = let z : u ≡ a = cc in to-left l (omega arith) p
   heard p (isRight u l m e) q = let z : u ≡ a = cc in to-right l (omega arith) p
@@ -172,9 +175,9 @@ module _ (r : Run) (a b : ℕ) (ha : In r a) (hb : In r b) where
   from-right e f (isRight u g m n) = absurd (omega arith)
 
   from-messenger : {y : Place} → a ≡ middle r + 1 → rightSize r < leftSize r → b ≡ middle r → PlaceIs r b y
-      → awaits y ≡ some a
+      → y ≡ hermit a
   from-messenger e l f (isAlone g) = absurd (omega arith)
-  from-messenger e l f (isHermit g s m) = ap some (omega arith)
+  from-messenger e l f (isHermit g s m) = ap hermit (omega arith)
   from-messenger e l f (isMessenger u g m n) = absurd (omega arith)
   from-messenger e l f (isLeft u g m n) = absurd (omega arith)
   from-messenger e l f (isRight u g m n) = absurd (omega arith)
@@ -199,14 +202,31 @@ told r a b {y = y} ha hb (isMessenger u e l f) p m = go (List·Memᴰ·cases-con
   where
     go : (b ≡ u) ⊎ List·Memᴰ b (middle r ∷ []) → awaits y ≡ some a
     go (inl z) = from-right r a b ha hb (omega arith) (omega arith) p
-    go (inr n) = let z = List·Memᴰ·eq-of-singleton n in from-messenger r a b ha hb e l z p
+    go (inr n) = let z = List·Memᴰ·eq-of-singleton n in ap awaits (from-messenger r a b ha hb e l z p)
 told r a b ha hb (isLeft u l m e) p n = let z = List·Memᴰ·eq-of-singleton n in from-left r a b ha hb l (z ∙ e) p
 told r a b ha hb (isRight u l m e) p n = let z = List·Memᴰ·eq-of-singleton n in from-right r a b ha hb l (z ∙ e) p
+
+-- where a hermit and a messenger stand
+hermit-of : (r : Run) (a b : ℕ) {x : Place} → PlaceIs r a x → x ≡ hermit b
+    → (a ≡ middle r) × (b ≡ a + 1) × (0 < rightSize r) × (rightSize r < leftSize r)
+hermit-of r a b (isAlone e) q = clash (cc)
+hermit-of r a b (isHermit e s l) q = let z : a + 1 ≡ b = cc in (e, sym z, s, l)
+hermit-of r a b (isMessenger u e l f) q = clash (cc)
+hermit-of r a b (isLeft u l m e) q = clash (cc)
+hermit-of r a b (isRight u l m e) q = clash (cc)
+
+messenger-of : (r : Run) (a b h : ℕ) {x : Place} → PlaceIs r a x → x ≡ messenger b h
+    → (a ≡ middle r + 1) × (rightSize r < leftSize r) × (h ≡ middle r)
+messenger-of r a b h (isAlone e) q = clash (cc)
+messenger-of r a b h (isHermit e s l) q = clash (cc)
+messenger-of r a b h (isMessenger u e l f) q = let z : middle r ≡ h = cc in (e, l, sym z)
+messenger-of r a b h (isLeft u l m e) q = clash (cc)
+messenger-of r a b h (isRight u l m e) q = clash (cc)
 
 -- ---- the same, in a dimension of a board
 
 module _ (P k a : ℕ) (on : a < P) where
-  here : PlaceIs (runOf P (suc k) a) a (place P k a)
+  pub here : PlaceIs (runOf P (suc k) a) a (place P k a)
   unfolding place
   here = place-is (runOf P (suc k) a) a (run-has P (suc k) a on)
 
@@ -245,6 +265,45 @@ receives-awaits P k a b on m =
     let h = run-has P (suc k) a on in
     let i = told-in (runOf P (suc k) a) a b h (here P k a on) m in
     (run-same P (suc k) a b on i .0, told (runOf P (suc k) a) a b h i (here P k a on) (there P k a b on i) m)
+
+-- what a node's place says of its partners
+module _ (P k a : ℕ) (on : a < P) where
+  pub neighbour-place : (b : ℕ) → place P k a ≡ neighbour b
+      → (receivers P k a ≡ b ∷ []) × (awaited P k a ≡ some b) × (awaited P k b ≡ some a)
+  unfolding receivers awaited
+  neighbour-place b q =
+      let s = ap sendsTo q in
+      (s, ap awaits q, receives-awaits P k a b on (rw s (List·Memᴰ·head refl)) .1)
+
+  pub messenger-place : (b h : ℕ) → place P k a ≡ messenger b h
+      → (receivers P k a ≡ b ∷ h ∷ []) × (awaited P k a ≡ some b) × (awaited P k b ≡ some a)
+      × (awaited P k h ≡ some a)
+  unfolding receivers awaited
+  messenger-place b h q =
+      let s = ap sendsTo q in (
+        s,
+        ap awaits q,
+        receives-awaits P k a b on (rw s (List·Memᴰ·head refl)) .1,
+        receives-awaits P k a h on (rw s (List·Memᴰ·tail (List·Memᴰ·head refl))) .1,
+      )
+
+  -- the node before a messenger is its hermit
+  pub messenger-hermit : (b h : ℕ) → place P k a ≡ messenger b h → (h + 1 ≡ a) × (place P k h ≡ hermit a)
+  messenger-hermit b h q =
+      let r = runOf P (suc k) a in
+      let i = run-has P (suc k) a on in
+      let m = messenger-of r a b h (here P k a on) q in
+      let j : In r h = omega arith in
+      (omega arith, from-messenger r a h i j (m .0) (m .1) (m .2) (there P k a h on j))
+
+  -- and the node after a hermit is its messenger
+  pub hermit-next : (b : ℕ) → place P k a ≡ hermit b → (b ≡ a + 1) × ((c : ℕ) × (place P k b ≡ messenger c a))
+  hermit-next b q =
+      let r = runOf P (suc k) a in
+      let i = run-has P (suc k) a on in
+      let m = hermit-of r a b (here P k a on) q in
+      let j : In r b = omega arith in
+      (m .1, to-hermit r b a j i (m .0) (omega arith) (m .3) (there P k a b on j))
 
 -- who is awaited has receivers
 pub awaited-sends : (P k a b : ℕ) → b < P → awaited P k b ≡ some a → (c : ℕ) × (l : List ℕ) × (receivers P k a ≡ c ∷ l)

@@ -1,8 +1,10 @@
--- The tree of partners (rule T2 to rule T6).
+-- The tree of partners (rule T2 to rule T7).
+use mathlib.Core.Path.{_≡_}
+use mathlib.Core.Logic.{_≢_}
 use mathlib.Core.Bool.{Bool}
 use mathlib.Core.Option.{Option, none, some}
 use mathlib.Core.List.{List, [], _∷_}
-use Prim.Native.Nat.{ℕ, zero, suc, _+_, _-_, _/_, _^_}
+use Prim.Native.Nat.{ℕ, zero, suc, _+_, _-_, _/_, _^_, _<_}
 use lib.Dec.{ltb, leb, eqb}
 use Rattle.base.specs.Choice.{choose, both}
 use Rattle.tree.specs.declared.Run.{Run}
@@ -116,3 +118,7 @@ distanceBelow P a b (suc k) = choose (inside (runOf P k a) b) (distanceBelow P a
 
 unfoldable pub distance : ℕ → ℕ → ℕ → ℕ
 distance P a b = distanceBelow P a b (dimension P)
+
+-- b is in shell k of a: another node of the board, at distance k (rule T7)
+abbrev pub InShell : ℕ → ℕ → ℕ → ℕ → Type 0
+InShell P k a b = (b < P) × (a ≢ b) × (distance P a b ≡ k)
