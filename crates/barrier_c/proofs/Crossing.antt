@@ -13,8 +13,8 @@ use Rattle.node.specs.declared.BarrierAnswer.the-variants.{Sends, Waits, Moved,
 use Rattle.layout.specs.Held.{isWhole, unpacked, holding}
 use Rattle.layout.proofs.Whole.{roomy}
 use Rattle.node_barrier.specs.On as below
-use Rattle.barrier_c.specs.Exports.{barrierOn, barrierState, barrierBuffer, detailWords, isClause}
-use Rattle.barrier_c.specs.Pieces.{clauseOf}
+use Rattle.answers.specs.Words.{detailWords, clauseOf}
+use Rattle.barrier_c.specs.Exports.{barrierOn, barrierState, barrierBuffer, isClause}
 
 -- what the exported call is to answer and to leave: the number, the words, the bytes, the details, the clause
 abbrev pub Crossed : List ℕ → List ℕ → List ℕ → ℕ → List ℕ → List ℕ → List ℕ → Type 0

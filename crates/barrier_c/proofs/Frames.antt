@@ -1,17 +1,16 @@
 -- Laws of the frame writer and reader as they are exported: this build's limits, and answers as numbers.
-use mathlib.Core.Path.{_≡_, sym, ap, _∙_}
+use mathlib.Core.Path.{_≡_, refl, ap, _∙_}
 use mathlib.Core.List.{List}
 use Prim.Native.Nat.{ℕ}
 use lib.ListN.{length}
 use Rattle.base.specs.Limits.{Limits, base}
-use Rattle.base.specs.Refusal.{Answered}
+use Rattle.base.specs.Refusal.{Answered, refused, found}
 use Rattle.frame.specs.Frame.{readFrame, answerOf}
 use Rattle.frame.specs.declared.Frame.{Frame}
 use Rattle.frame.specs.declared.Outcome.{Outcome}
-use Rattle.frame.specs.declared.Outcome.the-variants.{Done, Refused}
-use Rattle.frame.proofs.Answers.{answer-refused, answer-done}
-use Rattle.fields.specs.Fields.{writeOn, writtenOn, frameWords}
-use Rattle.barrier_c.specs.Exports.{lookupNumber, numberWords}
+use Rattle.field_words.specs.Words.{frameWords}
+use Rattle.fields.specs.Fields.{writeOn, writtenOn}
+use Rattle.answers.specs.Words.{lookupNumber, numberWords, readNumber}
 
 module _ (L : Limits) (e : L ≡ base) (P : ℕ) where
   -- the number, the bytes and the length after a call of the writer below
@@ -24,17 +23,15 @@ module _ (L : Limits) (e : L ≡ base) (P : ℕ) where
       let q : a ≡ writeOn base P ws (length buf) = rw e at (w .0) in
       (g .0 ∙ ap lookupNumber q, (rw e at (w .1), g .1 ∙ ap (λ (z : Answered ℕ). numberWords z size) q))
 
-  -- the number and the words after a call of the reader below, by its answer
-  module _ (bs ws after : List ℕ) (o : Outcome)
-      (r : (o ≡ answerOf (readFrame L P bs)) × (after ≡ frameWords (readFrame L P bs) ws)) where
-    abbrev got : Answered Frame
-    got = readFrame base P bs
+  read-number : (a : Answered Frame) → readNumber (answerOf a) ≡ lookupNumber a
+  read-number (refused x) = refl
+  read-number (found f) = refl
 
-    answered : o ≡ answerOf got
-    answered = rw e at (r .0)
-
-    pub frame-read : o ≡ Done → (0 ≡ lookupNumber got) × (after ≡ frameWords got ws)
-    frame-read d = (sym (ap lookupNumber (answer-done got (sym answered ∙ d) .1)), rw e at (r .1))
-
-    pub frame-refused : (x : ℕ) → o ≡ Refused x → (x ≡ lookupNumber got) × (after ≡ frameWords got ws)
-    frame-refused x d = (sym (ap lookupNumber (answer-refused got x (sym answered ∙ d))), rw e at (r .1))
+  -- the number and the words after a call of the reader below
+  pub frame-read : (bs ws after : List ℕ) (o : Outcome) (x : ℕ)
+      → (o ≡ answerOf (readFrame L P bs)) × (after ≡ frameWords (readFrame L P bs) ws)
+      → x ≡ readNumber o
+      → (x ≡ lookupNumber (readFrame base P bs)) × (after ≡ frameWords (readFrame base P bs) ws)
+  frame-read bs ws after o x r g =
+      let q : o ≡ answerOf (readFrame base P bs) = rw e at (r .0) in
+      (g ∙ ap readNumber q ∙ read-number (readFrame base P bs), rw e at (r .1))

@@ -3,37 +3,20 @@ ghost use mathlib.Core.Path.{_≡_};
 ghost use mathlib.Core.Bool.{true};
 ghost use lib.ListN.{length, getD};
 ghost use Rattle.base.specs.Limits.{base};
-ghost use Rattle.tree.specs.Lookups.{dimensionLookup, placeLookup, distanceLookup, foundAnswer, placedAnswer};
+ghost use Rattle.tree.specs.Lookups.{dimensionLookup, placeLookup, distanceLookup};
 ghost use Rattle.frame.specs.Frame.{readFrame};
-ghost use Rattle.fields.specs.Fields.{writeOn, writtenOn, frameWords};
-ghost use Rattle.node.specs.Answers.{outcomeNumber, outcomeOf, barrierNumber, barrierOf};
+ghost use Rattle.field_words.specs.Words.{frameWords};
+ghost use Rattle.fields.specs.Fields.{writeOn, writtenOn};
+ghost use Rattle.node.specs.Answers.{outcomeNumber, barrierNumber};
 ghost use Rattle.node.specs.Calls.{send, take, idle, frameIn};
 ghost use Rattle.node_calls.specs.Fresh.{freshOn, freshWords};
-ghost use Rattle.barrier_c.specs.Exports.{answerOn, wordsOn, lookupNumber, numberWords, placeWords};
-ghost use Rattle.barrier_c.specs.Exports.{barrierOn, barrierState, barrierBuffer, detailWords, isClause};
-ghost use Rattle.barrier_c.specs.Pieces.{clauseOf};
-use frame::Outcome;
-use node::Answer;
-use node::BarrierAnswer;
-use node::Extra;
-use tree::Found;
-use tree::Placed;
+ghost use Rattle.answers.specs.Words.{lookupNumber, numberWords, placeWords, detailWords};
+ghost use Rattle.barrier_c.specs.Exports.{answerOn, wordsOn, barrierOn, barrierState, barrierBuffer, isClause};
 
 // The words in which a call gathers the sums of the largest board.
 const SUMS: usize = 18;
 
 // ---- Exported: the calls on a state
-
-// The number of an answer.
-fn number_of(answer: Answer) -> u32
-    ensures { λ r. ⌜ r ≡ outcomeNumber (outcomeOf answer) ⌝ }
-{
-    match answer {
-        Answer::Done => 0,
-        Answer::Dropped => 24,
-        Answer::Refused(no) => no as u32,
-    }
-}
 
 // A node that has just started. Refuses 1, 2, 13.
 #[no_mangle]
@@ -41,7 +24,7 @@ pub extern "C" fn ocb_fresh(state: &mut [u32], nodes: u32, number: u32) -> u32
     ensures answer { λ r. ⌜ r ≡ outcomeNumber (freshOn base nodes number (now (state .entry))) ⌝ }
     ensures memory { λ r. ⌜ now (state .exit) ≡ freshWords base nodes number (now (state .entry)) ⌝ }
 {
-    number_of(node_calls::fresh(base::of_build(), state, nodes, number))
+    answers::number_of(node_calls::fresh(base::of_build(), state, nodes, number))
 }
 
 // One message more is sent to a node. Refuses 13, 2, 3, 4, 5.
@@ -51,7 +34,7 @@ pub extern "C" fn ocb_send(state: &mut [u32], to: u32) -> u32
     ensures memory { λ r. ⌜ now (state .exit) ≡ wordsOn base (λ n. send base n to) (now (state .entry)) ⌝ }
 {
     let mut sums = [0u32; SUMS];
-    number_of(node_calls::send_to(base::of_build(), state, &mut sums, to))
+    answers::number_of(node_calls::send_to(base::of_build(), state, &mut sums, to))
 }
 
 // A message from a node, with its phase byte, is taken. Refuses 13, 2, 3, 7 or 8, 6.
@@ -61,7 +44,7 @@ pub extern "C" fn ocb_take(state: &mut [u32], from: u32, phase: u8) -> u32
     ensures memory { λ r. ⌜ now (state .exit) ≡ wordsOn base (λ n. take base n from phase) (now (state .entry)) ⌝ }
 {
     let mut sums = [0u32; SUMS];
-    number_of(node_calls::take_from(base::of_build(), state, &mut sums, from, phase))
+    answers::number_of(node_calls::take_from(base::of_build(), state, &mut sums, from, phase))
 }
 
 // The node has run out of work. Refuses 13.
@@ -71,7 +54,7 @@ pub extern "C" fn ocb_idle(state: &mut [u32]) -> u32
     ensures memory { λ r. ⌜ now (state .exit) ≡ wordsOn base (λ n. idle base n) (now (state .entry)) ⌝ }
 {
     let mut sums = [0u32; SUMS];
-    number_of(node_calls::go_idle(base::of_build(), state, &mut sums))
+    answers::number_of(node_calls::go_idle(base::of_build(), state, &mut sums))
 }
 
 // A frame has come. Refuses 13, 9, 10, 2, 3, 11, 7, 8.
@@ -81,46 +64,10 @@ pub extern "C" fn ocb_frame_in(state: &mut [u32], bytes: &[u8]) -> u32
     ensures memory { λ r. ⌜ now (state .exit) ≡ wordsOn base (λ n. frameIn base n (now (bytes .entry))) (now (state .entry)) ⌝ }
 {
     let mut sums = [0u32; SUMS];
-    number_of(node_frames::frame_in(base::of_build(), state, &mut sums, bytes))
+    answers::number_of(node_frames::frame_in(base::of_build(), state, &mut sums, bytes))
 }
 
 // ---- Exported: the barrier call
-
-// Puts what an answer says beside its number, and answers the number. A refusal puts nothing.
-fn answer_barrier(answer: BarrierAnswer, details: &mut [u32; 5]) -> u32
-    ensures answer { λ r. ⌜ r ≡ barrierNumber (barrierOf answer) ⌝ }
-    ensures memory { λ r.
-        ⌜ now (details .exit) ≡ detailWords (now (details .entry)) (clauseOf answer) (barrierOf answer) ⌝ }
-{
-    match answer {
-        BarrierAnswer::Sends(to, length) => {
-            let first = to.first as u32;
-            let extra = to.extra;
-            match extra {
-                Extra::Nobody => {
-                    *details = [1, first, 0, length, 0];
-                }
-                Extra::Also(b) => {
-                    *details = [2, first, b as u32, length, 0];
-                }
-            }
-            20
-        }
-        BarrierAnswer::Waits(clause) => {
-            *details = [0, 0, 0, 0, clause as u32];
-            21
-        }
-        BarrierAnswer::Moved => {
-            *details = [0; 5];
-            22
-        }
-        BarrierAnswer::Left => {
-            *details = [0; 5];
-            23
-        }
-        BarrierAnswer::Refused(no) => no as u32,
-    }
-}
 
 // One step of an idle node: sends its frame, moves on, leaves or waits. Refuses 13, 12, 14.
 #[no_mangle]
@@ -139,50 +86,10 @@ pub extern "C" fn ocb_barrier(state: &mut [u32], buf: &mut [u8], details: &mut [
 {
     let mut sums = [0u32; SUMS];
     let answer = node_barrier::step(base::of_build(), state, &mut sums, buf);
-    answer_barrier(answer, details)
+    answers::answer_barrier(answer, details)
 }
 
 // ---- Exported: the lookups
-
-// Answers a number that was looked up, and leaves it in lent memory.
-fn answer_found(answer: Found, found: &mut [u32; 1]) -> u32
-    ensures answer { λ r. ⌜ r ≡ lookupNumber (foundAnswer answer) ⌝ }
-    ensures memory { λ r. ⌜ now (found .exit) ≡ numberWords (foundAnswer answer) (now (found .entry)) ⌝ }
-{
-    match answer {
-        Found::Is(x) => {
-            *found = [x];
-            0
-        }
-        Found::Refused(no) => no as u32,
-    }
-}
-
-// Answers the place of a node, and leaves it in lent memory.
-fn answer_placed(answer: Placed, found: &mut [u32; 3]) -> u32
-    ensures answer { λ r. ⌜ r ≡ lookupNumber (placedAnswer answer) ⌝ }
-    ensures memory { λ r. ⌜ now (found .exit) ≡ placeWords (placedAnswer answer) (now (found .entry)) ⌝ }
-{
-    match answer {
-        Placed::Alone => {
-            *found = [0, 0, 0];
-            0
-        }
-        Placed::Hermit(next) => {
-            *found = [1, next, 0];
-            0
-        }
-        Placed::Neighbour(b) => {
-            *found = [2, b, 0];
-            0
-        }
-        Placed::Messenger(b, h) => {
-            *found = [3, b, h];
-            0
-        }
-        Placed::Refused(no) => no as u32,
-    }
-}
 
 // The dimension of a board. Refuses 1.
 #[no_mangle]
@@ -190,7 +97,7 @@ pub extern "C" fn ocb_dimension(nodes: u32, found: &mut [u32; 1]) -> u32
     ensures answer { λ r. ⌜ r ≡ lookupNumber (dimensionLookup base nodes) ⌝ }
     ensures memory { λ r. ⌜ now (found .exit) ≡ numberWords (dimensionLookup base nodes) (now (found .entry)) ⌝ }
 {
-    answer_found(tree::dimension_of(nodes), found)
+    answers::answer_found(tree::dimension_of(nodes), found)
 }
 
 // The place of a node in a dimension. Refuses 1, 2, 10.
@@ -199,7 +106,7 @@ pub extern "C" fn ocb_place(nodes: u32, dimension: u32, node: u32, found: &mut [
     ensures answer { λ r. ⌜ r ≡ lookupNumber (placeLookup base nodes dimension node) ⌝ }
     ensures memory { λ r. ⌜ now (found .exit) ≡ placeWords (placeLookup base nodes dimension node) (now (found .entry)) ⌝ }
 {
-    answer_placed(tree::place_of(nodes, dimension, node), found)
+    answers::answer_placed(tree::place_of(nodes, dimension, node), found)
 }
 
 // The distance of two nodes. Refuses 1, 2, 3.
@@ -208,7 +115,7 @@ pub extern "C" fn ocb_distance(nodes: u32, a: u32, b: u32, found: &mut [u32; 1])
     ensures answer { λ r. ⌜ r ≡ lookupNumber (distanceLookup base nodes a b) ⌝ }
     ensures memory { λ r. ⌜ now (found .exit) ≡ numberWords (distanceLookup base nodes a b) (now (found .entry)) ⌝ }
 {
-    answer_found(tree::distance_of(nodes, a, b), found)
+    answers::answer_found(tree::distance_of(nodes, a, b), found)
 }
 
 // ---- Exported: frames, for tools and tests
@@ -227,7 +134,7 @@ pub extern "C" fn ocb_frame_write(
         ⌜ now (size .exit)
         ≡ numberWords (writeOn base nodes (now (fields .entry)) (length (now (buf .entry)))) (now (size .entry)) ⌝ }
 {
-    answer_found(fields::write(base::of_build(), nodes, fields, buf), size)
+    answers::answer_found(fields::write(base::of_build(), nodes, fields, buf), size)
 }
 
 // Reads a frame. Refuses 1, 9, 10, 2.
@@ -236,9 +143,5 @@ pub extern "C" fn ocb_frame_read(nodes: u32, bytes: &[u8], fields: &mut [u32; 23
     ensures answer { λ r. ⌜ r ≡ lookupNumber (readFrame base nodes (now (bytes .entry))) ⌝ }
     ensures memory { λ r. ⌜ now (fields .exit) ≡ frameWords (readFrame base nodes (now (bytes .entry))) (now (fields .entry)) ⌝ }
 {
-    let answer = fields_read::read(base::of_build(), nodes, bytes, fields);
-    match answer {
-        Outcome::Done => 0,
-        Outcome::Refused(no) => no as u32,
-    }
+    answers::answer_read(fields_read::read(base::of_build(), nodes, bytes, fields))
 }

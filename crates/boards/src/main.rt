@@ -118,9 +118,9 @@ fn print_written(agreed: u32) {
     print_next(agreed);
     io::write_all(STDOUT_FILENO, b" written:");
     let mut words = [0u32; 23];
-    words[fields::PASS] = 2;
-    words[fields::SENDER] = 1;
-    words[fields::AGREED] = agreed;
+    words[field_words::PASS] = 2;
+    words[field_words::SENDER] = 1;
+    words[field_words::AGREED] = agreed;
     let mut buffer = [0u8; 12];
     print_found(fields::write(base::of_build(), 2, &words, &mut buffer));
     io::write_all(STDOUT_FILENO, b"\n");

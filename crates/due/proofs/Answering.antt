@@ -15,7 +15,7 @@ use Rattle.node.specs.declared.Receivers.{Receivers}
 use Rattle.layout.specs.Places.{atPass}
 use Rattle.layout.specs.Held.{word}
 use Rattle.due.specs.Due.{dueBytes, nobody, short, sent, dueOf, sending, dueLent}
-use Rattle.due.specs.Pieces.{putLength, putBytes}
+use Rattle.due_frame.specs.Frames.{putLength, putBytes}
 use Rattle.due.specs.declared.Sending.{Sending}
 use Rattle.due.specs.declared.Sending.the-variants.{Short, To}
 

@@ -1,10 +1,10 @@
 -- The frame that is due by the words of a state: to whom it goes, its bytes, and what comes of sending it.
 use mathlib.Core.Bool.{Bool, true}
 use mathlib.Core.List.{List, [], _∷_, _++_}
-use Prim.Native.Nat.{ℕ, _+_, _-_, _%_}
-use lib.Dec.{ltb, leb, eqb}
+use Prim.Native.Nat.{ℕ, _%_}
+use lib.Dec.{ltb, eqb}
 use lib.ListN.{length, drop}
-use Rattle.base.specs.Choice.{choose, both}
+use Rattle.base.specs.Choice.{choose}
 use Rattle.base.specs.Limits.{Limits}
 use Rattle.base.specs.Refusal.{Answered, refused, found}
 use Rattle.tree.specs.Tree.{Place, awaits, sendsTo}
@@ -12,9 +12,9 @@ use Rattle.tree.specs.Lookups.{placeLookup}
 use Rattle.frame.specs.Numbers.{bytesOf}
 use Rattle.node.specs.Agree.{isNone}
 use Rattle.node.specs.Answers.{also}
-use Rattle.layout.specs.Places.{atNodes, atNumber, atPhase, atPass, atDim, atFlag, atAgreed, headWords, sumWords}
+use Rattle.layout.specs.Places.{atNodes, atNumber, atPhase, atPass, atDim, atFlag, atAgreed, headWords}
 use Rattle.layout.specs.Held.{word}
-use Rattle.wire.specs.Wire.{part}
+pub use Rattle.due_frame.specs.Frames.{sentPart, takenPart, firstNumbers, hasSums}
 use Rattle.due.specs.declared.Sending.{Sending}
 use Rattle.due.specs.declared.Sending.the-variants.{Nobody, Short, To}
 
@@ -39,18 +39,6 @@ dueTo L ws = choose (eqb (word ws atFlag) 1) (toWhom (lookedUp L ws)) []
 
 -- ---- The bytes
 
--- the own sums sent of shells k to p - 1
-abbrev pub sentPart : List ℕ → ℕ → ℕ → List ℕ
-sentPart sums p k = part sums k (p - k)
-
--- those taken, and both totals
-abbrev pub takenPart : List ℕ → ℕ → ℕ → List ℕ
-takenPart sums p k = part sums (k + p) (sumWords p - (k + p))
-
--- the numbers of a pass 1 frame
-abbrev pub firstNumbers : List ℕ → ℕ → ℕ → List ℕ
-firstNumbers sums p k = sentPart sums p k ++ takenPart sums p k
-
 -- the bytes of the frame for the position, by the sums of pass 1 and the own sum of total sent for pass 2
 abbrev pub dueBytes : List ℕ → List ℕ → ℕ → ℕ → List ℕ
 dueBytes ws sums p issued =
@@ -59,10 +47,6 @@ dueBytes ws sums p issued =
     choose (eqb (word ws atPass) 1)
     (1 ∷ (head ++ bytesOf (firstNumbers sums p k)))
     (2 ∷ (head ++ bytesOf (word ws atAgreed ∷ issued ∷ [])))
-
--- so many words have the sums of a board of p dimensions, which has dimension k
-abbrev pub hasSums : ℕ → ℕ → ℕ → Bool
-hasSums p k words = both (leb k p) (leb (sumWords p) words)
 
 -- the numbers of the frame are there
 abbrev pub canSend : List ℕ → ℕ → ℕ → Bool

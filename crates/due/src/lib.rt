@@ -1,17 +1,16 @@
 // The frame that a node is due to send: to whom it goes, and its bytes, put together from lent words.
 ghost use mathlib.Core.Path.{_≡_};
-ghost use mathlib.Core.List.{[], _∷_, List·Memᴰ};
-ghost use Prim.Native.Nat.{ℕ, _+_, _-_, _*_, _≤_, _<_};
+ghost use mathlib.Core.List.{[], List·Memᴰ};
+ghost use Prim.Native.Nat.{ℕ, _≤_, _<_};
 ghost use lib.Dec.{eqb};
 ghost use lib.ListN.{length};
 ghost use Rattle.base.specs.Choice.{choose};
 ghost use Rattle.base.specs.Limits.{limitsOf};
-ghost use Rattle.frame.specs.Numbers.{bytesOf};
 ghost use Rattle.tree.specs.Lookups.{placedAnswer};
-ghost use Rattle.due.specs.Due.{toWhom, isLone, hasSums, canSend, firstNumbers, dueBytes, dueOf, dueOn, dueLent};
-ghost use Rattle.due.specs.Due.{lookedUp, sentPart, takenPart};
-ghost use Rattle.due.specs.Pieces.{whomList, putLength, putBytes};
-ghost use Rattle.wire.specs.Wire.{putNumbers};
+ghost use Rattle.layout.specs.Places.{headWords};
+ghost use Rattle.due_frame.specs.Frames.{putLength, putBytes};
+ghost use Rattle.due.specs.Due.{toWhom, isLone, canSend, dueBytes, dueOf, dueOn, dueLent, lookedUp};
+ghost use Rattle.due.specs.Pieces.{whomList};
 use base::Bounds;
 use frame::Sent;
 use node::Extra;
@@ -38,10 +37,10 @@ enum Whom {
 
 // The place of the position.
 fn place_of(b: Bounds, s: &[u32]) -> Placed
-    requires { ⌜ 8 ≤ length (now s) ⌝ }
+    requires { ⌜ headWords ≤ length (now s) ⌝ }
     ensures { λ r. ⌜ placedAnswer r ≡ lookedUp (limitsOf b) (now (s .entry)) ⌝ }
 {
-    tree::place_for(b, s[0], s[5], s[1])
+    tree::place_for(b, s[layout::NODES], s[layout::DIM], s[layout::NUMBER])
 }
 
 // The receivers of a node at a place.
@@ -98,74 +97,9 @@ fn sent(to: Receivers, length: u32) -> Sending
 
 // ---- The bytes
 
-// Whether so many words have the sums of a board of p dimensions, which has dimension k.
-fn has_sums(p: u8, k: u32, words: usize) -> bool
-    ensures { λ r. ⌜ r ≡ hasSums p k words ⌝ }
-{
-    if (p as u32) < k {
-        return false;
-    }
-    2 * p as usize + 2 <= words
-}
-
-// Puts the numbers of the frame of pass 1, dimension k, after its head.
-fn put_sums(buf: &mut [u8], p: u8, k: u8, sums: &[u32])
-    requires { ⌜ (k ≤ p) × (2 * p + 2 ≤ length (now sums)) ⌝ }
-    ensures { λ r.
-        ⌜ now (buf .exit)
-        ≡ putNumbers (putNumbers (now (buf .entry)) 4 (sentPart (now (sums .entry)) p k)) (4 + 4 * (p - k))
-        (takenPart (now (sums .entry)) p k) ⌝ }
-{
-    let from = k as usize;
-    let end = p as usize;
-    wire::put_numbers(&mut *buf, 4, &sums[from..end]);
-    wire::put_numbers(
-        &mut *buf,
-        4 + 4 * (p - k) as u32,
-        &sums[from + end..2 * end + 2],
-    );
-}
-
-// Puts the frame of pass 1, dimension k. Its length; 0 where there is no room.
-fn put_first(phase: u8, k: u8, sender: u8, p: u8, sums: &[u32], buf: &mut [u8]) -> u32
-    requires { ⌜ (k ≤ p) × (2 * p + 2 ≤ length (now sums)) ⌝ }
-    ensures answer { λ r.
-        ⌜ r
-        ≡ putLength (1 ∷ phase ∷ k ∷ sender ∷ bytesOf (firstNumbers (now (sums .entry)) p k))
-        (length (now (buf .entry))) ⌝ }
-    ensures memory { λ r.
-        ⌜ now (buf .exit)
-        ≡ putBytes (1 ∷ phase ∷ k ∷ sender ∷ bytesOf (firstNumbers (now (sums .entry)) p k)) (now (buf .entry)) ⌝ }
-{
-    let length = 12 + 8 * (p - k) as u32;
-    if buf.len() < length as usize {
-        return 0;
-    }
-    wire::put_head(&mut *buf, 1, phase, k, sender);
-    put_sums(&mut *buf, p, k, sums);
-    length
-}
-
-// Puts the frame of pass 2, dimension k. Its length; 0 where there is no room.
-fn put_second(phase: u8, k: u8, sender: u8, issued: Sent, agreed: u32, buf: &mut [u8]) -> u32
-    ensures answer { λ r.
-        ⌜ r ≡ putLength (2 ∷ phase ∷ k ∷ sender ∷ bytesOf (agreed ∷ issued .0 ∷ [])) (length (now (buf .entry))) ⌝ }
-    ensures memory { λ r.
-        ⌜ now (buf .exit)
-        ≡ putBytes (2 ∷ phase ∷ k ∷ sender ∷ bytesOf (agreed ∷ issued .0 ∷ [])) (now (buf .entry)) ⌝ }
-{
-    if buf.len() < 12 {
-        return 0;
-    }
-    let numbers = [agreed, issued.0];
-    wire::put_head(&mut *buf, 2, phase, k, sender);
-    wire::put_numbers(&mut *buf, 4, &numbers);
-    12
-}
-
 // Puts the frame of the position. Its length; 0 where there is no room, or its numbers are not there.
 fn put_due(s: &[u32], sums: &[u32], p: u8, issued: Sent, buf: &mut [u8]) -> u32
-    requires { ⌜ 8 ≤ length (now s) ⌝ }
+    requires { ⌜ headWords ≤ length (now s) ⌝ }
     ensures answer { λ r.
         ⌜ r
         ≡ choose (canSend (now (s .entry)) p (length (now (sums .entry))))
@@ -176,17 +110,14 @@ fn put_due(s: &[u32], sums: &[u32], p: u8, issued: Sent, buf: &mut [u8]) -> u32
         (putBytes (dueBytes (now (s .entry)) (now (sums .entry)) p (issued .0)) (now (buf .entry)))
         (now (buf .entry)) ⌝ }
 {
-    let sender = (s[1] % 256) as u8;
-    let phase = (s[2] % 256) as u8;
-    let dim = s[5];
-    let k = (dim % 256) as u8;
-    if s[4] != 1 {
-        return put_second(phase, k, sender, issued, s[7], &mut *buf);
+    let sender = (s[layout::NUMBER] % 256) as u8;
+    let phase = (s[layout::PHASE] % 256) as u8;
+    let dim = s[layout::DIM];
+    if s[layout::PASS] != 1 {
+        let k = (dim % 256) as u8;
+        return due_frame::put_second(phase, k, sender, issued, s[layout::AGREED], &mut *buf);
     }
-    if !has_sums(p, dim, sums.len()) {
-        return 0;
-    }
-    put_first(phase, k, sender, p, sums, &mut *buf)
+    due_frame::put_first(phase, dim, sender, p, sums, &mut *buf)
 }
 
 // Writes the frame due on a board of p dimensions, by the words of a state, its sums of pass 1 and its own sum of total
@@ -199,11 +130,11 @@ pub fn send(b: Bounds, s: &[u32], sums: &[u32], p: u8, issued: Sent, buf: &mut [
         ⌜ now (buf .exit)
         ≡ dueLent (dueOf r) (dueBytes (now (s .entry)) (now (sums .entry)) p (issued .0)) (now (buf .entry)) ⌝ }
 {
-    if s.len() < 8 {
+    if s.len() < layout::HEAD as usize {
         return Sending::Short;
     }
     let placed = place_of(b, s);
-    let whom = whom_due(s[6] == 1, placed);
+    let whom = whom_due(s[layout::FLAG] == 1, placed);
     if let Whom::To(to) = whom {
         return sent(to, put_due(s, sums, p, issued, &mut *buf));
     }

@@ -23,10 +23,11 @@ use Rattle.frame.proofs.RoundTripChecks.{step-known}
 use Rattle.frame.proofs.Answers.{write-step, write-numbers, write-stranger, write-buffer, write-found}
 use Rattle.wire.specs.Wire.{part}
 use Rattle.wire.proofs.Putting.{length-pieces, whole-put, length-part, part-is}
-use Rattle.fields.specs.Fields.{atPass, atPhase, atDim, atSender, atIssued, atReceived, atAgreed, atSent, atTaken}
-use Rattle.fields.specs.Fields.{frameFrom, writeOn, writtenOn}
-use Rattle.fields.specs.Pieces.{between, firstNumbers, secondNumbers, bytesWith, bytesFrom, putAnswer}
-use Rattle.fields.proofs.Numbers.{sent-held, taken-held}
+use Rattle.field_words.specs.Words.{atPass, atPhase, atDim, atSender, atIssued, atReceived, atAgreed, atSent, atTaken}
+use Rattle.field_words.specs.Words.{frameFrom}
+use Rattle.fields.specs.Fields.{writeOn, writtenOn}
+use Rattle.fields.specs.Pieces.{between, headWith, firstNumbers, secondNumbers, bytesWith, bytesFrom, putAnswer}
+use Rattle.field_words.proofs.Numbers.{sent-held, taken-held}
 
 -- ---- the bytes
 
@@ -89,7 +90,7 @@ module _ (p : ℕ) (ws : List ℕ) (count : length ws ≡ 23) where
 
 module _ (ws buf : List ℕ) (pass : ℕ) (xs : List ℕ) where
   abbrev head : List ℕ
-  head = pass ∷ getD ws atPhase 0 ∷ getD ws atDim 0 ∷ getD ws atSender 0 ∷ []
+  head = headWith pass ws
 
   abbrev frame : List ℕ
   frame = bytesWith pass ws xs

@@ -4,102 +4,49 @@
 ghost use mathlib.Core.Path.{_≡_};
 ghost use Prim.Native.Nat.{_≤_, _<_};
 ghost use lib.ListN.{length, getD};
-ghost use Rattle.base.specs.Choice.{every};
-ghost use Rattle.base.specs.Limits.{limitsOf, width};
+ghost use Rattle.base.specs.Limits.{limitsOf};
 ghost use Rattle.tree.specs.Lookups.{foundAnswer};
-ghost use Rattle.frame.specs.Frame.{numbersOk, over};
-ghost use Rattle.frame.specs.Parts.{hasTallies};
-ghost use Rattle.fields.specs.Fields.{atPhase, atDim, atSender, frameFrom, writeOn, writtenOn};
-ghost use Rattle.fields.specs.Pieces.{most, shellLow, totalsLow};
-ghost use Rattle.fields.specs.Pieces.{firstNumbers, secondNumbers, bytesWith, bytesFrom, putAnswer};
+ghost use Rattle.frame.specs.Frame.{over};
+ghost use Rattle.wire.specs.Wire.{putAt, putNumbers};
+ghost use Rattle.field_words.specs.Words.{atPhase, atDim, atSender};
+ghost use Rattle.fields.specs.Fields.{writeOn, writtenOn};
+ghost use Rattle.fields.specs.Pieces.{between, headWith, firstNumbers, secondNumbers, bytesWith, bytesFrom, putAnswer};
 use base::Bounds;
+use field_words::AGREED;
+use field_words::DIM;
+use field_words::ISSUED;
+use field_words::PASS;
+use field_words::PHASE;
+use field_words::RECEIVED;
+use field_words::SENDER;
+use field_words::SENT;
+use field_words::TAKEN;
 use tree::Found;
 
-// ---- The places of the words, as specs/Fields.antt names them
-
-pub const PASS: usize = 0;
-
-pub const PHASE: usize = 1;
-
-pub const DIM: usize = 2;
-
-pub const SENDER: usize = 3;
-
-pub const ISSUED: usize = 4;
-
-pub const RECEIVED: usize = 5;
-
-pub const AGREED: usize = 6;
-// the tallies of shell 0
-pub const SENT: usize = 7;
-
-pub const TAKEN: usize = 15;
-// one after the last
-pub const END: usize = 23;
-
-// ---- The numbers that a frame may hold
-
-// The most that a number may be: 0 where the frame does not have it.
-fn most_of(has: bool, limit: u32) -> u32
-    ensures { λ r. ⌜ r ≡ most has limit ⌝ }
+// Puts the head, of a pass.
+fn put_head(pass: u8, fields: &[u32], buf: &mut [u8])
+    requires { ⌜ (length (now fields) ≡ 23)
+        × (getD (now fields) atDim 0 ≤ 8)
+        × (getD (now fields) atPhase 0 < 256)
+        × (getD (now fields) atSender 0 < 256) ⌝ }
+    ensures { λ r. ⌜ now (buf .exit) ≡ putAt (now (buf .entry)) 0 (headWith pass (now (fields .entry))) ⌝ }
 {
-    if has { limit } else { 0 }
+    wire::put_head(
+        buf,
+        pass,
+        fields[PHASE] as u8,
+        fields[DIM] as u8,
+        fields[SENDER] as u8,
+    );
 }
 
-// A frame of this pass and dimension has tallies of shell m.
-fn has_tallies(p: u32, pass: u32, k: u32, m: u32) -> bool
-    ensures { λ r. ⌜ r ≡ hasTallies p pass k m ⌝ }
+// Puts the numbers between two places of the words.
+fn put_between(fields: &[u32], from: usize, end: usize, buf: &mut [u8], at: u32)
+    requires { ⌜ (from ≤ end) × (end ≤ length (now fields)) ⌝ }
+    ensures { λ r. ⌜ now (buf .exit) ≡ putNumbers (now (buf .entry)) at (between (now (fields .entry)) from end) ⌝ }
 {
-    if pass != 1 {
-        return false;
-    }
-    k <= m && m < p
+    wire::put_numbers(buf, at, &fields[from..end]);
 }
-
-// The tallies of a shell are within the limit, and 0 where the frame does not have them.
-fn shell_low(limit: u32, p: u32, fields: &[u32; 23], m: usize) -> bool
-    requires { ⌜ m < 8 ⌝ }
-    ensures { λ r. ⌜ r ≡ shellLow limit p (now (fields .entry)) m ⌝ }
-{
-    let has = has_tallies(p, fields[PASS], fields[DIM], m as u32);
-    let top = most_of(has, limit);
-    fields[SENT + m] <= top && fields[TAKEN + m] <= top
-}
-
-// So are those of all shells.
-fn shells_low(limit: u32, p: u32, fields: &[u32; 23]) -> bool
-    ensures { λ r. ⌜ r ≡ every 0 width (shellLow limit p (now (fields .entry))) ⌝ }
-{
-    for m in 0..8 {
-        if !shell_low(limit, p, fields, m) {
-            return false;
-        }
-    }
-    true
-}
-
-// So are the totals and T.
-fn totals_low(limit: u32, fields: &[u32; 23]) -> bool
-    ensures { λ r. ⌜ r ≡ totalsLow limit (now (fields .entry)) ⌝ }
-{
-    if limit < fields[ISSUED] {
-        return false;
-    }
-    if most_of(fields[PASS] == 1, limit) < fields[RECEIVED] {
-        return false;
-    }
-    fields[AGREED] <= most_of(fields[PASS] == 2, limit)
-}
-
-// So are all numbers.
-fn numbers_ok(b: Bounds, p: u32, fields: &[u32; 23]) -> bool
-    ensures { λ r. ⌜ r ≡ numbersOk (limitsOf b) p (frameFrom (now (fields .entry))) ⌝ }
-{
-    let limit = base::field_limit(b);
-    shells_low(limit, p, fields) && totals_low(limit, fields)
-}
-
-// ---- The writer
 
 // Puts a frame of pass 1, where there is room.
 fn put_first(p: u32, fields: &[u32], buf: &mut [u8]) -> Found
@@ -126,16 +73,10 @@ fn put_first(p: u32, fields: &[u32], buf: &mut [u8]) -> Found
     }
     let from = k as usize;
     let to = p as usize;
-    wire::put_head(
-        &mut *buf,
-        1,
-        fields[PHASE] as u8,
-        k as u8,
-        fields[SENDER] as u8,
-    );
-    wire::put_numbers(&mut *buf, 4, &fields[SENT + from..SENT + to]);
-    wire::put_numbers(&mut *buf, 4 + row, &fields[TAKEN + from..TAKEN + to]);
-    wire::put_numbers(&mut *buf, 4 + 2 * row, &fields[ISSUED..AGREED]);
+    put_head(1, fields, &mut *buf);
+    put_between(fields, SENT + from, SENT + to, &mut *buf, 4);
+    put_between(fields, TAKEN + from, TAKEN + to, &mut *buf, 4 + row);
+    put_between(fields, ISSUED, AGREED, &mut *buf, 4 + 2 * row);
     Found::Is(length)
 }
 
@@ -158,15 +99,9 @@ fn put_second(fields: &[u32], buf: &mut [u8]) -> Found
     if buf.len() < 12 {
         return Found::Refused(14);
     }
-    wire::put_head(
-        &mut *buf,
-        2,
-        fields[PHASE] as u8,
-        fields[DIM] as u8,
-        fields[SENDER] as u8,
-    );
-    wire::put_numbers(&mut *buf, 4, &fields[AGREED..SENT]);
-    wire::put_numbers(&mut *buf, 8, &fields[ISSUED..RECEIVED]);
+    put_head(2, fields, &mut *buf);
+    put_between(fields, AGREED, SENT, &mut *buf, 4);
+    put_between(fields, ISSUED, RECEIVED, &mut *buf, 8);
     Found::Is(12)
 }
 
@@ -203,10 +138,10 @@ pub fn write(b: Bounds, nodes: u32, fields: &[u32; 23], buf: &mut [u8]) -> Found
     if 256 <= fields[PHASE] {
         return Found::Refused(10);
     }
-    if wire::step_bad(p, fields[PASS], fields[DIM]) {
+    if wire_read::step_bad(p, fields[PASS], fields[DIM]) {
         return Found::Refused(10);
     }
-    if !numbers_ok(b, p, fields) {
+    if !field_words::numbers_ok(b, p, fields) {
         return Found::Refused(10);
     }
     if nodes <= fields[SENDER] {

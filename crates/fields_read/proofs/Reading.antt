@@ -14,8 +14,8 @@ use Rattle.frame.specs.declared.Outcome.the-variants.{Done, Refused}
 use Rattle.frame.proofs.Answers.{answer-refused, answer-done}
 use Rattle.frame.proofs.Writing.{first-length, second-length}
 use Rattle.frame.proofs.RoundTripAccepted.{Read, read-known, head-pass, head-dim}
-use Rattle.wire.proofs.Within.{few, fields-second}
-use Rattle.fields.specs.Fields.{fieldWords, frameWords}
+use Rattle.wire_read.proofs.Within.{few, fields-second}
+use Rattle.field_words.specs.Words.{fieldWords, frameWords}
 use Rattle.fields_read.specs.Pieces.{dimsBy}
 
 -- refused, the words stay

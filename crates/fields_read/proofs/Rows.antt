@@ -13,9 +13,10 @@ use Rattle.base.proofs.Laws.{length-list, list-same}
 use Rattle.frame.specs.Numbers.{wordAt}
 use Rattle.frame.specs.Frame.{numberAt, hasShell, shellAt, firstFields, secondFields}
 use Rattle.frame.proofs.Shells.{shell-there, shell-gone, shell-low, shell-high}
-use Rattle.wire.specs.Wire.{numbersFrom, part}
-use Rattle.wire.proofs.Copies.{part-copied}
-use Rattle.fields.specs.Fields.{fieldWords}
+use Rattle.wire.specs.Wire.{part}
+use Rattle.wire_read.specs.Read.{numbersFrom}
+use Rattle.wire_read.proofs.Copies.{part-copied}
+use Rattle.field_words.specs.Words.{fieldWords}
 use Rattle.fields_read.specs.Pieces.{headWords}
 
 -- ---- values listed by a rule, in parts

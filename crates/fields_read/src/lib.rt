@@ -7,19 +7,19 @@ ghost use lib.ListN.{length};
 ghost use Rattle.base.specs.Choice.{list};
 ghost use Rattle.base.specs.Limits.{limitsOf, width};
 ghost use Rattle.frame.specs.Frame.{readFrame, answerOf, firstFields, secondFields, fieldsOf, shellAt};
-ghost use Rattle.fields.specs.Fields.{fieldWords, frameWords};
+ghost use Rattle.field_words.specs.Words.{fieldWords, frameWords};
 ghost use Rattle.fields_read.specs.Pieces.{headWords, dimsBy};
 use base::Bounds;
-use fields::AGREED;
-use fields::DIM;
-use fields::END;
-use fields::ISSUED;
-use fields::PASS;
-use fields::PHASE;
-use fields::RECEIVED;
-use fields::SENDER;
-use fields::SENT;
-use fields::TAKEN;
+use field_words::AGREED;
+use field_words::DIM;
+use field_words::END;
+use field_words::ISSUED;
+use field_words::PASS;
+use field_words::PHASE;
+use field_words::RECEIVED;
+use field_words::SENDER;
+use field_words::SENT;
+use field_words::TAKEN;
 use frame::Outcome;
 
 // Puts the words of a head, and no numbers yet.
@@ -39,7 +39,7 @@ fn get_row(bytes: &[u8], row: &mut [u32], k: usize, n: usize)
     requires { ⌜ (now row ≡ list 0 width (λ m. 0)) × (k + n ≤ 8) × (4 + 4 * n ≤ length (now bytes)) ⌝ }
     ensures { λ r. ⌜ now (row .exit) ≡ list 0 width (shellAt (k + n) k (now (bytes .entry)) 0) ⌝ }
 {
-    wire::copy_numbers(bytes, &mut row[k..k + n]);
+    wire_read::copy_numbers(bytes, &mut row[k..k + n]);
 }
 
 // Puts the numbers of a frame of pass 1.
@@ -51,7 +51,7 @@ fn get_first(bytes: &[u8], fields: &mut [u32])
     let n = (bytes.len() - 12) / 8;
     get_row(bytes, &mut fields[SENT..TAKEN], k, n);
     get_row(&bytes[4 * n..], &mut fields[TAKEN..END], k, n);
-    wire::copy_numbers(&bytes[8 * n..], &mut fields[ISSUED..AGREED]);
+    wire_read::copy_numbers(&bytes[8 * n..], &mut fields[ISSUED..AGREED]);
 }
 
 // Puts the numbers of a frame of pass 2.
@@ -59,8 +59,8 @@ fn get_second(bytes: &[u8], fields: &mut [u32])
     requires { ⌜ (now fields ≡ headWords (now bytes)) × (12 ≤ length (now bytes)) ⌝ }
     ensures { λ r. ⌜ now (fields .exit) ≡ fieldWords (secondFields (now (bytes .entry))) ⌝ }
 {
-    wire::copy_numbers(bytes, &mut fields[AGREED..SENT]);
-    wire::copy_numbers(&bytes[4..], &mut fields[ISSUED..RECEIVED]);
+    wire_read::copy_numbers(bytes, &mut fields[AGREED..SENT]);
+    wire_read::copy_numbers(&bytes[4..], &mut fields[ISSUED..RECEIVED]);
 }
 
 // Puts the numbers of a frame, by its pass.
@@ -81,7 +81,7 @@ pub fn read(b: Bounds, nodes: u32, bytes: &[u8], fields: &mut [u32; 23]) -> Outc
     ensures memory { λ r.
         ⌜ now (fields .exit) ≡ frameWords (readFrame (limitsOf b) nodes (now (bytes .entry))) (now (fields .entry)) ⌝ }
 {
-    let answer = wire::checked(b, nodes, bytes);
+    let answer = wire_read::checked(b, nodes, bytes);
     if let Outcome::Refused(no) = answer {
         return Outcome::Refused(no);
     }

@@ -1,4 +1,3 @@
 pub mod Runs
-pub mod Adding
 pub mod Room
 pub mod Starting

@@ -4,45 +4,16 @@ use mathlib.Core.Bool.{Bool, true, false}
 use mathlib.Core.List.{List}
 use Prim.Native.Nat.{ℕ, suc, _+_, _-_, _*_, _≤_, _<_}
 use native.Mathlib.Omega.{arith}
-use lib.Dec.{ltb, leb}
+use lib.Dec.{leb}
 use lib.ListN.{length}
-use borrow.Author.Tests.{ltb-true, leb-true, leb-false, lt-ltb, le-leb, lt-leb}
-use Rattle.base.specs.Choice.{choose, both}
+use borrow.Author.Tests.{leb-true, leb-false, le-leb}
+use Rattle.base.specs.Choice.{choose}
 use Rattle.base.specs.Limits.{Limits, takenLimit}
 use Rattle.base.proofs.Laws.{clash, choose-yes, choose-no, cases, both-true, both-make}
 use Rattle.frame.specs.Frame.{sentNumber, takenNumber}
-use Rattle.gather.specs.Gather.{isFitting, hasRoom, sentTotal, takenTotal, tallied, noTallies, talliesOf}
+use Rattle.gather.specs.Gather.{hasRoom, sentTotal, takenTotal, tallied, noTallies, talliesOf}
 use Rattle.gather.specs.Pieces.{capped}
 use Rattle.gather.specs.declared.Tallies.{Tallies}
-
--- ---- the words of a frame
-
-pub record Fitting (p k at words room : ℕ) : Type 0 where
-  pub low : k < p
-  pub few : p ≤ 8
-  pub near : at ≤ 144
-  pub long : at + (2 * (p - k) + 3) ≤ words
-  pub wide : 2 * p + 2 ≤ room
-
-pub fitting-known : (p k at words room : ℕ) → isFitting p k at words room ≡ true → Fitting p k at words room
-fitting-known p k at words room e =
-    let a = both-true (ltb k p) _ e in
-    let b = both-true (leb p 8) _ (a .1) in
-    let c = both-true (leb at 144) _ (b .1) in
-    let d = both-true (leb (at + (2 * (p - k) + 3)) words) (leb (2 * p + 2) room) (c .1) in
-    record {
-      low = ltb-true k p (a .0);
-      few = leb-true p 8 (b .0);
-      near = leb-true at 144 (c .0);
-      long = leb-true _ words (d .0);
-      wide = leb-true _ room (d .1);
-    }
-
-pub fitting-made : (p k at words room : ℕ) → Fitting p k at words room → isFitting p k at words room ≡ true
-fitting-made p k at words room f =
-    both-make (lt-ltb _ _ (f .low))
-    (both-make (le-leb _ _ (f .few))
-    (both-make (le-leb _ _ (f .near)) (both-make (le-leb _ _ (f .long)) (le-leb _ _ (f .wide)))))
 
 -- ---- the words of the tallies
 

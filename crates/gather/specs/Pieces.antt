@@ -1,7 +1,7 @@
--- Definitions that only the contracts of private functions cite: runs of words, copied and added.
+-- Definitions that only the contracts of private functions cite: a run of words, copied.
 use mathlib.Core.Path.{_≡_}
 use mathlib.Core.List.{List}
-use Prim.Native.Nat.{ℕ, suc, _+_, _≤_, _<_, _^_}
+use Prim.Native.Nat.{ℕ, suc, _+_, _≤_, _<_}
 use lib.Dec.{leb}
 use lib.ListN.{length}
 use Rattle.base.specs.Choice.{choose}
@@ -17,12 +17,4 @@ pub record Copied (after before ws : List ℕ) (to from count limit r : ℕ) : T
   pub total : r ≡ capped limit (total (λ m. word ws (from + m)) count)
   pub inside : r ≤ limit → (i : ℕ) → i < count → word after (to + i) ≡ word ws (from + i)
   pub below : (j : ℕ) → j < to → word after j ≡ word before j
-  pub length : length after ≡ length before
-
--- a run of words, added to a run of sums
-pub record AddedRun (after before ws : List ℕ) (to from count : ℕ) : Type 0 where
-  pub inside : (i : ℕ) → i < count → word before (to + i) + word ws (from + i) < 2 ^ 32
-      → word after (to + i) ≡ word before (to + i) + word ws (from + i)
-  pub below : (j : ℕ) → j < to → word after j ≡ word before j
-  pub above : (j : ℕ) → to + count ≤ j → word after j ≡ word before j
   pub length : length after ≡ length before

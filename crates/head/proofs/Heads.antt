@@ -15,7 +15,9 @@ use Rattle.node.specs.Sums.{dims}
 use Rattle.node.specs.State.{boardOk, positionOk, busyOk}
 use Rattle.node.specs.declared.Node.{Node}
 use Rattle.survey.specs.declared.Spot.{Spot}
-use Rattle.survey.specs.Walk.{headTest, spotAt}
+use Rattle.survey.specs.Pieces.{headTest}
+use Rattle.survey.specs.Spots.{spotAt}
+use Rattle.layout.specs.Places.{atNumber, atPass, atDim, atAgreed}
 use Rattle.layout.specs.Places.{atNodes, atPhase, atBusy, atFlag, stateWords}
 use Rattle.layout.specs.Held.{word, dimsOf, unpacked}
 use Rattle.layout.proofs.Offsets.{first-above}
@@ -30,11 +32,11 @@ module _ (ws : List ℕ) where
   unfolding unpacked
   dims-is = refl
 
-  pub pass-is : unpacked ws .pass ≡ word ws 4
+  pub pass-is : unpacked ws .pass ≡ word ws atPass
   unfolding unpacked
   pass-is = refl
 
-  pub agreed-is : unpacked ws .agreed ≡ word ws 7
+  pub agreed-is : unpacked ws .agreed ≡ word ws atAgreed
   unfolding unpacked
   agreed-is = refl
 
@@ -43,9 +45,9 @@ module _ (ws : List ℕ) where
   nodes-is = refl
 
   spot-is : (L : Limits) (p : ℕ) → p ≡ dimsOf ws
-      → spotAt L p (word ws 0) (word ws 1) (word ws 4) (word ws 5) (word ws 7) ≡ spotIn L ws
+      → spotAt L p (word ws atNodes) (word ws atNumber) (word ws atPass) (word ws atDim) (word ws atAgreed) ≡ spotIn L ws
   unfolding unpacked
-  spot-is L p e = ap (λ d. spotAt L d (word ws 0) (word ws 1) (word ws 4) (word ws 5) (word ws 7)) e
+  spot-is L p e = ap (λ d. spotAt L d (word ws atNodes) (word ws atNumber) (word ws atPass) (word ws atDim) (word ws atAgreed)) e
 
 -- ---- the head's test
 
@@ -182,11 +184,11 @@ module _ (L : Limits) (ws : List ℕ) (p : ℕ) (b : Boarded L ws p) where
         }
 
     module _ (f : headTested limit p ws ≡ true) where
-      pub pass-small : word ws 4 < 256
+      pub pass-small : word ws atPass < 256
       pass-small = omega (arith, pass-is ws, pass-low n (head-passes f .position))
 
       pub some-head : (s : Spot)
-          → s ≡ spotAt L p (word ws 0) (word ws 1) (word ws 4) (word ws 5) (word ws 7)
+          → s ≡ spotAt L p (word ws atNodes) (word ws atNumber) (word ws atPass) (word ws atDim) (word ws atAgreed)
           → record { ok = true; spot = s } ≡ headed L ws
       unfolding headed
       some-head s q =

@@ -11,7 +11,7 @@ use Rattle.tree.specs.Lookups.{badBoard}
 use Rattle.node.specs.Sums.{dims}
 use Rattle.node.specs.State.{boardOk, positionOk, busyOk}
 use Rattle.survey.specs.declared.Spot.{Spot}
-use Rattle.survey.specs.Walk.{spotAt}
+use Rattle.survey.specs.Spots.{spotAt}
 use Rattle.layout.specs.Places.{atNodes, atPhase, atBusy, atFlag, stateWords}
 use Rattle.layout.specs.Held.{word, dimsOf, unpacked}
 use Rattle.head.specs.declared.Head.{Head}

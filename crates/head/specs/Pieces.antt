@@ -8,7 +8,7 @@ use lib.ListN.{length}
 use Rattle.base.specs.Choice.{both}
 use Rattle.base.specs.Limits.{Limits}
 use Rattle.tree.specs.Lookups.{badBoard}
-use Rattle.survey.specs.Walk.{headTest}
+use Rattle.survey.specs.Pieces.{headTest}
 use Rattle.layout.specs.Places.{atNodes, atNumber, atPhase, atBusy, atPass, atDim, atFlag, atAgreed, stateWords}
 use Rattle.layout.specs.Held.{word, dimsOf}
 

@@ -1,15 +1,17 @@
 // The head of a state, in the words that the caller lends.
 ghost use mathlib.Core.Path.{_≡_};
 ghost use mathlib.Core.Bool.{true};
-ghost use Prim.Native.Nat.{ℕ, _≤_, _<_};
+ghost use Prim.Native.Nat.{_≤_, _<_};
 ghost use lib.Dec.{eqb};
 ghost use lib.ListN.{length};
 ghost use Rattle.base.specs.Choice.{either};
 ghost use Rattle.base.specs.Limits.{limitsOf};
-ghost use Rattle.survey.specs.Walk.{positionTest, busyTest, lone, spotAt};
+ghost use Rattle.survey.specs.Pieces.{positionTest, busyTest};
+ghost use Rattle.survey.specs.Spots.{lone, spotAt};
 ghost use Rattle.layout.specs.Held.{word};
 ghost use Rattle.head.specs.Head.{noHead, headed};
 ghost use Rattle.head.specs.Pieces.{headTested, Boarded};
+ghost use Rattle.layout.specs.Places.{headWords, atNodes, atNumber, atPass, atDim, atAgreed};
 use base::Bounds;
 use survey::Spot;
 use tree::Found;
@@ -73,7 +75,7 @@ fn busy_ok(busy: u32, pass: u32, dim: u32, flag: u32) -> bool
 
 // The words of the head: their range, T, the node's number, position and work.
 fn head_ok(s: &[u32], limit: u32, p: u32) -> bool
-    requires { ⌜ 8 ≤ length (now s) ⌝ }
+    requires { ⌜ headWords ≤ length (now s) ⌝ }
     ensures { λ r. ⌜ r ≡ headTested limit p (now (s .entry)) ⌝ }
 {
     // a phase is a byte, busy and flag are 0 or 1
@@ -118,11 +120,11 @@ fn is_alone(b: Bounds, nodes: u32, number: u32) -> bool
 }
 
 fn spot_at(b: Bounds, s: &[u32], p: u32) -> Spot
-    requires { ⌜ (8 ≤ length (now s)) × (word (now s) 4 < 256) ⌝ }
+    requires { ⌜ (headWords ≤ length (now s)) × (word (now s) atPass < 256) ⌝ }
     ensures { λ r.
         ⌜ r
-        ≡ spotAt (limitsOf b) p (word (now (s .entry)) 0) (word (now (s .entry)) 1) (word (now (s .entry)) 4)
-        (word (now (s .entry)) 5) (word (now (s .entry)) 7) ⌝ }
+        ≡ spotAt (limitsOf b) p (word (now (s .entry)) atNodes) (word (now (s .entry)) atNumber) (word (now (s .entry)) atPass)
+        (word (now (s .entry)) atDim) (word (now (s .entry)) atAgreed) ⌝ }
 {
     Spot {
         dims: p,

@@ -22,7 +22,7 @@ use Rattle.layout.proofs.Whole.{whole, few}
 use Rattle.layout.proofs.Becomes.{Becomes, becomes-same}
 use Rattle.layout.proofs.Writes.{put-busy, put-flag, put-position}
 use Rattle.layout.proofs.Fresh.{put-fresh}
-use Rattle.node_calls.proofs.Calls.{put-one-sent, put-woken}
+use Rattle.node_take.proofs.Counted.{put-one-sent, put-woken}
 use Rattle.node_frames.proofs.Storing.{put-read}
 use Rattle.kept.proofs.Holds.{Holds, becomes-holds}
 

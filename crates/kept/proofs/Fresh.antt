@@ -19,8 +19,8 @@ use Rattle.layout.specs.Held.{unpacked, isWhole}
 use Rattle.layout.proofs.Offsets.{words-closed}
 use Rattle.layout.proofs.Whole.{few}
 use Rattle.layout.proofs.Fresh.{freshly, fresh-whole, fresh-held}
-use Rattle.node_calls.specs.Fresh.{freshWords}
-use Rattle.node_calls.proofs.Starts.{fresh-put}
+use Rattle.node_fresh.specs.Fresh.{freshWords}
+use Rattle.node_fresh.proofs.Starts.{fresh-put}
 
 module _ (L : Limits) (fit : Fits L) (P a : ℕ) (ws : List ℕ) (good : badBoard L P ≡ false) (low : a < P)
     (room : stateWords (dimension P) ≤ length ws) where

@@ -12,7 +12,8 @@ use Rattle.node.specs.Calls.{refusal}
 use Rattle.node.specs.declared.Answer.{Answer}
 use Rattle.node.specs.declared.Answer.the-variants.{Refused}
 use Rattle.node.specs.declared.Node.{Node}
-use Rattle.layout.specs.Held.{unpacked, isWhole, isReady, answerOn, wordsOn, Answers}
+use Rattle.layout.specs.Held.{unpacked, isWhole, isReady, answerOn, wordsOn}
+use Rattle.layout.specs.Pieces.{Answers}
 use Rattle.layout.proofs.Becomes.{Becomes, becomes-words, becomes-same}
 
 module _ (L : Limits) (fit : Fits L) (call : Node → Given Outcome) (ws : List ℕ) where

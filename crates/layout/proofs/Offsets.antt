@@ -69,6 +69,9 @@ pub first-inside : (p k : ℕ) → k < p → atFirst p k + (2 * (p - k) + 6) ≤
 first-inside p k h = first-apart p k p h
 
 -- the words of the largest board
+pub most-words : stateWords 8 ≡ 144
+most-words = words-closed 8
+
 pub words-low : (p : ℕ) → p ≤ 8 → stateWords p ≤ 144
 words-low p l = omega (arith, words-closed p, mul-low p 8 (p + 9) 17 l (omega arith))
 

@@ -16,6 +16,7 @@ use Rattle.frame.specs.Frame.{sentAt, takenAt}
 use Rattle.node.specs.Sums.{firstAt, secondAt}
 use Rattle.node.specs.Change.{freshIn}
 use Rattle.node.specs.declared.Stored.{Stored}
+use Rattle.layout.specs.Places.{atNodes, atNumber, atPhase, atPass, atDim, atAgreed}
 use Rattle.layout.specs.Places.{atBusy, atFlag, atFirst, atSecond, stateWords, firstWords}
 use Rattle.layout.specs.Held.{word, bit, dimsOf, firstFrom, secondFrom, unpacked, isWhole, headOf}
 use Rattle.layout.specs.Held.{firstList, secondList, joinedList, packed, spare, holding}
@@ -107,7 +108,7 @@ module _ (ws : List ℕ) (L : Limits) (w : Whole L ws) (low : dimsOf ws ≤ 8) w
       let long = w .long in
       let b = bit-write (word ws atBusy) (w .busy) in
       let f = bit-write (word ws atFlag) (w .flag) in
-      (λ i. word ws 0 ∷ word ws 1 ∷ word ws 2 ∷ b i ∷ word ws 4 ∷ word ws 5 ∷ f i ∷ word ws 7 ∷ [])
+      (λ i. word ws atNodes ∷ word ws atNumber ∷ word ws atPhase ∷ b i ∷ word ws atPass ∷ word ws atDim ∷ f i ∷ word ws atAgreed ∷ [])
       ∙ listed ws 0 8 0 8 (word ws) refl (omega (arith, first-above p p)) (λ i j l m q. ap (word ws) (omega arith))
 
   -- the tallies, those sent or those taken

@@ -1,6 +1,5 @@
 -- The state that words hold, a state as words, and a call on words.
-use mathlib.Core.Path.{_≡_}
-use mathlib.Core.Bool.{Bool, true, not}
+use mathlib.Core.Bool.{Bool, not}
 use mathlib.Core.List.{List, [], _∷_, _++_}
 use Prim.Native.Nat.{ℕ, zero, suc, _+_, _-_}
 use lib.Dec.{ltb, leb, eqb}
@@ -13,9 +12,7 @@ use Rattle.tree.specs.Lookups.{badBoard}
 use Rattle.frame.specs.Frame.{sentNumber, takenNumber, sentAt, takenAt, hasShell}
 use Rattle.node.specs.Sums.{dims, firstAt, secondAt, Field, sentIn, takenIn, allSent, allTaken}
 use Rattle.node.specs.Change.{noFirst, noSecond}
-use Rattle.node.specs.State.{valid}
-use Rattle.node.specs.Answers.{Given, Outcome, refused, outcomeOf}
-use Rattle.node.specs.declared.Answer.{Answer}
+use Rattle.node.specs.Answers.{Given, Outcome, refused}
 use Rattle.node.specs.declared.Stored.{Stored}
 use Rattle.node.specs.declared.Confirm.{Confirm}
 use Rattle.node.specs.declared.Node.{Node}
@@ -157,13 +154,3 @@ answerOn L room call ws = choose (isReady L room ws) (call (unpacked ws) .answer
 
 abbrev pub wordsOn : Limits → ℕ → (Node → Given Outcome) → List ℕ → List ℕ
 wordsOn L room call ws = choose (isReady L room ws) (holding ws (call (unpacked ws) .node)) ws
-
--- the words hold a state that passes the test
-pub record Passed (L : Limits) (ws : List ℕ) : Type 0 where
-  pub whole : isWhole L ws ≡ true
-  pub valid : valid L (unpacked ws) ≡ true
-
--- what a call on them answers, and the words after it, whatever room there is for the sums
-pub record Answers (L : Limits) (call : Node → Given Outcome) (ws after : List ℕ) (r : Answer) : Type 0 where
-  pub on : (room : ℕ) → isReady L room ws ≡ true
-      → (outcomeOf r ≡ answerOn L room call ws) × (after ≡ wordsOn L room call ws)

@@ -24,6 +24,25 @@ pub const AGREED: usize = 7;
 // words of the head
 pub const HEAD: u32 = 8;
 
+// ---- The widths of what follows it
+
+// the mark before the numbers of a stored frame
+pub const MARK: u32 = 1;
+// total sent and total taken, which stand after the numbers by shell, in a frame of pass 1 and among the sums
+pub const TOTALS: u32 = 2;
+// a stored frame of pass 1 besides its numbers by shell: the mark and the totals
+pub const FIRST: u32 = 3;
+// a stored frame of pass 2, and where T and total sent stand in it, the mark being first
+pub const SECOND: u32 = 3;
+
+pub const SECOND_AGREED: u32 = 1;
+
+pub const SECOND_ISSUED: u32 = 2;
+// the shells of the largest board, and the words of a state of it
+pub const SHELLS: u32 = 8;
+
+pub const MOST: u32 = 144;
+
 // ---- What follows it
 
 // The words of a state on a board of p dimensions.

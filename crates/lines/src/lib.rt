@@ -4,7 +4,7 @@ ghost use mathlib.Core.Path.{_≡_};
 ghost use lib.Dec.{ltb};
 ghost use Rattle.base.specs.Choice.{both};
 ghost use Rattle.stage.specs.Board.{nodeAt};
-ghost use Rattle.text.specs.Text.{put, ends};
+ghost use Rattle.printing.specs.Put.{put, ends};
 ghost use Rattle.lines.specs.Told.{taken, stops, toldAt, endsOf};
 ghost use Rattle.lines.specs.Printed.{shown, lineText};
 use script::Line;

@@ -36,7 +36,8 @@ use Rattle.node.specs.Agree.{agrees}
 use Rattle.node.specs.Barrier.{firstFrame, secondFrame, frameDue, lengthDue, receiversDue}
 use Rattle.node.specs.declared.Node.{Node}
 use Rattle.node.proofs.Totals.{total-at}
-use Rattle.node.proofs.Clauses.{Has, has-lower, first-agrees, second-agrees}
+use Rattle.node.specs.Sums.{Has}
+use Rattle.node.proofs.Clauses.{has-lower, first-agrees, second-agrees}
 use Rattle.node.proofs.Valid.{Valid, valid-width, stepOf, step-first, step-second, first-fits, second-fits}
 
 -- ---- the own sums are within the field limit

@@ -9,18 +9,11 @@ use Rattle.base.specs.Choice.{choose, both, every}
 use Rattle.base.specs.Limits.{Limits, fieldLimit}
 use Rattle.base.proofs.Laws.{choose-yes, choose-no, cases, both-true, both-make, every-at, every-make}
 use Rattle.node.specs.Sums.{dims, firstAt, secondAt, Field, sentIn, takenIn, allSent, allTaken, number}
-use Rattle.node.specs.Sums.{own, ownIssued}
+use Rattle.node.specs.Sums.{Has, own, ownIssued}
 use Rattle.node.specs.Agree.{isAlone, isWithin, firstClauses, secondClauses, allHold, agrees}
 use Rattle.node.specs.declared.Stored.{Stored}
 use Rattle.node.specs.declared.Confirm.{Confirm}
 use Rattle.node.specs.declared.Node.{Node}
-
--- a frame of dimension k has the number: a shell from k to p − 1, or a total
-abbrev pub Has : ℕ → ℕ → Field → Type 0
-Has p k (sentIn m) = (k ≤ m) × (m < p)
-Has p k (takenIn m) = (k ≤ m) × (m < p)
-Has p k allSent = Unit {0}
-Has p k allTaken = Unit {0}
 
 -- a frame of a dimension has what one of a higher dimension has
 pub has-lower : (p j k : ℕ) (f : Field) → j ≤ k → Has p k f → Has p j f
@@ -49,45 +42,53 @@ if-last : (t u : Bool) → (t ≡ true → u ≡ true) → choose t u true ≡ t
 if-last t u h = cases (λ s. s ≡ true) t u true h (λ e. refl)
 
 module _ (L : Limits) (p k : ℕ) (own : Field → ℕ) (x : Stored) where
-  added : Field → ℕ
+  abbrev added : Field → ℕ
   added f = own f + number x f
 
-  shellsOk : ℕ → Bool
+  abbrev shellsOk : ℕ → Bool
   shellsOk m = both (isWithin L (added (sentIn m))) (isWithin L (added (takenIn m)))
 
+  abbrev shells : Bool
+  shells = every (suc k) (p - suc k) shellsOk
+
+  abbrev totals : Bool
+  totals = both (isWithin L (added allSent)) (isWithin L (added allTaken))
+
+  -- clause 3
+  pub all-within : both shells totals ≡ true → (f : Field) → Has p (suc k) f → added f ≤ fieldLimit L
+  all-within e =
+      let b = both-true shells totals e in
+      within (b .0) (both-true (isWithin L (added allSent)) (isWithin L (added allTaken)) (b .1))
+    where
+      shell : shells ≡ true → (m : ℕ) → suc k ≤ m → m < p
+          → (isWithin L (added (sentIn m)) ≡ true) × (isWithin L (added (takenIn m)) ≡ true)
+      shell e m a b =
+          both-true (isWithin L (added (sentIn m))) (isWithin L (added (takenIn m)))
+          (every-at (suc k) (p - suc k) shellsOk e m a (omega arith))
+
+      within : shells ≡ true → (isWithin L (added allSent) ≡ true) × (isWithin L (added allTaken) ≡ true) → (f : Field)
+          → Has p (suc k) f → added f ≤ fieldLimit L
+      within e t (sentIn m) h = leb-true _ _ (shell e m (h .0) (h .1) .0)
+      within e t (takenIn m) h = leb-true _ _ (shell e m (h .0) (h .1) .1)
+      within e t allSent h = leb-true _ _ (t .0)
+      within e t allTaken h = leb-true _ _ (t .1)
+
   pub first-known : allHold (firstClauses L p k own x) ≡ true → FirstAgrees L p k own x
-  unfolding firstClauses shellsOk added
+  unfolding firstClauses
   first-known e =
       let a = both-true (x .present) _ e in
       let b = both-true (eqb (own (sentIn k)) (number x (takenIn k))) _ (a .1) in
       let c = both-true (eqb (own (takenIn k)) (number x (sentIn k))) _ (b .1) in
-      let shells = every (suc k) (p - suc k) shellsOk in
-      let totals = both (isWithin L (added allSent)) (isWithin L (added allTaken)) in
       let d = both-true (both shells totals) _ (c .1) in
-      let bounds = both-true shells totals (d .0) in
-      let t = both-true (isWithin L (added allSent)) (isWithin L (added allTaken)) (bounds .1) in
       let same = eqb (added allSent) (added allTaken) in
       let f = both-true (choose (eqb (suc k) p) same true) _ (d .1) in
       record {
         stored = a .0;
         sent = eqb-true _ _ (b .0);
         taken = eqb-true _ _ (c .0);
-        within = within (bounds .0) (leb-true _ _ (t .0)) (leb-true _ _ (t .1));
+        within = all-within (d .0);
         last = λ q. eqb-true _ _ (at-last (eqb (suc k) p) same (f .0) (eq-eqb (suc k) p q));
       }
-    where
-      shell : every (suc k) (p - suc k) shellsOk ≡ true → (m : ℕ) → suc k ≤ m → m < p
-          → (isWithin L (added (sentIn m)) ≡ true) × (isWithin L (added (takenIn m)) ≡ true)
-      shell e m a b =
-          both-true (isWithin L (added (sentIn m))) (isWithin L (added (takenIn m)))
-          (every-at (suc k) (p - suc k) shellsOk e m a (omega arith))
-
-      within : every (suc k) (p - suc k) shellsOk ≡ true → added allSent ≤ fieldLimit L → added allTaken ≤ fieldLimit L
-          → (f : Field) → Has p (suc k) f → added f ≤ fieldLimit L
-      within e s t (sentIn m) h = leb-true _ _ (shell e m (h .0) (h .1) .0)
-      within e s t (takenIn m) h = leb-true _ _ (shell e m (h .0) (h .1) .1)
-      within e s t allSent h = s
-      within e s t allTaken h = t
 
   pub first-good : FirstAgrees L p k own x → allHold (firstClauses L p k own x) ≡ true
   unfolding firstClauses

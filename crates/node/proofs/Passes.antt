@@ -31,7 +31,7 @@ use Rattle.node.proofs.Depends.{Alike, tally-same, alike, sent-up, take
 -- ---- T in pass 2
 
 -- rule T5: nobody is alone in the last dimension
-last-awaits : (P k a : ℕ) → suc k ≡ dimension P → a < P → isNone (awaited P k a) ≡ false
+pub last-awaits : (P k a : ℕ) → suc k ≡ dimension P → a < P → isNone (awaited P k a) ≡ false
 last-awaits P k a e h = go (awaited P k a) refl
   where
     go : (o : Option ℕ) → awaited P k a ≡ o → isNone o ≡ false

@@ -1,7 +1,7 @@
 -- The numbers of a node and of the frames that it has stored, and its own sums (rule N14).
 use mathlib.Core.Bool.{false}
 use mathlib.Core.List.{[]}
-use Prim.Native.Nat.{ℕ, zero, suc, _+_}
+use Prim.Native.Nat.{ℕ, zero, suc, _+_, _≤_, _<_}
 use lib.ListN.{getD}
 use Rattle.base.specs.Choice.{choose}
 use Rattle.tree.specs.Tree.{dimension}
@@ -29,6 +29,13 @@ pub data Field : Type 0 where
   takenIn : ℕ → Field
   allSent : Field
   allTaken : Field
+
+-- a frame of dimension k has the number, and so have the own sums for k: a shell from k to p − 1, or a total
+abbrev pub Has : ℕ → ℕ → Field → Type 0
+Has p k (sentIn m) = (k ≤ m) × (m < p)
+Has p k (takenIn m) = (k ≤ m) × (m < p)
+Has p k allSent = Unit {0}
+Has p k allTaken = Unit {0}
 
 -- f 0 + .. + f (n - 1)
 abbrev pub total : (ℕ → ℕ) → ℕ → ℕ

@@ -19,7 +19,7 @@ use Rattle.frame.specs.Numbers.{bytesOf}
 use Rattle.frame.specs.declared.Sent.{Sent}
 use Rattle.frame.specs.declared.Taken.{Taken}
 use Rattle.frame.proofs.Shells.{shell-in}
-use Rattle.node.specs.Sums.{dims, Field, sentIn, takenIn, allSent, allTaken, own}
+use Rattle.node.specs.Sums.{dims, Field, Has, sentIn, takenIn, allSent, allTaken, own}
 use Rattle.node.specs.Agree.{isAlone}
 use Rattle.node.specs.Barrier.{firstFrame, frameDue, lengthDue, receiversDue, isDue}
 use Rattle.node.specs.declared.Node.{Node}
@@ -28,7 +28,6 @@ use Rattle.node.proofs.Valid.{Valid}
 use Rattle.node.proofs.Ways.{NoneDue}
 use Rattle.layout.specs.Places.{sumWords}
 use Rattle.layout.specs.Held.{word, unpacked, sumOf}
-use Rattle.scan.specs.Scan.{Below}
 use Rattle.wire.proofs.Putting.{part-is}
 use Rattle.due.specs.Due.{toWhom, isLone, lookedUp, dueTo, sentPart, takenPart, firstNumbers, dueBytes, hasSums, canSend}
 use Rattle.due.specs.Due.{Due, nobody, short, sent, sending, dueOn}
@@ -60,12 +59,12 @@ module _ (L : Limits) (fit : Fits L) (ws sums : List ℕ) (p total : ℕ) (h : L
   -- ---- pass 1
 
   module _ (first : n .pass ≡ 1) where
-    sum-is : (f : Field) → Below (dims n) f → sumOf p sums f ≡ own n k f
+    sum-is : (f : Field) → Has (dims n) k f → sumOf p sums f ≡ own n k f
     sum-is f b = rw (h .dims) (gathered L fit ws sums p total h low first f b)
 
     sent-is : (m : ℕ) → k ≤ m → m < p → word sums m ≡ sentAt (firstFrame n .sent) m
     sent-is m a b =
-        sum-is (sentIn m) (omega (arith, h .dims))
+        sum-is (sentIn m) (a, omega (arith, h .dims))
         ∙ sym
         (ap (λ (x : Sent). x .0)
         (list-at width (λ j. sentNumber (choose (hasShell (dims n) k j) (own n k (sentIn j)) 0)) m (sentNumber 0)
@@ -74,7 +73,7 @@ module _ (L : Limits) (fit : Fits L) (ws sums : List ℕ) (p total : ℕ) (h : L
 
     taken-is : (m : ℕ) → k ≤ m → m < p → word sums (p + m) ≡ takenAt (firstFrame n .taken) m
     taken-is m a b =
-        sum-is (takenIn m) (omega (arith, h .dims))
+        sum-is (takenIn m) (a, omega (arith, h .dims))
         ∙ sym
         (ap (λ (x : Taken). x .0)
         (list-at width (λ j. takenNumber (choose (hasShell (dims n) k j) (own n k (takenIn j)) 0)) m (takenNumber 0)

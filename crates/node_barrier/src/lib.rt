@@ -7,11 +7,10 @@ ghost use lib.ListN.{length};
 ghost use Rattle.base.specs.Limits.{limitsOf};
 ghost use Rattle.node.specs.Agree.{isAlone};
 ghost use Rattle.node.specs.Answers.{barrierOf};
-ghost use Rattle.survey.specs.Verdict.{isVerdict};
-ghost use Rattle.layout.specs.Places.{sumWords};
+ghost use Rattle.layout.specs.Places.{headWords, atBusy, atDim, sumWords};
 ghost use Rattle.layout.specs.Held.{word, unpacked};
 ghost use Rattle.node_barrier.specs.On.{barrierOn, barrierWords, barrierLent, clauseOn};
-ghost use Rattle.node_barrier.specs.Pieces.{Lent, tried, Looks, Turns, Steps};
+ghost use Rattle.node_barrier.specs.Pieces.{Lent, Voted, Looks, Turns, Steps};
 use base::Bounds;
 use due::Sending;
 use frame::Sent;
@@ -19,57 +18,63 @@ use node::BarrierAnswer;
 use node_turn::Turn;
 use survey::Verdict;
 
-// The verdict on a position's step. An alone step has no clause.
-fn verdict_on(b: Bounds, s: &[u32], sums: &[u32], p: u8, issued: Sent, alone: bool) -> Verdict
-    requires { ⌜ (8 ≤ length (now s))
+// The verdict on a position's step, whose frame is in the sums of pass 1 where it agrees. An alone step has no clause.
+fn verdict_on(b: Bounds, s: &[u32], sums: &mut [u32], p: u8, issued: Sent, alone: bool) -> Verdict
+    requires { ⌜ (headWords ≤ length (now s))
         × (sumWords p ≤ length (now sums))
-        × (word (now s) 5 < p)
+        × (word (now s) atDim < p)
         × Lent (limitsOf b) (now s) (now sums) p (issued .0)
-        × (alone ≡ isAlone (unpacked (now s)) (word (now s) 5)) ⌝ }
-    ensures { λ r. ⌜ isVerdict (tried (limitsOf b) (unpacked (now (s .entry)))) r ≡ true ⌝ }
+        × (alone ≡ isAlone (unpacked (now s)) (word (now s) atDim)) ⌝ }
+    ensures { λ r.
+        ⌜ Voted (limitsOf b) (unpacked (now (s .entry))) p (now (sums .entry)) (now (sums .exit)) r ⌝ }
 {
     if alone {
         return Verdict::Agrees;
     }
-    let k = s[5] as u8;
-    if s[4] == 1 {
-        return verdict::first_verdict(b, s, sums, p, k);
+    let dims = p as u32;
+    let k = s[layout::DIM];
+    let at = layout::first_at(p, k as u8);
+    if s[layout::PASS] == 1 {
+        return pass_one::verdict(b, s, &mut *sums, dims, k, at);
     }
-    verdict::second_verdict(b, s, p, k, issued, s[7])
+    let after = at + (2 * (dims - k) + layout::FIRST);
+    pass_two::verdict(b, s, dims, k, after, issued, s[layout::AGREED])
 }
 
 // The turn of a node that looks. With no dimensions it leaves.
-fn look(b: Bounds, s: &[u32], sums: &[u32], p: u8, issued: Sent, alone: bool) -> Turn
-    requires { ⌜ (8 ≤ length (now s))
+fn look(b: Bounds, s: &[u32], sums: &mut [u32], p: u8, issued: Sent, alone: bool) -> Turn
+    requires { ⌜ (headWords ≤ length (now s))
         × (sumWords p ≤ length (now sums))
         × Lent (limitsOf b) (now s) (now sums) p (issued .0)
-        × (alone ≡ isAlone (unpacked (now s)) (word (now s) 5)) ⌝ }
-    ensures { λ r. ⌜ Looks (limitsOf b) (unpacked (now (s .entry))) r ⌝ }
+        × (alone ≡ isAlone (unpacked (now s)) (word (now s) atDim)) ⌝ }
+    ensures { λ r.
+        ⌜ Looks (limitsOf b) (unpacked (now (s .entry))) r × (length (now (sums .exit)) ≡ length (now (sums .entry))) ⌝ }
 {
     if p == 0 {
         return Turn::Leaves;
     }
-    let v = verdict_on(b, s, sums, p, issued, alone);
+    let v = verdict_on(b, s, &mut *sums, p, issued, alone);
     match v {
-        Verdict::Agrees => node_turn::onward(s, sums, p, s[5] as u8),
+        Verdict::Agrees => node_turn::onward(s, &*sums, p, s[layout::DIM] as u8),
         Verdict::Fails(clause) => Turn::Waits(clause),
     }
 }
 
 // The turn of an idle node.
-fn decide(b: Bounds, s: &[u32], sums: &[u32], p: u8, issued: Sent, buf: &mut [u8]) -> Turn
-    requires { ⌜ (8 ≤ length (now s))
+fn decide(b: Bounds, s: &[u32], sums: &mut [u32], p: u8, issued: Sent, buf: &mut [u8]) -> Turn
+    requires { ⌜ (headWords ≤ length (now s))
         × (sumWords p ≤ length (now sums))
-        × (eqb (word (now s) 3) 1 ≡ false)
+        × (eqb (word (now s) atBusy) 1 ≡ false)
         × Lent (limitsOf b) (now s) (now sums) p (issued .0) ⌝ }
     ensures { λ r.
-        ⌜ Turns (limitsOf b) (unpacked (now (s .entry))) (now (buf .entry)) (now (buf .exit)) r ⌝ }
+        ⌜ Turns (limitsOf b) (unpacked (now (s .entry))) (now (buf .entry)) (now (buf .exit)) r
+        × (length (now (sums .exit)) ≡ length (now (sums .entry))) ⌝ }
 {
-    let sending = due::send(b, s, sums, p, issued, &mut *buf);
+    let sending = due::send(b, s, &*sums, p, issued, &mut *buf);
     match sending {
         Sending::To(to, length) => Turn::Sends(to, length),
         Sending::Short => Turn::Refuses(14),
-        Sending::Nobody(lone) => look(b, s, sums, p, issued, lone),
+        Sending::Nobody(lone) => look(b, s, &mut *sums, p, issued, lone),
     }
 }
 
@@ -77,21 +82,22 @@ fn decide(b: Bounds, s: &[u32], sums: &[u32], p: u8, issued: Sent, buf: &mut [u8
 fn step_on(
     b: Bounds,
     state: &mut [u32],
-    sums: &[u32],
+    sums: &mut [u32],
     p: u8,
     issued: Sent,
     buf: &mut [u8],
 ) -> BarrierAnswer
-    requires { ⌜ (8 ≤ length (now state))
+    requires { ⌜ (headWords ≤ length (now state))
         × (sumWords p ≤ length (now sums))
         × Lent (limitsOf b) (now state) (now sums) p (issued .0) ⌝ }
     ensures { λ r.
-        ⌜ Steps (limitsOf b) (now (state .entry)) (now (buf .entry)) (now (state .exit)) (now (buf .exit)) r ⌝ }
+        ⌜ Steps (limitsOf b) (now (state .entry)) (now (buf .entry)) (now (state .exit)) (now (buf .exit)) r
+        × (length (now (sums .exit)) ≡ length (now (sums .entry))) ⌝ }
 {
     if state[layout::BUSY] == 1 {
         return BarrierAnswer::Refused(12);
     }
-    let t = decide(b, &*state, sums, p, issued, &mut *buf);
+    let t = decide(b, &*state, &mut *sums, p, issued, &mut *buf);
     node_turn::act(&mut *state, p, t)
 }
 
@@ -114,7 +120,7 @@ pub fn step(b: Bounds, state: &mut [u32], sums: &mut [u32], buf: &mut [u8]) -> B
     step_on(
         b,
         &mut *state,
-        &*sums,
+        &mut *sums,
         known.dims as u8,
         known.issued,
         &mut *buf,

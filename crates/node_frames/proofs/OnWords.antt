@@ -22,7 +22,8 @@ use Rattle.node.specs.Calls.{gotten, isAwaited, byTiming, frameIn}
 use Rattle.node.specs.declared.Answer.the-variants.{Refused as Refuses}
 use Rattle.node.proofs.Valid.{Valid, valid-known}
 use Rattle.layout.specs.Places.{atNodes, atNumber, atPhase, atDim}
-use Rattle.layout.specs.Held.{word, dimsOf, unpacked, Passed}
+use Rattle.layout.specs.Held.{word, dimsOf, unpacked}
+use Rattle.layout.specs.Pieces.{Passed}
 use Rattle.layout.proofs.Offsets.{first-above, first-inside}
 use Rattle.layout.proofs.Whole.{Whole, whole, few as eight}
 use Rattle.layout.proofs.Becomes.{Becomes}

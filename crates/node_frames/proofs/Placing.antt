@@ -15,8 +15,8 @@ use Rattle.frame.specs.Parts.{pasted}
 use Rattle.frame.proofs.Pasting.{paste-more}
 use Rattle.layout.specs.Places.{atPass, atDim, atFlag, atAgreed}
 use Rattle.layout.specs.Held.{word}
-use Rattle.wire.specs.Wire.{numbersFrom}
-use Rattle.wire.proofs.Copies.{part-copied}
+use Rattle.wire_read.specs.Read.{numbersFrom}
+use Rattle.wire_read.proofs.Copies.{part-copied}
 use Rattle.node_frames.specs.Pieces.{backWords}
 
 -- a part that is put back is pasted

@@ -18,7 +18,7 @@ use Rattle.frame.proofs.Shells.{shell-there, shell-gone}
 use Rattle.frame.proofs.Writing.{first-length, second-length}
 use Rattle.frame.proofs.RoundTripChecks.{step-known, step-good, shell-known}
 use Rattle.frame.proofs.RoundTripAccepted.{Read, head-pass, head-dim}
-use Rattle.wire.proofs.Within.{fields-first, fields-second}
+use Rattle.wire_read.proofs.Within.{fields-first, fields-second}
 use Rattle.node.specs.Change.{at}
 use Rattle.node.specs.Calls.{stepNumber, firstOf, stored, gotten}
 use Rattle.node.specs.declared.Node.{Node}

@@ -9,9 +9,11 @@ ghost use Rattle.tree.specs.Lookups.{badBoard};
 ghost use Rattle.frame.specs.Parts.{pasted};
 ghost use Rattle.node.specs.Answers.{outcomeOf};
 ghost use Rattle.node.specs.Calls.{frameIn, stepNumber, isAwaited};
-ghost use Rattle.layout.specs.Held.{dimsOf, answerOn, wordsOn, Passed, Answers};
+ghost use Rattle.layout.specs.Held.{dimsOf, answerOn, wordsOn};
+ghost use Rattle.layout.specs.Pieces.{Passed, Answers};
 ghost use Rattle.node_frames.specs.Pieces.{framePlace, frameWords, backWords, storedWords, Storable};
 ghost use Rattle.node_frames.specs.Pieces.{Judged};
+ghost use Rattle.layout.specs.Places.{headWords};
 use base::Bounds;
 use frame::Outcome;
 use frame::Timing;
@@ -47,7 +49,11 @@ fn place_of(p: u32, pass: u32, k: u32) -> u32
     ensures { λ r. ⌜ r ≡ framePlace p pass k ⌝ }
 {
     let at = layout::first_at(p as u8, k as u8);
-    if pass == 1 { at } else { at + 2 * (p - k) + 3 }
+    if pass == 1 {
+        at
+    } else {
+        at + 2 * (p - k) + layout::FIRST
+    }
 }
 
 // Puts the words of a frame: the mark, and its numbers.
@@ -59,12 +65,12 @@ fn put_frame(state: &mut [u32], at: u32, bytes: &[u8])
     let from = mark + 1;
     let end = from + (bytes.len() - 4) / 4;
     state[mark] = 1;
-    wire::copy_numbers(bytes, &mut state[from..end]);
+    wire_read::copy_numbers(bytes, &mut state[from..end]);
 }
 
 // The position becomes a step with flag 0, and T becomes 0 in pass 1.
 fn go_back(state: &mut [u32], pass: u32, k: u32)
-    requires { ⌜ 8 ≤ length (now state) ⌝ }
+    requires { ⌜ headWords ≤ length (now state) ⌝ }
     ensures { λ r. ⌜ now (state .exit) ≡ backWords (now (state .entry)) pass k ⌝ }
 {
     state[layout::PASS] = pass;
@@ -98,7 +104,7 @@ fn judge(b: Bounds, s: &[u32], bytes: &[u8]) -> Answer
 {
     let nodes = s[layout::NODES];
     let number = s[layout::NUMBER];
-    let answer = wire::checked(b, nodes, bytes);
+    let answer = wire_read::checked(b, nodes, bytes);
     if let Outcome::Refused(no) = answer {
         return Answer::Refused(no);
     }

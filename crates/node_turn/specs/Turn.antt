@@ -1,7 +1,7 @@
 -- The turn of a node: on, or out; the state, the answer and the words after a turn.
 use mathlib.Core.Bool.{true, false}
 use mathlib.Core.List.{List, [], _∷_, _++_}
-use Prim.Native.Nat.{ℕ, suc, _+_, _-_, _%_, _^_}
+use Prim.Native.Nat.{ℕ, suc, _+_, _-_, _%_}
 use lib.Dec.{ltb, leb, eqb}
 use lib.ListN.{length, drop, set}
 use Rattle.base.specs.Choice.{choose, list}
@@ -9,8 +9,7 @@ use Rattle.node.specs.Change.{at, freshIn}
 use Rattle.node.specs.declared.Node.{Node}
 use Rattle.node.specs.declared.BarrierAnswer.{BarrierAnswer}
 use Rattle.node.specs.declared.BarrierAnswer.the-variants.{Sends, Waits, Moved, Left, Refused}
-use Rattle.layout.specs.Places.{atNodes, atNumber, atPhase, atPass, atDim, atFlag, atAgreed, stateWords, atFirst}
-use Rattle.layout.specs.Places.{receivedPlace, sumReceived}
+use Rattle.layout.specs.Places.{atNodes, atNumber, atPhase, atPass, atDim, atFlag, atAgreed, stateWords}
 use Rattle.layout.specs.Held.{word}
 use Rattle.node_turn.specs.declared.Turn.{Turn}
 use Rattle.node_turn.specs.declared.Turn.the-variants.{
@@ -23,11 +22,7 @@ use Rattle.node_turn.specs.declared.Turn.the-variants.{
 
 -- ---- On
 
--- T: the own total taken, with that of the frame of dimension k
-abbrev pub totalWith : List ℕ → List ℕ → ℕ → ℕ → ℕ
-totalWith ws sums p k = (word sums (sumReceived p) + word ws (receivedPlace p (atFirst p k) k)) % 2 ^ 32
-
--- of the step in dimension k of p, in a pass
+-- of the step in dimension k of p, in a pass, with T as it is agreed and as the sums have it
 unfoldable pub onwardTurn : ℕ → ℕ → ℕ → ℕ → ℕ → Turn
 onwardTurn p pass k agreed total =
     choose (leb p k) Leaves

@@ -4,8 +4,9 @@ ghost use Prim.Native.Nat.{_+_, _%_, _≤_, _<_};
 ghost use lib.Dec.{ltb};
 ghost use lib.ListN.{length};
 ghost use Rattle.base.specs.Choice.{choose};
+ghost use Rattle.layout.specs.Places.{headWords, atPass, atAgreed, sumReceived};
 ghost use Rattle.layout.specs.Held.{word};
-ghost use Rattle.node_turn.specs.Turn.{totalWith, onwardTurn, answerOf, positioned, freshened, wordsAfter};
+ghost use Rattle.node_turn.specs.Turn.{onwardTurn, answerOf, positioned, freshened, wordsAfter};
 use frame::Taken;
 use node::BarrierAnswer;
 use node::Receivers;
@@ -33,23 +34,13 @@ fn word_at(s: &[u32], at: usize) -> u32
     s[at]
 }
 
-// T: the own total taken, with that of the frame of dimension k added.
-fn total_with(s: &[u32], sums: &[u32], p: u8, k: u8) -> u32
-    requires { ⌜ k < p ⌝ }
-    ensures { λ r. ⌜ r ≡ totalWith (now (s .entry)) (now (sums .entry)) p k ⌝ }
-{
-    let at = layout::first_at(p, k) + 2 + 2 * (p - k) as u32;
-    let own = Taken(word_at(sums, 2 * p as usize + 1));
-    let received = Taken(word_at(s, at as usize));
-    std::num::wrapping_add_u32(own.0, received.0)
-}
-
-// The turn of a node whose step in dimension k of p agrees: on, or out after the last step.
+// The turn of a node whose step in dimension k of p agrees: on, or out after the last step. The frame of that step is in the
+// sums.
 pub fn onward(s: &[u32], sums: &[u32], p: u8, k: u8) -> Turn
     ensures { λ r.
         ⌜ r
-        ≡ onwardTurn p (word (now (s .entry)) 4) k (word (now (s .entry)) 7)
-        (totalWith (now (s .entry)) (now (sums .entry)) p k) ⌝ }
+        ≡ onwardTurn p (word (now (s .entry)) atPass) k (word (now (s .entry)) atAgreed)
+        (word (now (sums .entry)) (sumReceived p)) ⌝ }
 {
     if p <= k {
         return Turn::Leaves;
@@ -59,7 +50,8 @@ pub fn onward(s: &[u32], sums: &[u32], p: u8, k: u8) -> Turn
         return Turn::Moves(pass, k as u32 + 1, word_at(s, layout::AGREED));
     }
     if pass == 1 {
-        return Turn::Moves(2, 0, total_with(s, sums, p, k));
+        let received = Taken(word_at(sums, 2 * p as usize + 1));
+        return Turn::Moves(2, 0, received.0);
     }
     Turn::Leaves
 }
@@ -67,7 +59,7 @@ pub fn onward(s: &[u32], sums: &[u32], p: u8, k: u8) -> Turn
 // ---- The words after a turn
 
 fn move_to(state: &mut [u32], pass: u32, dim: u32, agreed: u32)
-    requires { ⌜ 8 ≤ length (now state) ⌝ }
+    requires { ⌜ headWords ≤ length (now state) ⌝ }
     ensures { λ r. ⌜ now (state .exit) ≡ positioned (now (state .entry)) pass dim agreed ⌝ }
 {
     state[layout::PASS] = pass;
@@ -85,7 +77,7 @@ fn next_phase(phase: u32) -> u8
 
 // Leaves the phase: a fresh state in the next one.
 fn leave(state: &mut [u32], p: u8)
-    requires { ⌜ 8 ≤ length (now state) ⌝ }
+    requires { ⌜ headWords ≤ length (now state) ⌝ }
     ensures { λ r. ⌜ now (state .exit) ≡ freshened (now (state .entry)) p ⌝ }
 {
     let nodes = state[layout::NODES];
@@ -96,7 +88,7 @@ fn leave(state: &mut [u32], p: u8)
 
 // The words after a turn, and the answer.
 fn write(state: &mut [u32], p: u8, t: Turn) -> BarrierAnswer
-    requires { ⌜ 8 ≤ length (now state) ⌝ }
+    requires { ⌜ headWords ≤ length (now state) ⌝ }
     ensures answer { λ r. ⌜ r ≡ answerOf t ⌝ }
     ensures memory { λ r. ⌜ now (state .exit) ≡ wordsAfter (now (state .entry)) p t ⌝ }
 {
@@ -129,7 +121,7 @@ pub fn act(state: &mut [u32], p: u8, t: Turn) -> BarrierAnswer
         ⌜ now (state .exit)
         ≡ choose (ltb (length (now (state .entry))) 8) (now (state .entry)) (wordsAfter (now (state .entry)) p t) ⌝ }
 {
-    if state.len() < 8 {
+    if state.len() < layout::HEAD as usize {
         return BarrierAnswer::Refused(13);
     }
     write(&mut *state, p, t)

@@ -9,7 +9,7 @@ use lib.ListN.{set, replicate}
 use borrow.Author.Tests.{lt-ltb, le-ltb}
 use Rattle.base.specs.Choice.{choose, list}
 use Rattle.base.proofs.Laws.{choose-yes, list-set}
-use Rattle.states.specs.On.{noState, freshState}
+use Rattle.states.specs.Words.{noState, freshState}
 use Rattle.states.specs.declared.State.{State}
 use Rattle.stage.specs.Board.{opening}
 

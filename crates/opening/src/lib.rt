@@ -4,7 +4,7 @@ ghost use mathlib.Core.Path.{_≡_};
 ghost use lib.Dec.{ltb, eqb};
 ghost use Rattle.base.specs.Choice.{either};
 ghost use Rattle.stage.specs.Board.{opening};
-ghost use Rattle.text.specs.Text.{put, ends};
+ghost use Rattle.printing.specs.Put.{put, ends};
 ghost use Rattle.opening.specs.Opens.{shut, opened, openingText};
 use script::Line;
 use stage::Stage;

@@ -16,12 +16,14 @@ use Rattle.node.specs.Barrier.{frameDue, barrier}
 use Rattle.layout.specs.Places.{atFirst}
 use Rattle.layout.specs.Held.{firstIn, secondIn, unpacked, isWhole, firstList, secondList, joinedList, packed}
 use Rattle.node_calls.specs.Fresh.{freshOn, freshWords}
-use Rattle.states.specs.On.{freshState, onState, stepOn}
+use Rattle.states.specs.Words.{freshState}
+use Rattle.state_calls.specs.On.{onState, stepOn}
 use Rattle.script.specs.Script.{before, partsWithin, lineOf, lineAt}
 use Rattle.items.specs.Places.{noItem, placeFrom, moved}
-use Rattle.stage.specs.Frames.{closed, framed}
+use Rattle.under_way.specs.Frames.{closed, framed}
 use Rattle.turns.specs.Events.{sendTurn, idleTurn, callTurn, deliverTurn}
-use Rattle.text.specs.Text.{digits, rowText, stopText}
+use Rattle.printing.specs.Put.{digits}
+use Rattle.text.specs.Text.{rowText, stopText}
 use Rattle.rehearsal.specs.Play.{playFrom, play}
 
 abbrev script : List ℕ

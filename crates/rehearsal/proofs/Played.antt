@@ -18,7 +18,7 @@ use Rattle.script.specs.declared.Parsed.{Parsed}
 use Rattle.items.specs.Places.{noItem, oldestAt, oldestWithin, removedWithin, moved}
 use Rattle.items.specs.declared.Item.{Item}
 use Rattle.items.proofs.Lists.{set-past, oldest-within, removed-within}
-use Rattle.stage.specs.Frames.{roomFor}
+use Rattle.under_way.specs.Frames.{roomFor}
 use Rattle.stage.specs.Board.{nodeAt, opening}
 use Rattle.turns.specs.Events.{Turn, sendTurn, idleTurn, callTurn, deliverTurn}
 use Rattle.turns.specs.Acts.{acted, actedBytes, actedItems}
@@ -27,13 +27,13 @@ use Rattle.turns.proofs.Keeping.{line-keeps}
 use Rattle.stage.specs.declared.Stage.{Stage}
 use Rattle.stage.specs.declared.Acted.{Acted}
 use Rattle.text.specs.Text.{header, turnText, stopText}
-use Rattle.text.proofs.Putting.{Written, then, said}
+use Rattle.printing.proofs.Putting.{Written, then, said}
 use Rattle.rehearsal.specs.Play.{Played, Act, event, stop, ended, printedBefore, actOf, stopped, playFrom}
 use Rattle.rehearsal.specs.Play.{playOpened, play}
 use Rattle.opening.specs.Opens.{shut, openedBy, opened, openingText}
 use Rattle.lines.specs.Told.{taken, stops, toldAt}
 use Rattle.lines.specs.Printed.{lineText}
-use Rattle.rehearsal.specs.Lines.{oldest, stepped, steppedBytes, steppedItems}
+use Rattle.line_step.specs.Steps.{oldest, stepped, steppedBytes, steppedItems}
 use Rattle.opening.specs.declared.Opened.{Opened}
 use Rattle.opening.proofs.Sizes.{size-good, size-some}
 use Rattle.opening.proofs.Texts.{opening-stop}

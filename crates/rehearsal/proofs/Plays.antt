@@ -29,7 +29,7 @@ use Rattle.walks.proofs.Calls.{at-list, asks-nothing, runs-so, both-facts, more
 use Rattle.walks.proofs.Arrays.{ChangesWith, LeftWith}
 use Rattle.items.specs.declared.Item.{Item}
 use Rattle.items.proofs.Item as ItemT
-use Rattle.text.specs.Text.{put, ends}
+use Rattle.printing.specs.Put.{put, ends}
 use Rattle.rehearsal.specs.Play.{play}
 use Rattle.rehearsal.proofs.play_script as play-script
 

@@ -1,2 +1,1 @@
 pub mod Play
-pub mod Lines

@@ -1,29 +1,9 @@
 // A board of up to 16 nodes, played from a script. The headers and the bytes of the items under way, and what is
 // printed, are lent by the caller.
 ghost use mathlib.Core.Path.{_≡_};
-ghost use Rattle.text.specs.Text.{put, ends};
-ghost use Rattle.rehearsal.specs.Lines.{stepped, steppedItems, steppedBytes, noItems};
-ghost use Rattle.rehearsal.specs.Play.{play};
+ghost use Rattle.printing.specs.Put.{put, ends};
+ghost use Rattle.rehearsal.specs.Play.{play, noItems};
 use items::Item;
-use script::Line;
-use stage::Acted;
-use stage::Stage;
-
-// Acts on a line, and changes the headers as that says.
-fn step(items: &mut [Item], bytes: &mut [u8], st: Stage, line: Line) -> Acted
-    ensures answer { λ r. ⌜ r ≡ stepped st (now (items .entry)) (now (bytes .entry)) line ⌝ }
-    ensures headers { λ r. ⌜ now (items .exit) ≡ steppedItems (st .under) r (now (items .entry)) ⌝ }
-    ensures frames { λ r. ⌜ now (bytes .exit) ≡ steppedBytes st (now (items .entry)) (now (bytes .entry)) line ⌝ }
-{
-    let link = lines::link_of(line);
-    let at = items::oldest_at(items, st.under, link.from, link.to);
-    let it = items::item_at(items, at);
-    let r = turns::act(st, line, at, it, items.len(), bytes);
-    items::remove_item(items, st.under, r.gone);
-    items::append_item(items, r.at, r.first);
-    items::append_item(items, r.next, r.second);
-    r
-}
 
 // Plays a script from its first line to its end or to the line that stops it, and answers how much is printed.
 pub fn play_script(items: &mut [Item], bytes: &mut [u8], out: &mut [u8], script: &[u8]) -> usize
@@ -48,7 +28,7 @@ pub fn play_script(items: &mut [Item], bytes: &mut [u8], out: &mut [u8], script:
     let mut count: u32 = 2;
     while at < script.len() {
         let told = lines::next_line(script, at, st.size);
-        let r = step(items, bytes, st, told.line);
+        let r = line_step::step(items, bytes, st, told.line);
         printed = lines::put_line(out, printed, told.line, r, count);
         st = r.stage;
         at = told.next;

@@ -30,9 +30,9 @@ use Rattle.runs.specs.Facts.{Facts}
 use Rattle.runs.specs.Printed.{line, printed}
 use Rattle.runs.proofs.Tools.{put-same}
 use Rattle.items.specs.declared.Item.{Item as Header}
-use Rattle.states.specs.On.{Kept, onState, stepOn}
+use Rattle.state_calls.specs.On.{Kept, onState, stepOn}
 use Rattle.states.specs.declared.State.{State}
-use Rattle.stage.specs.Frames.{placeSize, roomFor, framed}
+use Rattle.under_way.specs.Frames.{placeSize, roomFor, framed}
 use Rattle.stage.specs.Board.{stateAt, nodeAt, changed, workItem, frameItem}
 use Rattle.stage.specs.declared.Stage.{Stage}
 use Rattle.turns.specs.Events.{Turn, sentBy, framedTo, calledBy, sendTurn, idleTurn, callTurn}

@@ -23,8 +23,8 @@ use Rattle.runs.specs.Facts.{Facts}
 use Rattle.runs.specs.Printed.{line, loadAnswer, deliveryAnswer, printed}
 use Rattle.items.specs.Places.{noItem, placeFrom, oldestAt, removed}
 use Rattle.items.specs.declared.Item.{Item as Header}
-use Rattle.states.specs.On.{Kept, onState}
-use Rattle.stage.specs.Frames.{closed, frameHeld}
+use Rattle.state_calls.specs.On.{Kept, onState}
+use Rattle.under_way.specs.Frames.{closed, frameHeld}
 use Rattle.stage.specs.Board.{stateAt}
 use Rattle.stage.specs.declared.Stage.{Stage}
 use Rattle.turns.specs.Events.{Turn, unchanged, called, deliveredAt, deliverTurn}

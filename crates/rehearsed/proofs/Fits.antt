@@ -19,11 +19,12 @@ use Rattle.script.proofs.Answers.{line-one, at-newline, at-end}
 use Rattle.items.specs.declared.Item.{Item}
 use Rattle.stage.specs.Board.{opening}
 use Rattle.stage.specs.declared.Stage.{Stage}
-use Rattle.text.specs.Text.{digits, header, rowText, stopText, put, ends}
+use Rattle.printing.specs.Put.{digits, put, ends}
+use Rattle.text.specs.Text.{header, rowText, stopText}
 use Rattle.turns.specs.Events.{Turn}
 use Rattle.rehearsal.specs.Play.{Played, Act, event, stop, actOf, play}
 use Rattle.rehearsed.specs.Run.{Told, toldFrom, told, textOf, Closing, Rehearsal}
-use Rattle.rehearsed.specs.Fits.{textRoom, EveryTextFits}
+use Rattle.rehearsed.specs.Fits.{HasRoom, EveryTextFits}
 use Rattle.rehearsed.proofs.Whole.{toldBy, every-rehearsal}
 
 -- ---- a line printed
@@ -131,10 +132,10 @@ module _ (script : List ℕ) (items : List Item) (bytes : List ℕ) where
   unfolding play
   too-long h = ap (λ (p : Played). header ++ p .text) (choose-yes _ _ (lt-ltb 4096 (length script) h))
 
-  stop-fits : (why line : ℕ) → text ≡ header ++ stopText why line → length text ≤ textRoom
+  stop-fits : (why line : ℕ) → text ≡ header ++ stopText why line → HasRoom text
   stop-fits why line e = omega (arith, ap length e, stop-few why line)
 
-  rehearsal-fits : length script ≤ 4096 → Rehearsal script items bytes → length text ≤ textRoom
+  rehearsal-fits : length script ≤ 4096 → Rehearsal script items bytes → HasRoom text
   rehearsal-fits h (Rehearsal.shut why line l e) = stop-fits why line e
   rehearsal-fits h (Rehearsal.opens P one few l closing c e r) =
       let ts = told script P items bytes in
@@ -147,10 +148,10 @@ module _ (script : List ℕ) (items : List Item) (bytes : List ℕ) where
         told-few script (length script) (lineAt script 0 .next) (opening P) items bytes,
       )
 
-  fits : length text ≤ textRoom
+  fits : HasRoom text
   fits = go (decLt 4096 (length script))
     where
-      go : Dec (4096 < length script) → length text ≤ textRoom
+      go : Dec (4096 < length script) → HasRoom text
       go (yes h) = stop-fits 17 0 (too-long h)
       go (no h) = rehearsal-fits (omega arith) (every-rehearsal script items bytes)
 

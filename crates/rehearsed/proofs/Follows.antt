@@ -12,7 +12,7 @@ use Rattle.runs.specs.Board.{put, Board, gave}
 use Rattle.runs.specs.Printed.{line}
 use Rattle.items.specs.declared.Item.{Item as Header}
 use Rattle.states.specs.declared.State.{State}
-use Rattle.stage.specs.Frames.{placeSize, roomFor}
+use Rattle.under_way.specs.Frames.{placeSize, roomFor}
 use Rattle.stage.specs.Board.{stateAt, nodeAt, changed}
 use Rattle.stage.specs.declared.Stage.{Stage}
 use Rattle.turns.specs.Events.{Turn, unchanged}

@@ -14,8 +14,8 @@ use Rattle.tree.specs.Tree.{dimension}
 use Rattle.frame.specs.Frame.{frameLength}
 use Rattle.items.specs.Places.{noItem, moved, removed}
 use Rattle.items.specs.declared.Item.{Item}
-use Rattle.stage.specs.Frames.{placeSize, closed, framed, frameHeld}
-use Rattle.stage.proofs.Parts.{length-moving, all-moved}
+use Rattle.under_way.specs.Frames.{placeSize, closed, framed, frameHeld}
+use Rattle.under_way.proofs.Parts.{length-moving, all-moved}
 
 -- ---- the headers: those before the gap stay, those after it come one place down
 

@@ -14,9 +14,9 @@ use Rattle.runs.specs.Board.{put, Load, work, frame, Item, Board, without}
 use Rattle.runs.proofs.Tools.{put-all}
 use Rattle.items.specs.Places.{noItem, removed}
 use Rattle.items.specs.declared.Item.{Item as Header}
-use Rattle.states.specs.On.{noState}
+use Rattle.states.specs.Words.{noState}
 use Rattle.states.specs.declared.State.{State}
-use Rattle.stage.specs.Frames.{placeSize, roomFor, closed, frameHeld}
+use Rattle.under_way.specs.Frames.{placeSize, roomFor, closed, frameHeld}
 use Rattle.stage.specs.Board.{stateAt, changed}
 use Rattle.stage.specs.declared.Stage.{Stage}
 use Rattle.rehearsed.proofs.States.{Bears}

@@ -18,7 +18,8 @@ use Rattle.layout.specs.Held.{unpacked, isWhole, holding}
 use Rattle.kept.proofs.Holds.{Holds}
 use Rattle.kept.proofs.Calls.{send-holds, take-holds, idle-holds, frame-holds, step-holds}
 use Rattle.kept.proofs.Fresh.{fresh-holds}
-use Rattle.states.specs.On.{freshState, Kept, keep, held, onState, stepOn}
+use Rattle.states.specs.Words.{freshState}
+use Rattle.state_calls.specs.On.{Kept, keep, held, onState, stepOn}
 use Rattle.states.specs.declared.State.{State}
 
 -- the words of s hold the node n

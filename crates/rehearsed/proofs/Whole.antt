@@ -23,8 +23,8 @@ use Rattle.script.specs.declared.Line.{Line}
 use Rattle.script.specs.declared.Line.the-variants.{Nodes, Sends, Delivers, Idles, Calls, Bad}
 use Rattle.script.specs.declared.Parsed.{Parsed}
 use Rattle.items.specs.declared.Item.{Item}
-use Rattle.states.specs.On.{noState, freshState}
-use Rattle.stage.specs.Frames.{placeSize}
+use Rattle.states.specs.Words.{noState, freshState}
+use Rattle.under_way.specs.Frames.{placeSize}
 use Rattle.stage.specs.Board.{nodeAt, opening}
 use Rattle.stage.specs.declared.Stage.{Stage}
 use Rattle.turns.specs.Events.{Turn}

@@ -15,7 +15,7 @@ use Rattle.script.specs.Script.{lineAt}
 use Rattle.script.specs.declared.Line.{Line}
 use Rattle.script.specs.declared.Line.the-variants.{Nodes, Sends, Delivers, Idles, Calls, Bad}
 use Rattle.items.specs.declared.Item.{Item}
-use Rattle.stage.specs.Frames.{placeSize}
+use Rattle.under_way.specs.Frames.{placeSize}
 use Rattle.stage.specs.Board.{nodeAt, opening}
 use Rattle.turns.specs.Events.{Turn}
 use Rattle.stage.specs.declared.Stage.{Stage}

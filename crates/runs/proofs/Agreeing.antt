@@ -17,7 +17,8 @@ use Rattle.cycle.proofs.AtRest.{dim-first, dim-second}
 use Rattle.cycle.proofs.Ledger.{Ledger, Reached}
 use Rattle.cycle.proofs.Events.{stateOf}
 use Rattle.runs.proofs.Setting.{Setting, tree, awaited-is}
-use Rattle.node.proofs.Clauses.{Has, first-step, second-step}
+use Rattle.node.specs.Sums.{Has}
+use Rattle.node.proofs.Clauses.{first-step, second-step}
 use Rattle.runs.proofs.View.{fieldOf, firstEntries, secondEntries, view, Alike, Like, slots-first, slots-second}
 use Rattle.runs.proofs.View.{own-is, issued-is, agree-like}
 use Rattle.runs.proofs.Sim.{Holds}

@@ -28,7 +28,7 @@ use Rattle.cycle.proofs.OnePhase.{State, atStep, withStored, withTallies, bumpS
 use Rattle.cycle.proofs.OnePhase.{bumpTaken}
 use Rattle.cycle.proofs.Opening.{fresh}
 use Rattle.node.proofs.Totals.{total-more, total-zero}
-use Rattle.node.proofs.Clauses.{Has}
+use Rattle.node.specs.Sums.{Has}
 use Rattle.runs.proofs.View.{pastEnd, fieldOf, firstEntries, secondEntries, firstSlot, secondSlot, slots, view}
 use Rattle.runs.proofs.View.{Alike, slots-first, slots-second, Like}
 

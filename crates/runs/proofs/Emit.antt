@@ -22,7 +22,7 @@ use Rattle.cycle.proofs.OnePhase.{State, confirming, frameOf, dimOf}
 use Rattle.cycle.proofs.AtRest.{frame-first, frame-second, dim-first, dim-second}
 use Rattle.frame.proofs.RoundTripAccepted.{Read}
 use Rattle.runs.proofs.Setting.{Setting, dim-low}
-use Rattle.node.proofs.Clauses.{Has}
+use Rattle.node.specs.Sums.{Has}
 use Rattle.runs.proofs.View.{fieldOf, firstEntries, secondEntries, view, own-is, issued-is, own-like, own2-like}
 use Rattle.runs.proofs.Sim.{Holds, Says}
 use Rattle.node.proofs.Valid.{step-first, step-second, valid-known}

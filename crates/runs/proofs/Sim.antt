@@ -23,7 +23,7 @@ use Rattle.cycle.proofs.Window.{Window}
 use Rattle.cycle.proofs.Events.{stateOf, ledgerWith}
 use Rattle.runs.proofs.Tools.{put-same, put-other, put-all}
 use Rattle.runs.proofs.Setting.{Setting, tree}
-use Rattle.node.proofs.Clauses.{Has}
+use Rattle.node.specs.Sums.{Has}
 use Rattle.node.proofs.Sizes.{Sized}
 use Rattle.runs.proofs.View.{fieldOf, firstEntries, secondEntries, view, Like}
 use Rattle.runs.proofs.Pairs.{Pair}

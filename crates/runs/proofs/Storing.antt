@@ -33,7 +33,7 @@ use Rattle.cycle.proofs.Events.{stateOf, withState, pageWith, act-drop}
 use Rattle.cycle.proofs.Events.{act-store, act-fall}
 use Rattle.runs.proofs.PhaseByte.{apart, apart-same, apart-late}
 use Rattle.runs.proofs.Setting.{Setting, tree, dim-low}
-use Rattle.node.proofs.Clauses.{Has}
+use Rattle.node.specs.Sums.{Has}
 use Rattle.node.proofs.Ways.{FrameWay, frameOf as fieldsIn}
 use Rattle.runs.proofs.View.{fieldOf, view, Like}
 use Rattle.runs.proofs.Changes.{like-at, like-first, like-second}

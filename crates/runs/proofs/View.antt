@@ -21,7 +21,8 @@ use Rattle.node.specs.declared.Node.{Node}
 use Rattle.cycle.proofs.Sums.{pick}
 use Rattle.cycle.proofs.Exact.{Entry, sentTo, takenFrom, sentAll, takenAll, Entries, entryOf, ownSums}
 use Rattle.cycle.proofs.OnePhase.{State, confirming, Agrees, Above}
-use Rattle.node.proofs.Clauses.{Has, has-lower, first-agrees, second-agrees}
+use Rattle.node.specs.Sums.{Has}
+use Rattle.node.proofs.Clauses.{has-lower, first-agrees, second-agrees}
 
 -- what an array of stored frames gives past its end
 abbrev pub pastEnd : Stored

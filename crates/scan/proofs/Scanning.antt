@@ -13,12 +13,12 @@ use Rattle.base.specs.Choice.{choose, both}
 use Rattle.base.specs.Limits.{Limits, fieldLimit, takenLimit, Fits}
 use Rattle.base.proofs.Laws.{choose-yes, choose-no, both-true, both-make, every-at, every-make}
 use Rattle.frame.specs.Frame.{sentNumber, takenNumber, sentAt, takenAt}
-use Rattle.node.specs.Sums.{dims, Field, sentIn, takenIn, allSent, allTaken, tally, total, own, ownIssued}
+use Rattle.node.specs.Sums.{dims, Field, Has, sentIn, takenIn, allSent, allTaken, tally, total, own, ownIssued}
 use Rattle.node.specs.State.{talliesOk, valid}
 use Rattle.node.specs.declared.Node.{Node}
 use Rattle.node.proofs.Valid.{valid-known}
 use Rattle.survey.specs.declared.Spot.{Spot}
-use Rattle.survey.specs.Walk.{totalTest}
+use Rattle.survey.specs.Pieces.{totalTest}
 use Rattle.survey.proofs.Valid.{fails, not-both}
 use Rattle.survey.proofs.Valid as survey
 use Rattle.survey.proofs.Sums.{sends-low, takes-low}
@@ -31,12 +31,13 @@ use Rattle.layout.proofs.Whole.{whole, whole-made, few}
 use Rattle.layout.proofs.Reading.{sent-word, taken-word, first-word, second-word, first-past, second-past}
 use Rattle.head.specs.Head.{spotIn}
 use Rattle.head.proofs.Heads.{dims-is, Passing}
-use Rattle.gather.specs.Gather.{Below, sentTotal, takenTotal, Started}
+use Rattle.gather.specs.Gather.{sentTotal, takenTotal, Started}
 use Rattle.gather.proofs.Room.{Tallied}
-use Rattle.scan.specs.Scan.{reach, passes, noScan, scanned, Gathered}
-use Rattle.scan.specs.Pieces.{totalTested, stepIn, Walking, WalkedAll, Scanned}
+use Rattle.scan.specs.Scan.{passes, noScan, scanned, Gathered}
+use Rattle.walk_tests.specs.Tests.{totalTested}
+use Rattle.scan.specs.Pieces.{stepIn, Walking, WalkedAll, Scanned}
 use Rattle.scan.specs.declared.Scan.{Scan}
-use Rattle.scan.specs.declared.Walked.{Walked}
+use Rattle.pass_two.specs.declared.Passed.{Passed}
 
 pub missed : (L : Limits) (ws before after : List ℕ) (r : Scan) → passes L (length before) ws ≡ false → r ≡ noScan
     → length after ≡ length before → Scanned L ws before after r
@@ -157,11 +158,11 @@ module _ (L : Limits) (fit : Fits L) (room : ℕ) (ws : List ℕ) (head : Passin
     unfolding own
     gathered after s f h = rw (sym equal) (go f (rw (sym equal) at h))
       where
-        go : (f : Field) → Below p f → sumOf p after f ≡ own n 0 f
-        go (sentIn m) h = s .tallies m (omega arith) ∙ sym (sent-at m h)
+        go : (f : Field) → Has p 0 f → sumOf p after f ≡ own n 0 f
+        go (sentIn m) h = s .tallies m (omega arith) ∙ sym (sent-at m (h .1))
         go (takenIn m) h =
             let e : 8 + (p + m) ≡ 8 + p + m = omega arith in
-            s .tallies (p + m) (omega arith) ∙ ap (word ws) e ∙ sym (taken-at m h)
+            s .tallies (p + m) (omega arith) ∙ ap (word ws) e ∙ sym (taken-at m (h .1))
         go allSent h = s .issued ∙ sends-are
         go allTaken h = s .received ∙ takes-are
 
@@ -190,7 +191,7 @@ module _ (L : Limits) (fit : Fits L) (room : ℕ) (ws : List ℕ) (head : Passin
         (both-make (lt-ltb _ _ (q .first k (omega (arith, dims-is ws))))
         (lt-ltb _ _ (q .second k (omega (arith, dims-is ws)))))
 
-    pub step-fails : (start after : List ℕ) (r : Walked) → WalkedAll L ws start after r → r .ok ≡ false
+    pub step-fails : (start after : List ℕ) (r : Passed) → WalkedAll L ws start after r → r .ok ≡ false
         → passes L room ws ≡ false
     unfolding stepIn
     step-fails start after r w e =
@@ -203,7 +204,7 @@ module _ (L : Limits) (fit : Fits L) (room : ℕ) (ws : List ℕ) (head : Passin
         (whole-step L n (head .board) k (omega (arith, equal, few-dims)) (survey.whole L n v))))
         (sym (w .ok) ∙ e))
 
-    module _ (start after : List ℕ) (r : Walked) (w : WalkedAll L ws start after r) (ok : r .ok ≡ true) where
+    module _ (start after : List ℕ) (r : Passed) (w : WalkedAll L ws start after r) (ok : r .ok ≡ true) where
       steps : (k : ℕ) → k < dims n → (isMarked ws (dims n) k ≡ true) × (stepAt L n k ≡ true)
       unfolding stepIn
       steps k l =

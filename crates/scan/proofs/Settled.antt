@@ -9,36 +9,25 @@ use native.Mathlib.Omega.{arith}
 use lib.Dec.{ltb}
 use lib.ListN.{length}
 use borrow.Author.Tests.{lt-ltb, le-leb, eqb-true}
-use Rattle.base.specs.Choice.{choose, both, either}
-use Rattle.base.specs.Limits.{Limits, fieldLimit, Fits}
+use Rattle.base.specs.Choice.{both, either}
+use Rattle.base.specs.Limits.{Limits, fieldLimit}
 use Rattle.base.proofs.Laws.{clash, choose-yes, both-make}
-use Rattle.base.proofs.Limits.{field-low, mul-low}
+use Rattle.base.proofs.Limits.{mul-low}
 use Rattle.node.specs.Sums.{Field, sentIn, takenIn, allSent, allTaken, number}
 use Rattle.node.specs.Agree.{firstClauses, secondClauses, allHold}
 use Rattle.node.specs.declared.Stored.{Stored}
-use Rattle.node.proofs.Clauses.{Has, FirstAgrees, first-known, second-known}
-use Rattle.survey.specs.Verdict.{isVerdict}
-use Rattle.survey.specs.declared.Verdict.{Verdict}
-use Rattle.survey.specs.declared.Verdict.the-variants.{Agrees, Fails}
-use Rattle.survey.proofs.Clauses.{named-fails}
-use Rattle.layout.specs.Places.{atFirst, atSecond, sumWords}
+use Rattle.node.specs.Sums.{Has}
+use Rattle.node.proofs.Clauses.{FirstAgrees, first-known, second-known}
+use Rattle.layout.specs.Places.{atFirst, atSecond, firstWords, stateWords, sumWords}
 use Rattle.layout.specs.Held.{word, firstFrom, secondFrom, sumOf}
-use Rattle.layout.proofs.Offsets.{first-inside, words-closed}
-use Rattle.layout.proofs.Reading.{number-sent, number-taken, first-in, second-in}
-use Rattle.survey.specs.Step.{firstTest, secondTest, awaitsAt, firstPast, secondPast, firstHeld, secondHeld}
+use Rattle.layout.proofs.Offsets.{first-inside, words-closed, most-words}
+use Rattle.survey.specs.Pieces.{firstTest, secondTest, awaitsAt, firstPast, secondPast, firstHeld, secondHeld}
 use Rattle.survey.specs.declared.Spot.{Spot}
 use Rattle.stored.specs.Held.{heldTest}
 use Rattle.stored.proofs.Frames.{first-held, second-held, first-low, second-low}
-use Rattle.gather.specs.Gather.{isFitting, RoomFor}
-use Rattle.gather.proofs.Room.{fitting-made}
-use Rattle.verdict.specs.Tried.{hasPlace, firstTried, secondTried}
-use Rattle.scan.specs.Pieces.{isAgreed, Standing, Summed, firstWhole, secondWhole}
-
--- ---- the verdict
-
-pub agreed-is : (cs : List Bool) (v : Verdict) → isVerdict cs v ≡ true → isAgreed v ≡ allHold cs
-agreed-is cs Agrees e = sym e
-agreed-is cs (Fails clause) e = sym (named-fails cs clause e)
+use Rattle.pass_one.specs.Tried.{firstTried}
+use Rattle.pass_two.specs.Tried.{secondTried}
+use Rattle.scan.specs.Pieces.{Standing, Summed, firstWhole, secondWhole}
 
 -- ---- the places of a step
 
@@ -50,30 +39,24 @@ module _ (p k : ℕ) (ws : List ℕ) (s : Standing p k ws) where
   near =
       omega (arith, first-inside p k (s .low), words-closed p, mul-low p 8 (p + 9) 17 (s .few) (let f = s .few in omega arith))
 
-  has-place : hasPlace p k (length ws) ≡ true
-  has-place = both-make (lt-ltb _ _ (s .low)) (both-make (le-leb _ _ (s .few)) (le-leb _ _ (s .long)))
-
   pub first-tried : (L : Limits) (sums : List ℕ) → sumWords p ≤ length sums
-      → firstTried L ws sums p k ≡ firstClauses L p k (sumOf p sums) (firstFrom ws p k (atFirst p k))
+      → firstTried L ws sums p k (atFirst p k) ≡ firstClauses L p k (sumOf p sums) (firstFrom ws p k (atFirst p k))
   first-tried L sums wide =
-      choose-yes _ _ (both-make has-place (le-leb _ _ wide))
-      ∙ ap (firstClauses L p k (sumOf p sums)) (first-in ws p k (s .low))
+      choose-yes _ _
+      (both-make (lt-ltb _ _ (s .low))
+      (both-make (le-leb _ _ (s .few))
+      (both-make (le-leb (atFirst p k) (stateWords 8) (omega (arith, near, most-words)))
+      (both-make (le-leb (atFirst p k + firstWords p k) (length ws) (omega (arith, inside)))
+      (le-leb (sumWords p) (length sums) wide)))))
 
   pub second-tried : (L : Limits) (issued agreed : ℕ)
-      → secondTried L ws p k issued agreed ≡ secondClauses L p k issued agreed (secondFrom ws (atSecond p k))
+      → secondTried L ws p k (atSecond p k) issued agreed
+      ≡ secondClauses L p k issued agreed (secondFrom ws (atSecond p k))
   second-tried L issued agreed =
-      choose-yes _ _ has-place ∙ ap (secondClauses L p k issued agreed) (second-in ws p k (s .low))
-
-  pub fitting : (room : ℕ) → sumWords p ≤ room → isFitting p k (atFirst p k) (length ws) room ≡ true
-  fitting room wide =
-      fitting-made p k (atFirst p k) (length ws) room
-      (record {
-        low = s .low;
-        few = s .few;
-        near = omega (arith, near);
-        long = omega (arith, inside);
-        wide = wide;
-      })
+      choose-yes _ _
+      (both-make (lt-ltb _ _ (s .low))
+      (both-make (le-leb (atSecond p k) (stateWords 8) (omega (arith, near, most-words)))
+      (le-leb (atSecond p k + 3) (length ws) (omega (arith, inside)))))
 
   pub first-words : atFirst p k + (2 * (p - k) + 3) ≤ length ws
   first-words = omega (arith, inside)
@@ -106,19 +89,6 @@ module _ (L : Limits) (ws sums : List ℕ) (p k at : ℕ) (low : k < p) (few : p
       go (no e) = let t = a .within (takenIn m) (omega (arith, h .0), h .1) in (omega arith, omega arith)
   sums-low allSent h = let t = a .within allSent tt in (omega arith, omega arith)
   sums-low allTaken h = let t = a .within allTaken tt in (omega arith, omega arith)
-
-  pub room : Fits L → RoomFor p k at ws sums
-  room fit =
-      record {
-        sent = λ m c d.
-            let q = sums-low (sentIn m) (c, d) in
-            omega (arith, field-low L fit, q .0, q .1, number-sent ws p k at m c d (omega arith));
-        taken = λ m c d.
-            let q = sums-low (takenIn m) (c, d) in
-            omega (arith, field-low L fit, q .0, q .1, number-taken ws p k at m c d (omega arith));
-        issued = let q = sums-low allSent tt in omega (arith, field-low L fit, q .0, q .1);
-        received = let q = sums-low allTaken tt in omega (arith, field-low L fit, q .0, q .1);
-      }
 
   pub stored : both (ltb (word ws at) 2) (firstTest L true p k x) ≡ true
   stored = first-low ws p k at low few L (eqb-true _ 1 (a .stored)) (λ f h. sums-low f h .0)

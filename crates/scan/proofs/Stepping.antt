@@ -7,99 +7,67 @@ use native.Mathlib.Nat.{add-zero}
 use native.Mathlib.Omega.{arith}
 use lib.Dec.{ltb}
 use lib.ListN.{length}
-use Rattle.base.specs.Choice.{choose, both, either}
-use Rattle.base.specs.Limits.{Limits, fieldLimit, Fits}
-use Rattle.base.proofs.Laws.{clash, both-true}
-use Rattle.frame.specs.Frame.{sentNumber}
+use Rattle.base.specs.Choice.{choose, both}
+use Rattle.base.specs.Limits.{Limits, fieldLimit}
+use Rattle.base.proofs.Laws.{both-true}
 use Rattle.frame.specs.declared.Sent.{Sent}
 use Rattle.node.specs.Sums.{Field, sentIn, takenIn, allSent, allTaken, number}
 use Rattle.node.specs.Agree.{firstClauses, secondClauses, allHold}
 use Rattle.node.specs.declared.Stored.{Stored}
 use Rattle.node.specs.declared.Confirm.{Confirm}
-use Rattle.node.proofs.Clauses.{Has as InFrame, has-lower, first-known, second-known}
-use Rattle.survey.specs.Verdict.{isVerdict}
+use Rattle.node.specs.Sums.{Has as InFrame}
+use Rattle.node.proofs.Clauses.{has-lower, first-known, second-known}
+use Rattle.survey.specs.Verdict.{isVerdict, isAgreed}
 use Rattle.survey.specs.declared.Verdict.{Verdict}
 use Rattle.layout.specs.Places.{atFirst, atSecond}
 use Rattle.layout.specs.Held.{word, firstFrom, secondFrom, sumOf}
-use Rattle.survey.specs.Step.{firstTest, secondTest, awaitsAt, firstPast, secondPast, firstHeld, secondHeld}
+use Rattle.survey.specs.Pieces.{firstTest, secondTest, awaitsAt, firstPast, secondPast, firstHeld, secondHeld}
 use Rattle.survey.specs.declared.Spot.{Spot}
 use Rattle.survey.proofs.Stored.{Has, first-none, first-same, second-none, second-same}
 use Rattle.stored.specs.Held.{heldTest}
-use Rattle.gather.specs.Gather.{Below, isFitting, RoomFor, Added}
-use Rattle.verdict.specs.Tried.{firstTried, secondTried}
-use Rattle.scan.specs.Pieces.{isAgreed, Standing, Summed, FirstPassed, SecondPassed, firstWhole, secondWhole}
+use Rattle.walk_tests.proofs.Agreed.{agreed-is}
+use Rattle.pass_one.specs.Tried.{firstTried}
+use Rattle.pass_two.specs.Tried.{secondTried, PassedBy}
+use Rattle.scan.specs.Pieces.{Standing, Summed, FirstPassed, SecondPassed, firstWhole, secondWhole}
 use Rattle.scan.specs.Pieces.{FirstDone, SecondDone}
-use Rattle.scan.specs.declared.Walked.{Walked}
-use Rattle.scan.proofs.Settled.{agreed-is, first-tried, second-tried, fitting, room, first-settled, first-open}
+use Rattle.pass_two.specs.declared.Passed.{Passed}
+use Rattle.scan.proofs.Settled.{first-tried, second-tried, first-settled, first-open}
 use Rattle.scan.proofs.Settled.{second-settled, second-open}
 
 -- ---- a step before the position
 
 module _ (L : Limits) (ws before : List ℕ) (p k at : ℕ) (s : Standing p k ws) (w : Summed L p k before)
-    (e : at ≡ atFirst p k) (v : Verdict) (told : isVerdict (firstTried L ws before p k) v ≡ true) where
+    (e : at ≡ atFirst p k) (v : Verdict) (told : isVerdict (firstTried L ws before p k at) v ≡ true) where
   abbrev x : Stored
   x = firstFrom ws p k at
 
-  first-is : isAgreed v ≡ allHold (firstClauses L p k (sumOf p before) x)
+  pub first-is : isAgreed v ≡ allHold (firstClauses L p k (sumOf p before) x)
   first-is =
       agreed-is _ v told
+      ∙ ap (λ a. allHold (firstTried L ws before p k a)) e
       ∙ ap allHold (first-tried p k ws s L before (w .wide))
       ∙ ap (λ a. allHold (firstClauses L p k (sumOf p before) (firstFrom ws p k a))) (sym e)
 
-  pub first-fails : isAgreed v ≡ false → FirstPassed L p k x before before false
-  first-fails q = record { ok = sym q ∙ first-is; sums = λ c. clash (sym c); length = refl }
-
-  pub first-passes : Fits L → isAgreed v ≡ true → (after : List ℕ)
-      → (isFitting p k at (length ws) (length before) ≡ true → RoomFor p k at ws before → Added p x before after)
-      → length after ≡ length before → FirstPassed L p k x before after true
-  first-passes fit q after f l =
-      record {
-        ok = sym q ∙ first-is;
-        sums = λ c.
-            f (ap (λ a. isFitting p k a (length ws) (length before)) e ∙ fitting p k ws s (length before) (w .wide))
-            (room L ws before p k at (s .low) (s .few) w
-            (first-known L p k (sumOf p before) x (sym first-is ∙ q)) fit);
-        length = l;
-      }
-
-module _ (L : Limits) (ws : List ℕ) (p k at issued agreed : ℕ) (s : Standing p k ws) (e : at ≡ atSecond p k) (v : Verdict)
-    (told : isVerdict (secondTried L ws p k issued agreed) v ≡ true) where
-  abbrev y : Confirm
-  y = secondFrom ws at
-
-  second-is : isAgreed v ≡ allHold (secondClauses L p k issued agreed y)
-  second-is =
-      agreed-is _ v told
-      ∙ ap allHold (second-tried p k ws s L issued agreed)
-      ∙ ap (λ a. allHold (secondClauses L p k issued agreed (secondFrom ws a))) (sym e)
-
-  pub second-fails : isAgreed v ≡ false → (i : Sent)
-      → SecondPassed L p k issued agreed y (record { ok = false; issued = i })
-  second-fails q i = record { ok = sym q ∙ second-is; more = λ c. clash (sym c) }
-
-  module _ (q : isAgreed v ≡ true) where
-    pub second-room : issued + word ws (at + 2) ≤ fieldLimit L
-    second-room = second-known L p k issued agreed y (sym second-is ∙ q) .within
-
-    pub second-passes : SecondPassed L p k issued agreed y
-        (record { ok = true; issued = sentNumber (issued + word ws (at + 2)) })
-    second-passes = record { ok = sym q ∙ second-is; more = λ c. refl }
+pub second-passed : (L : Limits) (ws : List ℕ) (p k at issued agreed : ℕ) (s : Standing p k ws) → at ≡ atSecond p k
+    → (r : Passed) → PassedBy L ws p k at issued agreed r → SecondPassed L p k issued agreed (secondFrom ws at) r
+second-passed L ws p k at issued agreed s e r d =
+    record {
+      ok =
+          d .ok
+          ∙ ap (λ a. allHold (secondTried L ws p k a issued agreed)) e
+          ∙ ap allHold (second-tried p k ws s L issued agreed)
+          ∙ ap (λ a. allHold (secondClauses L p k issued agreed (secondFrom ws a))) (sym e);
+      more = d .more;
+    }
 
 -- ---- any step
 
 -- the fields of a board have room in a state
-pub has-below : (p : ℕ) → p ≤ 8 → (f : Field) → Below p f → Has f
-has-below p l (sentIn m) h = omega arith
-has-below p l (takenIn m) h = omega arith
-has-below p l allSent h = tt
-has-below p l allTaken h = tt
-
--- the fields of a frame are among those of the board
-pub in-below : (p k : ℕ) (f : Field) → InFrame p k f → Below p f
-in-below p k (sentIn m) h = h .1
-in-below p k (takenIn m) h = h .1
-in-below p k allSent h = tt
-in-below p k allTaken h = tt
+pub has-room : (p j : ℕ) → p ≤ 8 → (f : Field) → InFrame p j f → Has f
+has-room p j l (sentIn m) h = omega arith
+has-room p j l (takenIn m) h = omega arith
+has-room p j l allSent h = tt
+has-room p j l allTaken h = tt
 
 -- what is not before the position is not added
 no-more : (a b : ℕ) (t : Bool) → (t ≡ true → b ≡ 0) → a ≡ a + choose t b 0
@@ -134,13 +102,13 @@ module _ (L : Limits) (ws before : List ℕ) (spot : Spot) (k at : ℕ) (s : Sta
 
   -- where nobody is awaited nothing is stored
   none-first : awaitsAt spot k ≡ false → firstWhole L spot k (sumOf p before) (word ws (atFirst p k)) one ≡ true
-      → (f : Field) → Below p f → number one f ≡ 0
+      → (j : ℕ) (f : Field) → InFrame p j f → number one f ≡ 0
   unfolding firstWhole
-  none-first a r f h =
+  none-first a r j f h =
       let m = both-true (ltb (word ws (atFirst p k)) 2) _ r in
       let z = both-true (firstTest L (awaitsAt spot k) p k one) _ (m .1) in
       zero-none (one .present) (number one f) (first-none L (awaitsAt spot k) p k one (z .0) a)
-      (first-same L (awaitsAt spot k) p k one (z .0) f (has-below p (s .few) f h))
+      (first-same L (awaitsAt spot k) p k one (z .0) f (has-room p j (s .few) f h))
 
   pub first-open-done : both (awaitsAt spot k) (firstPast spot k) ≡ false → (t : Bool)
       → t ≡ held at (fieldLimit L) (awaitsAt spot k) → FirstDone L ws spot k before before t
@@ -149,7 +117,7 @@ module _ (L : Limits) (ws before : List ℕ) (spot : Spot) (k at : ℕ) (s : Sta
       record {
         ok = whole;
         sums = λ r f h.
-            no-more _ _ (firstPast spot k) (λ d. none-first (nobody _ (firstPast spot k) a d) (sym whole ∙ r) f h);
+            no-more _ _ (firstPast spot k) (λ d. none-first (nobody _ (firstPast spot k) a d) (sym whole ∙ r) _ f h);
         length = refl;
       }
 
@@ -162,7 +130,7 @@ module _ (L : Limits) (ws before : List ℕ) (spot : Spot) (k at : ℕ) (s : Sta
             ∙ ap (λ i. allHold (firstClauses L p k (sumOf p before) (first i))) e
             ∙ first-settled L spot k ws s before w a c;
         sums = λ r f h.
-            d .sums r f h
+            d .sums r f (rw c at h)
             ∙ ap (λ i. sumOf p before f + number (first i) f) e
             ∙ all-more (sumOf p before f) (number (first (atFirst p k)) f) (firstPast spot k) c;
         length = d .length;
@@ -176,7 +144,7 @@ module _ (L : Limits) (ws before : List ℕ) (spot : Spot) (k at : ℕ) (s : Sta
   sums-within after t d r c low f h = go (awaitsAt spot k) refl
     where
       now-is : sumOf p after f ≡ sumOf p before f + number one f
-      now-is = d .sums r f (in-below p (suc k) f h) ∙ sym (all-more _ (number one f) (firstPast spot k) c)
+      now-is = d .sums r f (rw c h) ∙ sym (all-more _ (number one f) (firstPast spot k) c)
 
       go : (u : Bool) → awaitsAt spot k ≡ u → sumOf p after f ≤ fieldLimit L
       go true a =
@@ -188,7 +156,7 @@ module _ (L : Limits) (ws before : List ℕ) (spot : Spot) (k at : ℕ) (s : Sta
           omega (
             arith,
             now-is,
-            none-first a (sym (d .ok) ∙ r) f (in-below p (suc k) f h),
+            none-first a (sym (d .ok) ∙ r) (suc k) f h,
             low f (has-lower p k (suc k) f (omega arith) h),
           )
 
@@ -222,7 +190,7 @@ module _ (L : Limits) (ws : List ℕ) (spot : Spot) (k at issued : ℕ) (s : Sta
       }
 
   pub second-passed-done : issued ≤ fieldLimit L → spot .agreed ≤ fieldLimit L → awaitsAt spot k ≡ true
-      → secondPast spot k ≡ true → (r : Walked)
+      → secondPast spot k ≡ true → (r : Passed)
       → SecondPassed L (spot .dims) k issued (spot .agreed) (secondFrom ws at) r → SecondDone L ws spot k issued r
   second-passed-done low agreed a c r d =
       record {
@@ -236,7 +204,7 @@ module _ (L : Limits) (ws : List ℕ) (spot : Spot) (k at issued : ℕ) (s : Sta
             ∙ all-more issued (word ws (there + 2)) (secondPast spot k) c;
       }
 
-  pub issued-within : (r : Walked) → SecondDone L ws spot k issued r → r .ok ≡ true → issued ≤ fieldLimit L
+  pub issued-within : (r : Passed) → SecondDone L ws spot k issued r → r .ok ≡ true → issued ≤ fieldLimit L
       → r .issued .0 ≤ fieldLimit L
   unfolding secondWhole secondHeld
   issued-within r d q low = go (awaitsAt spot k) (secondPast spot k) refl refl

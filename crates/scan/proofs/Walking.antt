@@ -14,7 +14,7 @@ use borrow.Author.Count.{below-more}
 use borrow.Author.Tests.{lt-ltb, le-ltb, ltb-true, eqb-true, not-true}
 use Rattle.base.specs.Choice.{choose, both, either, every}
 use Rattle.base.specs.Limits.{Limits, fieldLimit, takenLimit, Fits}
-use Rattle.base.proofs.Laws.{clash, choose-yes, choose-no, both-true, both-make, every-at, every-make}
+use Rattle.base.proofs.Laws.{choose-yes, choose-no, both-true, every-at, every-make}
 use Rattle.base.proofs.Limits.{mul-low}
 use Rattle.tree.specs.Lookups.{badBoard}
 use Rattle.tree.proofs.Lookups.{board-good}
@@ -23,13 +23,14 @@ use Rattle.frame.specs.declared.Sent.{Sent}
 use Rattle.node.specs.Sums.{dims, firstAt, secondAt, Field, sentIn, takenIn, allSent, allTaken, number, tally}
 use Rattle.node.specs.Sums.{own, ownIssued}
 use Rattle.node.specs.Agree.{firstClauses, secondClauses, allHold}
-use Rattle.node.specs.State.{boardOk, positionOk, talliesOk, firstOk, secondOk}
+use Rattle.node.specs.State.{boardOk, positionOk, talliesOk}
 use Rattle.node.specs.declared.Stored.{Stored}
 use Rattle.node.specs.declared.Confirm.{Confirm}
 use Rattle.node.specs.declared.Node.{Node}
-use Rattle.node.proofs.Clauses.{Has}
+use Rattle.node.specs.Sums.{Has}
+use Rattle.node.proofs.Clauses.{has-lower}
 use Rattle.node.proofs.Totals.{total-at}
-use Rattle.survey.specs.Step.{firstTest, secondTest, awaitsAt, firstPast, secondPast, firstHeld, secondHeld, stepTest}
+use Rattle.survey.specs.Pieces.{firstTest, secondTest, awaitsAt, firstPast, secondPast, firstHeld, secondHeld, stepTest}
 use Rattle.survey.specs.declared.Spot.{Spot}
 use Rattle.survey.proofs.Valid.{fails, not-both}
 use Rattle.survey.proofs.Sums.{own-more, issued-more, sends-low, takes-low}
@@ -41,12 +42,11 @@ use Rattle.layout.proofs.Offsets.{first-more}
 use Rattle.layout.proofs.Reading.{first-word, second-word, first-in, second-in}
 use Rattle.head.specs.Head.{spotIn}
 use Rattle.head.proofs.Heads.{dims-is}
-use Rattle.gather.specs.Gather.{Below}
 use Rattle.scan.specs.Scan.{reach, confirmReach, Gathered}
 use Rattle.scan.specs.Pieces.{Standing, Summed, firstWhole, secondWhole, FirstDone, SecondDone, stepIn}
 use Rattle.scan.specs.Pieces.{Told, Walking, WalkedAll}
-use Rattle.scan.specs.declared.Walked.{Walked}
-use Rattle.scan.proofs.Stepping.{has-below, in-below, sums-within, issued-within}
+use Rattle.pass_two.specs.declared.Passed.{Passed}
+use Rattle.scan.proofs.Stepping.{has-room, sums-within, issued-within}
 
 -- ---- the frames of a dimension, by the walk's place
 
@@ -261,10 +261,10 @@ held-start L ws start here x w =
       low = omega arith;
       place = ap (λ (s : Spot). 8 + 2 * s .dims) (w .spot);
       length = refl;
-      sums = λ f h. w .sums f h ∙ ap (λ j. own n j f) (z (reach n));
+      sums = λ f h. w .sums f (rw (sym (z (reach n))) at h) ∙ ap (λ j. own n j f) (z (reach n));
       within = λ f h.
           let g : Has (dims n) 0 f = rw (sym (z (reach n))) at h in
-          omega (arith, w .sums f (in-below (dims n) 0 f g), tally-low L n (w .board) (w .tallies) f g);
+          omega (arith, w .sums f g, tally-low L n (w .board) (w .tallies) f g);
       issued = w .sends ∙ ap (ownIssued n) (z (confirmReach n));
       issued-low = omega (arith, w .sends, tally-low L n (w .board) (w .tallies) allSent tt);
       steps = λ j l. absurd (omega arith);
@@ -305,7 +305,7 @@ module _ (L : Limits) (fit : Fits L) (ws start : List ℕ) (here : Spot) (sends 
     agreed-low = rw (w .spot) (w .agreed)
 
     -- the step does not pass
-    stopped : (after : List ℕ) (r : Walked) → length after ≡ length sums → r .ok ≡ false → stepIn L ws k ≡ false
+    stopped : (after : List ℕ) (r : Passed) → length after ≡ length sums → r .ok ≡ false → stepIn L ws k ≡ false
         → WalkedAll L ws start after r
     stopped after r len bad e =
         record {
@@ -333,7 +333,7 @@ module _ (L : Limits) (fit : Fits L) (ws start : List ℕ) (here : Spot) (sends 
           (λ e f h.
           let r = ltb-true k (reach n) (sym (first-reach (spotIn L ws) k l) ∙ e) in
           let u : min k (reach n) ≡ k = omega arith in
-          held .sums f (in-below (dims n) k f h) ∙ ap (λ j. own n j f) u)
+          held .sums f (rw (sym u) at h) ∙ ap (λ j. own n j f) u)
           ∙ ap (firstWhole L (spotIn L ws) k (own n k) (word ws (atFirst (dims n) k))) (sym (first-is ws k l bound))
 
       pub first-stops : t ≡ false → (x : Sent) → WalkedAll L ws start after (record { ok = false; issued = x })
@@ -343,7 +343,7 @@ module _ (L : Limits) (fit : Fits L) (ws start : List ℕ) (here : Spot) (sends 
 
       -- ---- pass 2
 
-      module _ (one : t ≡ true) (r : Walked) (next : SecondDone L ws here k issued r) where
+      module _ (one : t ≡ true) (r : Passed) (next : SecondDone L ws here k issued r) where
         second-done : SecondDone L ws (spotIn L ws) k issued r
         second-done = rw (w .spot) at next
 
@@ -373,14 +373,26 @@ module _ (L : Limits) (fit : Fits L) (ws start : List ℕ) (here : Spot) (sends 
           unfolding stepIn
           step-at = both-true (isMarked ws (dims n) k) (stepAt L n k) ok .1
 
+          -- what the walk has after the step it had before it
+          reached : (f : Field) → Has (dims n) (min (k + 1) (reach n)) f
+              → Has (dims n) (choose (firstPast (spotIn L ws) k) (suc k) 0) f
+          reached f h = rw (first-reach (spotIn L ws) k l) (go (decLt k (reach n)))
+            where
+              go : Dec (k < reach n) → Has (dims n) (choose (ltb k (reach n)) (suc k) 0) f
+              go (yes b) =
+                  let u : min (k + 1) (reach n) ≡ suc k = omega arith in
+                  rw (lt-ltb k (reach n) b) (rw u at h)
+              go (no b) = rw (le-ltb k (reach n) (omega arith)) (has-lower (dims n) 0 (min (k + 1) (reach n)) f (omega arith) h)
+
           sums-more : Gathered n (min (k + 1) (reach n)) after
           sums-more f h =
-              first-done .sums one f h
+              first-done .sums one f (reached f h)
               ∙ grown (λ j. own n j f) (reach n) k (sumOf (dims n) sums f)
               (number (firstFrom ws (dims n) k (atFirst (dims n) k)) f) (firstPast (spotIn L ws) k)
-              (first-reach (spotIn L ws) k l) (held .sums f h)
+              (first-reach (spotIn L ws) k l)
+              (held .sums f (has-lower (dims n) (min k (reach n)) (min (k + 1) (reach n)) f (omega arith) h))
               (λ i.
-              own-more L n k (step-first L n (w .board) k step-at) f (has-below (dims n) bound f h)
+              own-more L n k (step-first L n (w .board) k step-at) f (has-room (dims n) _ bound f h)
               ∙ ap (λ (y : Stored). own n k f + number y f) (first-is ws k l bound))
 
           within-more : (f : Field) → Has (dims n) (min (k + 1) (reach n)) f → sumOf (dims n) after f ≤ fieldLimit L
@@ -398,7 +410,7 @@ module _ (L : Limits) (fit : Fits L) (ws start : List ℕ) (here : Spot) (sends 
                   let past = first-reach (spotIn L ws) k l ∙ le-ltb k (reach n) (omega arith) in
                   omega (
                     arith,
-                    first-done .sums one f (in-below (dims n) (min (k + 1) (reach n)) f h)
+                    first-done .sums one f (reached f h)
                         ∙ ap
                         (λ b.
                         sumOf (dims n) sums f
@@ -433,7 +445,7 @@ module _ (L : Limits) (fit : Fits L) (ws start : List ℕ) (here : Spot) (sends 
                 steps = below-more (λ j. stepIn L ws j ≡ true) k (held .steps) ok;
               }
 
-  pub ended : dims n ≤ k → (r : Walked) → r .ok ≡ true → r .issued .0 ≡ issued → WalkedAll L ws start sums r
+  pub ended : dims n ≤ k → (r : Passed) → r .ok ≡ true → r .issued .0 ≡ issued → WalkedAll L ws start sums r
   ended l r e i =
       record {
         ok = e ∙ sym (every-make 0 (dims n) (stepIn L ws) (λ j a b. held .steps j (omega arith)));
@@ -442,7 +454,8 @@ module _ (L : Limits) (fit : Fits L) (ws start : List ℕ) (here : Spot) (sends 
             ∙ held .issued
             ∙ ap (ownIssued n) (capped-at (confirmReach n) (confirm-reach-low n (w .position)));
         sums = λ q f h.
-            held .sums f h ∙ ap (λ j. own n j f) (capped-at (reach n) (reach-low n (w .position)));
+            let z = capped-at (reach n) (reach-low n (w .position)) in
+            held .sums f (rw (sym z) at h) ∙ ap (λ j. own n j f) z;
         length = held .length;
       }
     where

@@ -1,33 +1,28 @@
 -- Definitions that only the contracts of private functions cite: the test of a step, and the sums that a walk over the
 -- stored frames gathers.
 use mathlib.Core.Path.{_≡_}
-use mathlib.Core.Bool.{Bool, true, false, not}
+use mathlib.Core.Bool.{Bool, true, not}
 use mathlib.Core.List.{List}
-use Prim.Native.Nat.{ℕ, _+_, _≤_, _<_}
-use lib.Dec.{ltb, eqb}
+use Prim.Native.Nat.{ℕ, suc, _+_, _≤_, _<_}
+use lib.Dec.{ltb}
 use lib.ListN.{length}
 use Rattle.base.specs.Choice.{choose, both, either, every}
 use Rattle.base.specs.Limits.{Limits, fieldLimit, width}
-use Rattle.node.specs.Sums.{dims, firstAt, secondAt, Field, sentIn, takenIn, number, own, ownIssued}
+use Rattle.node.specs.Sums.{dims, firstAt, secondAt, Field, Has, sentIn, takenIn, number, own, ownIssued}
 use Rattle.node.specs.Agree.{firstClauses, secondClauses, allHold}
 use Rattle.node.specs.State.{boardOk, positionOk, talliesOk}
 use Rattle.node.specs.declared.Stored.{Stored}
 use Rattle.node.specs.declared.Confirm.{Confirm}
-use Rattle.survey.specs.declared.Verdict.{Verdict}
-use Rattle.survey.specs.declared.Verdict.the-variants.{Agrees, Fails}
 use Rattle.layout.specs.Places.{atFirst, atSecond, stateWords, sumWords}
 use Rattle.layout.specs.Held.{word, firstFrom, secondFrom, sumOf, unpacked, isMarked}
-use Rattle.survey.specs.Step.{firstTest, secondTest, awaitsAt, firstPast, secondPast, firstHeld, secondHeld, stepTest}
+use Rattle.survey.specs.Pieces.{firstTest, secondTest, awaitsAt, firstPast, secondPast, firstHeld, secondHeld, stepTest}
 use Rattle.survey.specs.declared.Spot.{Spot}
 use Rattle.head.specs.Head.{spotIn, headPasses}
-use Rattle.gather.specs.Gather.{Below, sentTotal, takenTotal, tallied, Started, Added}
+use Rattle.gather.specs.Gather.{sentTotal, takenTotal, tallied, Started}
+use Rattle.pass_one.specs.Tried.{Added}
 use Rattle.scan.specs.Scan.{reach, confirmReach, passes, scanned, Gathered}
 use Rattle.scan.specs.declared.Scan.{Scan}
-use Rattle.scan.specs.declared.Walked.{Walked}
-
-abbrev pub isAgreed : Verdict → Bool
-isAgreed Agrees = true
-isAgreed (Fails clause) = false
+use Rattle.pass_two.specs.declared.Passed.{Passed}
 
 -- ---- A step
 
@@ -46,10 +41,10 @@ pub record Summed (L : Limits) (p k : ℕ) (sums : List ℕ) : Type 0 where
 -- the frame of a step before the position: it agrees, and is then added to the sums
 pub record FirstPassed (L : Limits) (p k : ℕ) (x : Stored) (before after : List ℕ) (r : Bool) : Type 0 where
   pub ok : r ≡ allHold (firstClauses L p k (sumOf p before) x)
-  pub sums : r ≡ true → Added p x before after
+  pub sums : r ≡ true → Added p k x before after
   pub length : length after ≡ length before
 
-pub record SecondPassed (L : Limits) (p k issued agreed : ℕ) (y : Confirm) (r : Walked) : Type 0 where
+pub record SecondPassed (L : Limits) (p k issued agreed : ℕ) (y : Confirm) (r : Passed) : Type 0 where
   pub ok : r .ok ≡ allHold (secondClauses L p k issued agreed y)
   pub more : r .ok ≡ true → r .issued .0 ≡ issued + y .issued .0
 
@@ -69,14 +64,14 @@ secondWhole L spot k issued mark y =
 pub record FirstDone (L : Limits) (ws : List ℕ) (spot : Spot) (k : ℕ) (before after : List ℕ) (r : Bool) : Type 0 where
   pub ok : let at = atFirst (spot .dims) k in
       r ≡ firstWhole L spot k (sumOf (spot .dims) before) (word ws at) (firstFrom ws (spot .dims) k at)
-  pub sums : r ≡ true → (f : Field) → Below (spot .dims) f
+  pub sums : r ≡ true → (f : Field) → Has (spot .dims) (choose (firstPast spot k) (suc k) 0) f
       → sumOf (spot .dims) after f
       ≡ sumOf (spot .dims) before f
       + choose (firstPast spot k) (number (firstFrom ws (spot .dims) k (atFirst (spot .dims) k)) f) 0
   pub length : length after ≡ length before
 
 -- and of pass 2
-pub record SecondDone (L : Limits) (ws : List ℕ) (spot : Spot) (k issued : ℕ) (r : Walked) : Type 0 where
+pub record SecondDone (L : Limits) (ws : List ℕ) (spot : Spot) (k issued : ℕ) (r : Passed) : Type 0 where
   pub ok : let at = atSecond (spot .dims) k in
       r .ok ≡ secondWhole L spot k issued (word ws at) (secondFrom ws at)
   pub more : r .ok ≡ true
@@ -92,7 +87,7 @@ abbrev pub FirstStep : Limits → List ℕ → ℕ → ℕ → Bool → Bool →
 FirstStep L ws p k awaits tried before after r =
     (spot : Spot) → Told spot p k awaits (firstPast spot k) tried → FirstDone L ws spot k before after r
 
-abbrev pub SecondStep : Limits → List ℕ → ℕ → ℕ → Bool → Bool → ℕ → ℕ → Walked → Type 0
+abbrev pub SecondStep : Limits → List ℕ → ℕ → ℕ → Bool → Bool → ℕ → ℕ → Passed → Type 0
 SecondStep L ws p k awaits tried issued agreed r =
     (spot : Spot) → Told spot p k awaits (secondPast spot k) tried → spot .agreed ≡ agreed
     → SecondDone L ws spot k issued r
@@ -119,17 +114,11 @@ pub record Walking (L : Limits) (ws start : List ℕ) (here : Spot) (x : ℕ) : 
   pub sends : x ≡ ownIssued (unpacked ws) 0
 
 -- all steps pass, and then the sums are those that a scan gathers
-pub record WalkedAll (L : Limits) (ws before after : List ℕ) (r : Walked) : Type 0 where
+pub record WalkedAll (L : Limits) (ws before after : List ℕ) (r : Passed) : Type 0 where
   pub ok : r .ok ≡ every 0 (dims (unpacked ws)) (stepIn L ws)
   pub issued : r .ok ≡ true → r .issued .0 ≡ ownIssued (unpacked ws) (confirmReach (unpacked ws))
   pub sums : r .ok ≡ true → Gathered (unpacked ws) (reach (unpacked ws)) after
   pub length : length after ≡ length before
-
--- ---- T
-
--- T is what the pass gives
-abbrev pub totalTested : ℕ → ℕ → ℕ → Bool
-totalTested pass agreed received = eqb agreed (choose (eqb pass 1) 0 received)
 
 -- ---- The scan
 

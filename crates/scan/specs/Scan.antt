@@ -7,11 +7,10 @@ use lib.Dec.{eqb}
 use Rattle.base.specs.Choice.{choose, both}
 use Rattle.base.specs.Limits.{Limits}
 use Rattle.frame.specs.Frame.{sentNumber, takenNumber}
-use Rattle.node.specs.Sums.{dims, Field, allSent, allTaken, tally, own, ownIssued}
+use Rattle.node.specs.Sums.{dims, Field, Has, allSent, allTaken, tally, own, ownIssued}
 use Rattle.node.specs.State.{valid}
 use Rattle.node.specs.declared.Node.{Node}
 use Rattle.layout.specs.Held.{unpacked, isReady, sumOf}
-pub use Rattle.gather.specs.Gather.{Below}
 use Rattle.scan.specs.declared.Scan.{Scan}
 
 -- the sums of pass 1 go to the node's dimension, and in pass 2 past the last
@@ -52,4 +51,4 @@ scanned L room ws =
 
 -- the words lent for the sums hold the own sums for pass 1, dimension k
 abbrev pub Gathered : Node → ℕ → List ℕ → Type 0
-Gathered n k sums = (f : Field) → Below (dims n) f → sumOf (dims n) sums f ≡ own n k f
+Gathered n k sums = (f : Field) → Has (dims n) k f → sumOf (dims n) sums f ≡ own n k f

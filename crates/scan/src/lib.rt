@@ -1,22 +1,22 @@
 // The state test, and the sums of a state that passes it, in one walk over the words that the caller lends.
 ghost use mathlib.Core.Path.{_≡_};
 ghost use mathlib.Core.Bool.{true, not};
-ghost use Prim.Native.Nat.{_-_, _≤_, _<_};
-ghost use lib.Dec.{ltb, eqb};
+ghost use Prim.Native.Nat.{ℕ, _-_, _≤_, _<_};
+ghost use lib.Dec.{leb};
 ghost use lib.ListN.{length};
-ghost use Rattle.base.specs.Choice.{choose, both, every};
+ghost use Rattle.base.specs.Choice.{every};
 ghost use Rattle.base.specs.Limits.{limitsOf, fieldLimit};
 ghost use Rattle.layout.specs.Places.{atFirst, atSecond};
-ghost use Rattle.layout.specs.Held.{firstFrom, secondFrom, unpacked};
+ghost use Rattle.layout.specs.Held.{firstFrom, unpacked};
 ghost use Rattle.stored.specs.Held.{isLow, heldTest};
 ghost use Rattle.scan.specs.Scan.{noScan, scanned, passes, reach, Gathered};
-ghost use Rattle.scan.specs.Pieces.{isAgreed, Standing, Summed, FirstPassed, SecondPassed, FirstStep, SecondStep};
-ghost use Rattle.scan.specs.Pieces.{Walking, WalkedAll, totalTested, Ready, Scanned};
+ghost use Rattle.scan.specs.Pieces.{Standing, Summed, FirstPassed, FirstStep, SecondStep};
+ghost use Rattle.scan.specs.Pieces.{Walking, WalkedAll, Ready, Scanned};
 use base::Bounds;
 use frame::Sent;
 use frame::Taken;
+use pass_two::Passed;
 use survey::Spot;
-use survey::Verdict;
 
 // What is known of a state. Where it does not pass the test, all else is 0.
 pub struct Scan {
@@ -28,12 +28,6 @@ pub struct Scan {
     pub takes: Taken,
     // in pass 2 the own sum of total sent for the node's dimension
     pub issued: Sent,
-}
-
-// Whether all frames passed so far, and the sum of pass 2.
-struct Walked {
-    ok: bool,
-    issued: Sent,
 }
 
 fn no_scan() -> Scan
@@ -50,16 +44,16 @@ fn no_scan() -> Scan
 
 // ---- What is stored for a step
 
-fn limited(s: &[u32], limit: u32, from: u32, end: u32) -> bool
+// The largest of the words from a place to an end, 0 for none.
+fn largest(s: &[u32], from: u32, end: u32) -> u32
     requires { ⌜ end ≤ length (now s) ⌝ }
-    ensures { λ r. ⌜ r ≡ every from (end - from) (isLow limit (now (s .entry))) ⌝ }
+    ensures { λ r. ⌜ ((limit : ℕ) → leb r limit ≡ every from (end - from) (isLow limit (now (s .entry)))) ⌝ }
 {
+    let mut most: u32 = 0;
     for i in from..end {
-        if limit < s[i as usize] {
-            return false;
-        }
+        most = walk_tests::larger(most, s[i as usize]);
     }
-    true
+    most
 }
 
 // A frame whose words are those from a place to an end, the mark first.
@@ -68,8 +62,9 @@ fn stored_ok(s: &[u32], limit: u32, awaits: bool, at: u32, end: u32) -> bool
     ensures { λ r. ⌜ r ≡ heldTest limit (now (s .entry)) awaits at end ⌝ }
 {
     let mark = s[at as usize];
+    let most = largest(s, at + layout::MARK, end);
     if mark == 0 {
-        return limited(s, 0, at + 1, end);
+        return most == 0;
     }
     if mark != 1 {
         return false;
@@ -77,19 +72,10 @@ fn stored_ok(s: &[u32], limit: u32, awaits: bool, at: u32, end: u32) -> bool
     if !awaits {
         return false;
     }
-    limited(s, limit, at + 1, end)
+    most <= limit
 }
 
 // ---- A step before the position: its verdict decides, since a frame that agrees with sums within the limit is within it
-
-fn is_agreed(v: Verdict) -> bool
-    ensures { λ r. ⌜ r ≡ isAgreed v ⌝ }
-{
-    match v {
-        Verdict::Agrees => true,
-        Verdict::Fails(clause) => false,
-    }
-}
 
 // Dimension k of pass 1 agrees; its numbers are then added to the sums.
 fn first_passed(b: Bounds, s: &[u32], sums: &mut [u32], p: u32, k: u32, at: u32) -> bool
@@ -97,64 +83,10 @@ fn first_passed(b: Bounds, s: &[u32], sums: &mut [u32], p: u32, k: u32, at: u32)
     ensures { λ r.
         ⌜ FirstPassed (limitsOf b) p k (firstFrom (now (s .entry)) p k at) (now (sums .entry)) (now (sums .exit)) r ⌝ }
 {
-    let v = verdict::first_verdict(b, s, &*sums, p as u8, k as u8);
-    if !is_agreed(v) {
-        return false;
-    }
-    gather::add(sums, s, p, k, at);
-    true
-}
-
-// Dimension k of pass 2 agrees; its total sent is then added to the sum.
-fn second_passed(b: Bounds, s: &[u32], p: u32, k: u32, at: u32, issued: Sent, agreed: u32) -> Walked
-    requires { ⌜ Standing p k (now s) × (at ≡ atSecond p k) × (issued .0 ≤ fieldLimit (limitsOf b)) ⌝ }
-    ensures { λ r. ⌜ SecondPassed (limitsOf b) p k (issued .0) agreed (secondFrom (now (s .entry)) at) r ⌝ }
-{
-    let v = verdict::second_verdict(b, s, p as u8, k as u8, issued, agreed);
-    if !is_agreed(v) {
-        return Walked {
-            ok: false,
-            issued: issued,
-        };
-    }
-    let other = Sent(s[(at + 2) as usize]);
-    Walked {
-        ok: true,
-        issued: Sent(issued.0 + other.0),
-    }
+    walk_tests::is_agreed(pass_one::verdict(b, s, sums, p, k, at))
 }
 
 // ---- A step
-
-// How many steps are before the position, by what pass 1 and what pass 2 gives.
-fn before_position(pass: u8, first: u32, second: u32) -> u32
-    ensures { λ r. ⌜ r ≡ choose (eqb pass 1) first second ⌝ }
-{
-    if pass == 1 {
-        return first;
-    }
-    second
-}
-
-// The node awaits a frame in dimension k of its board.
-fn awaits_at(alone: bool, k: u32) -> bool
-    ensures { λ r. ⌜ r ≡ not (both (eqb k 0) alone) ⌝ }
-{
-    if 0 < k {
-        return true;
-    }
-    !alone
-}
-
-// A frame is awaited, and its step is before the position.
-fn is_tried(awaits: bool, k: u32, steps: u32) -> bool
-    ensures { λ r. ⌜ r ≡ both awaits (ltb k steps) ⌝ }
-{
-    if !awaits {
-        return false;
-    }
-    k < steps
-}
 
 // Dimension k of pass 1, whose words begin at a place.
 fn first_step(
@@ -178,7 +110,7 @@ fn first_step(
     if tried {
         return first_passed(b, s, sums, p, k, at);
     }
-    let end = at + (2 * (p - k) + 3);
+    let end = at + (2 * (p - k) + layout::FIRST);
     stored_ok(s, limit, awaits, at, end)
 }
 
@@ -194,7 +126,7 @@ fn second_step(
     tried: bool,
     issued: Sent,
     agreed: u32,
-) -> Walked
+) -> Passed
     requires { ⌜ Standing p k (now s)
         × (at ≡ atSecond p k)
         × (issued .0 ≤ fieldLimit (limitsOf b))
@@ -203,10 +135,10 @@ fn second_step(
     ensures { λ r. ⌜ SecondStep (limitsOf b) (now (s .entry)) p k awaits tried (issued .0) agreed r ⌝ }
 {
     if tried {
-        return second_passed(b, s, p, k, at, issued, agreed);
+        return pass_two::pass_step(b, s, p, k, at, issued, agreed);
     }
-    Walked {
-        ok: stored_ok(s, limit, awaits, at, at + 3),
+    Passed {
+        ok: stored_ok(s, limit, awaits, at, at + layout::SECOND),
         issued: issued,
     }
 }
@@ -214,30 +146,30 @@ fn second_step(
 // ---- The walk over the stored frames
 
 // Tests all dimensions and gathers the sums, which are those before any frame is added.
-fn walk(b: Bounds, s: &[u32], sums: &mut [u32], spot: Spot, sends: Sent) -> Walked
+fn walk(b: Bounds, s: &[u32], sums: &mut [u32], spot: Spot, sends: Sent) -> Passed
     requires { ⌜ Walking (limitsOf b) (now s) (now sums) spot (sends .0) ⌝ }
     ensures { λ r. ⌜ WalkedAll (limitsOf b) (now (s .entry)) (now (sums .entry)) (now (sums .exit)) r ⌝ }
 {
     let p = spot.dims;
     let limit = base::field_limit(b);
-    let firsts = before_position(spot.pass, spot.dim, p);
-    let seconds = before_position(spot.pass, 0, spot.dim);
-    let mut walked = Walked {
+    let firsts = walk_tests::before_position(spot.pass, spot.dim, p);
+    let seconds = walk_tests::before_position(spot.pass, 0, spot.dim);
+    let mut walked = Passed {
         ok: true,
         issued: sends,
     };
     let mut at = layout::HEAD + 2 * p;
     for k in 0..p {
-        let awaits = awaits_at(spot.alone, k);
-        let one = is_tried(awaits, k, firsts);
+        let awaits = walk_tests::awaits_at(spot.alone, k);
+        let one = walk_tests::is_tried(awaits, k, firsts);
         if !first_step(b, s, sums, limit, p, k, at, awaits, one) {
-            return Walked {
+            return Passed {
                 ok: false,
                 issued: sends,
             };
         }
-        at = at + (2 * (p - k) + 3);
-        let two = is_tried(awaits, k, seconds);
+        at = at + (2 * (p - k) + layout::FIRST);
+        let two = walk_tests::is_tried(awaits, k, seconds);
         walked = second_step(
             b,
             s,
@@ -253,19 +185,9 @@ fn walk(b: Bounds, s: &[u32], sums: &mut [u32], spot: Spot, sends: Sent) -> Walk
         if !walked.ok {
             return walked;
         }
-        at = at + 3;
+        at = at + layout::SECOND;
     }
     walked
-}
-
-// T is what the pass gives.
-fn total_ok(pass: u8, agreed: u32, received: Taken) -> bool
-    ensures { λ r. ⌜ r ≡ totalTested pass agreed (received .0) ⌝ }
-{
-    if pass == 1 {
-        return agreed == 0;
-    }
-    agreed == received.0
 }
 
 // ---- The scan
@@ -280,7 +202,7 @@ fn scan_steps(b: Bounds, s: &[u32], sums: &mut [u32], spot: Spot, sends: Sent, t
         return no_scan();
     }
     let received = Taken(sums[(2 * spot.dims + 1) as usize]);
-    if !total_ok(spot.pass, spot.agreed, received) {
+    if !walk_tests::total_ok(spot.pass, spot.agreed, received) {
         return no_scan();
     }
     let issued = walked.issued;

@@ -10,9 +10,10 @@ use lib.ListN.{length, take, drop, length-drop}
 use Rattle.base.specs.Choice.{choose, both}
 use Rattle.base.proofs.Laws.{choose-yes, choose-no, clash}
 use Rattle.script.specs.declared.Line.the-variants.{Bad}
-use Rattle.script.specs.declared.Number.{Number}
-use Rattle.script.specs.declared.Number.the-variants.{Is, None}
-use Rattle.script.specs.Script.{before, partsWithin, byParts, isNumber, valueAfter, isNodes, isLetter}
+use Rattle.line_parts.specs.declared.Number.{Number}
+use Rattle.line_parts.specs.declared.Number.the-variants.{Is, None}
+use Rattle.line_parts.specs.Parts.{isNumber, valueAfter, isNodes, isLetter}
+use Rattle.script.specs.Script.{before, partsWithin, byParts}
 use Rattle.script.specs.Script.{oneNumber, twoNumbers, lineOf, lineAt}
 
 -- ---- Parts

@@ -1,11 +1,9 @@
 // The lines of a rehearsal's script. Any bytes may be handed, and any place in them.
 ghost use mathlib.Core.Path.{_≡_};
-ghost use mathlib.Core.Bool.{true};
-ghost use Prim.Native.Nat.{_≤_, _<_};
+ghost use Prim.Native.Nat.{_≤_};
 ghost use lib.ListN.{length, drop};
-ghost use Rattle.base.specs.Choice.{choose};
-ghost use Rattle.script.specs.Script.{before, allDigits, valueAfter, isNumber, isNodes, isLetter};
-ghost use Rattle.script.specs.Script.{oneNumber, twoNumbers, lineOf, lineAt};
+ghost use Rattle.script.specs.Script.{before, oneNumber, twoNumbers, lineOf, lineAt};
+use line_parts::Number;
 
 // What a line says.
 pub enum Line {
@@ -29,19 +27,7 @@ pub struct Parsed {
     pub next: usize,
 }
 
-// A part of a line as a number.
-enum Number {
-    Is(u32),
-    None,
-}
-
 // ---- Bytes
-
-fn wide(x: u8) -> u32
-    ensures { λ r. ⌜ (r ≡ x) × (r < 256) ⌝ }
-{
-    x as u32
-}
 
 // How many bytes stand before the first of a kind; all where there is none.
 fn find(s: &[u8], byte: u8) -> usize
@@ -65,109 +51,22 @@ fn from(s: &[u8], at: usize) -> &[u8]
     &s[at..]
 }
 
-// ---- Numbers
-
-fn all_digits(s: &[u8]) -> bool
-    ensures { λ r. ⌜ r ≡ allDigits (now (s .entry)) ⌝ }
-{
-    let mut i = 0;
-    while i < s.len() {
-        let x = s[i];
-        if x < b'0' {
-            return false;
-        }
-        if b'9' < x {
-            return false;
-        }
-        i += 1;
-    }
-    true
-}
-
-// The value of up to three digits.
-fn value_of(s: &[u8]) -> u32
-    requires { ⌜ (length (now s) ≤ 3) × (allDigits (now s) ≡ true) ⌝ }
-    ensures { λ r. ⌜ r ≡ valueAfter 0 (now (s .entry)) ⌝ }
-{
-    let mut v = 0;
-    let mut i = 0;
-    while i < s.len() {
-        v = 10 * v + (wide(s[i]) - 48);
-        i += 1;
-    }
-    v
-}
-
-// One to three digits, and 0 first only alone.
-fn number_of(s: &[u8]) -> Number
-    ensures { λ r. ⌜ r ≡ choose (isNumber (now (s .entry))) (Number.Is (valueAfter 0 (now (s .entry)))) Number.None ⌝ }
-{
-    let n = s.len();
-    if n < 1 {
-        return Number::None;
-    }
-    if 3 < n {
-        return Number::None;
-    }
-    if !all_digits(s) {
-        return Number::None;
-    }
-    if s[0] == b'0' {
-        if n != 1 {
-            return Number::None;
-        }
-    }
-    Number::Is(value_of(s))
-}
-
-// ---- Words
-
-fn is_nodes(w: &[u8]) -> bool
-    ensures { λ r. ⌜ r ≡ isNodes (now (w .entry)) ⌝ }
-{
-    if w.len() != 5 {
-        return false;
-    }
-    if w[0] != b'n' {
-        return false;
-    }
-    if w[1] != b'o' {
-        return false;
-    }
-    if w[2] != b'd' {
-        return false;
-    }
-    if w[3] != b'e' {
-        return false;
-    }
-    w[4] == b's'
-}
-
-fn is_letter(letter: u8, w: &[u8]) -> bool
-    ensures { λ r. ⌜ r ≡ isLetter letter (now (w .entry)) ⌝ }
-{
-    if w.len() != 1 {
-        return false;
-    }
-    w[0] == letter
-}
-
 // ---- Lines
 
 // A word and a number.
 fn one_number(word: &[u8], first: &[u8]) -> Line
     ensures { λ r. ⌜ r ≡ oneNumber (now (word .entry)) (now (first .entry)) ⌝ }
 {
-    let Number::Is(x) = number_of(first) else {
+    let Number::Is(x) = line_parts::number_of(first) else {
         return Line::Bad;
     };
-    if is_nodes(word) {
+    if line_parts::is_nodes(word) {
         return Line::Nodes(x);
     }
-    if is_letter(b'i', word) {
+    if line_parts::is_letter(b'i', word) {
         return Line::Idles(x);
     }
-    if is_letter(b'b', word) {
+    if line_parts::is_letter(b'b', word) {
         return Line::Calls(x);
     }
     Line::Bad
@@ -177,16 +76,16 @@ fn one_number(word: &[u8], first: &[u8]) -> Line
 fn two_numbers(word: &[u8], first: &[u8], second: &[u8]) -> Line
     ensures { λ r. ⌜ r ≡ twoNumbers (now (word .entry)) (now (first .entry)) (now (second .entry)) ⌝ }
 {
-    let Number::Is(x) = number_of(first) else {
+    let Number::Is(x) = line_parts::number_of(first) else {
         return Line::Bad;
     };
-    let Number::Is(y) = number_of(second) else {
+    let Number::Is(y) = line_parts::number_of(second) else {
         return Line::Bad;
     };
-    if is_letter(b's', word) {
+    if line_parts::is_letter(b's', word) {
         return Line::Sends(x, y);
     }
-    if is_letter(b'd', word) {
+    if line_parts::is_letter(b'd', word) {
         return Line::Delivers(x, y);
     }
     Line::Bad

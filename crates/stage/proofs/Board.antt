@@ -9,7 +9,7 @@ use lib.ListN.{length, getD, List·getD-eq-default}
 use Rattle.base.specs.Limits.{base}
 use Rattle.base.proofs.Laws.{clash}
 use Rattle.layout.specs.Held.{isWhole}
-use Rattle.states.specs.On.{noState}
+use Rattle.states.specs.Words.{noState}
 use Rattle.stage.specs.Board.{stateAt}
 use Rattle.stage.specs.declared.Stage.{Stage}
 

@@ -1,4 +1,3 @@
 pub mod Board
-pub mod Parts
 pub mod There
 pub mod Lines

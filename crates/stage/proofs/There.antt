@@ -8,7 +8,7 @@ use native.Mathlib.Omega.{arith}
 use lib.Dec.{ltb, leb}
 use lib.ListN.{length}
 use borrow.Author.Tests.{lt-ltb, le-ltb, le-leb, lt-leb, eq-eqb, ne-eqb}
-use Rattle.stage.specs.Frames.{placeSize, roomFor}
+use Rattle.under_way.specs.Frames.{placeSize, roomFor}
 use Rattle.stage.specs.Board.{isThere}
 use Rattle.stage.specs.declared.Stage.{Stage}
 

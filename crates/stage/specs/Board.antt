@@ -9,11 +9,11 @@ use Rattle.base.specs.Limits.{base}
 use Rattle.tree.specs.Lookups.{badBoard}
 use Rattle.node.specs.declared.Node.{Node}
 use Rattle.layout.specs.Held.{unpacked}
-use Rattle.states.specs.On.{noState, freshState}
+use Rattle.states.specs.Words.{noState, freshState}
 use Rattle.states.specs.declared.State.{State}
 use Rattle.items.specs.Places.{noItem}
 use Rattle.items.specs.declared.Item.{Item}
-use Rattle.stage.specs.Frames.{roomFor}
+use Rattle.under_way.specs.Frames.{roomFor}
 use Rattle.stage.specs.declared.Stage.{Stage}
 use Rattle.stage.specs.declared.Acted.{Acted}
 

@@ -1,1 +1,1 @@
-pub mod On
+pub mod Words

@@ -1,30 +1,13 @@
-// A node's state by value, on boards of up to 16 nodes: each call works in place on a copy of the words.
+// A node's state by value, on boards of up to 16 nodes.
 ghost use mathlib.Core.Path.{_≡_};
 ghost use mathlib.Core.Bool.{true};
-ghost use lib.ListN.{length};
 ghost use Rattle.base.specs.Limits.{base};
-ghost use Rattle.node.specs.Calls.{send, take, idle, frameIn};
 ghost use Rattle.layout.specs.Held.{isWhole, unpacked};
-ghost use Rattle.states.specs.On.{noState, freshState, replied, onState, stepReplied, stepOn, stepBytes};
-use node::Answer;
-use node::BarrierAnswer;
-
-// The words in which a call gathers the sums of the largest board.
-const SUMS: usize = 18;
+ghost use Rattle.states.specs.Words.{noState, freshState};
 
 // The words of a state; those of a board of 16 nodes are 60.
 pub struct State {
     pub words: [u32; 60],
-}
-
-pub struct Reply {
-    pub state: State,
-    pub answer: Answer,
-}
-
-pub struct StepReply {
-    pub state: State,
-    pub answer: BarrierAnswer,
 }
 
 // Words that hold no state.
@@ -48,65 +31,4 @@ pub fn phase_of(s: State) -> u8
     ensures { λ r. ⌜ (isWhole base (s .words) ≡ true → r ≡ unpacked (s .words) .phase) ⌝ }
 {
     (s.words[layout::PHASE] % 256) as u8
-}
-
-pub fn send_to(s: State, to: u32) -> Reply
-    ensures { λ r. ⌜ replied r ≡ onState (λ n. send base n to) s ⌝ }
-{
-    let mut words = s.words;
-    let mut sums = [0u32; SUMS];
-    let answer = node_calls::send_to(base::of_build(), &mut words, &mut sums, to);
-    Reply {
-        state: State { words: words },
-        answer: answer,
-    }
-}
-
-pub fn take_from(s: State, from: u32, phase: u8) -> Reply
-    ensures { λ r. ⌜ replied r ≡ onState (λ n. take base n from phase) s ⌝ }
-{
-    let mut words = s.words;
-    let mut sums = [0u32; SUMS];
-    let answer = node_calls::take_from(base::of_build(), &mut words, &mut sums, from, phase);
-    Reply {
-        state: State { words: words },
-        answer: answer,
-    }
-}
-
-pub fn go_idle(s: State) -> Reply
-    ensures { λ r. ⌜ replied r ≡ onState (λ n. idle base n) s ⌝ }
-{
-    let mut words = s.words;
-    let mut sums = [0u32; SUMS];
-    let answer = node_calls::go_idle(base::of_build(), &mut words, &mut sums);
-    Reply {
-        state: State { words: words },
-        answer: answer,
-    }
-}
-
-pub fn frame_in(s: State, bytes: &[u8]) -> Reply
-    ensures { λ r. ⌜ replied r ≡ onState (λ n. frameIn base n (now (bytes .entry))) s ⌝ }
-{
-    let mut words = s.words;
-    let mut sums = [0u32; SUMS];
-    let answer = node_frames::frame_in(base::of_build(), &mut words, &mut sums, bytes);
-    Reply {
-        state: State { words: words },
-        answer: answer,
-    }
-}
-
-pub fn step(s: State, buf: &mut [u8]) -> StepReply
-    ensures answer { λ r. ⌜ stepReplied r ≡ stepOn s (length (now (buf .entry))) ⌝ }
-    ensures memory { λ r. ⌜ now (buf .exit) ≡ stepBytes s (now (buf .entry)) ⌝ }
-{
-    let mut words = s.words;
-    let mut sums = [0u32; SUMS];
-    let answer = node_barrier::step(base::of_build(), &mut words, &mut sums, buf);
-    StepReply {
-        state: State { words: words },
-        answer: answer,
-    }
 }

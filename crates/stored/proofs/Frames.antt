@@ -13,8 +13,8 @@ use Rattle.base.proofs.Laws.{choose-yes, choose-no, both-true, both-make, every
 use Rattle.frame.specs.Frame.{hasShell}
 use Rattle.node.specs.Sums.{Field, sentIn, takenIn, allSent, allTaken, number}
 use Rattle.node.specs.declared.Stored.{Stored}
-use Rattle.node.proofs.Clauses.{Has}
-use Rattle.survey.specs.Step.{pairOk, shellOk, firstTest, secondTest}
+use Rattle.node.specs.Sums.{Has}
+use Rattle.survey.specs.Pieces.{pairOk, shellOk, firstTest, secondTest}
 use Rattle.layout.specs.Places.{sentPlace, takenPlace, issuedPlace, receivedPlace}
 use Rattle.layout.specs.Held.{word, firstFrom, secondFrom}
 use Rattle.layout.proofs.Reading.{number-sent, number-taken, number-outside}

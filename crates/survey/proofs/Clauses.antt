@@ -1,5 +1,5 @@
 -- Laws of the clauses: a test that fails is a clause that may be named, and where none fails the step agrees.
-use mathlib.Core.Path.{_≡_, refl, sym}
+use mathlib.Core.Path.{_≡_, refl, sym, _∙_}
 use mathlib.Core.Bool.{Bool, true, false, not}
 use mathlib.Core.List.{List, [], _∷_}
 use Prim.Native.Nat.{ℕ, zero, suc, _+_, _≤_, _<_}
@@ -8,12 +8,13 @@ use lib.ListN.{getD}
 use borrow.Author.Tests.{le-leb, lt-leb, eq-eqb, ne-eqb, not-true}
 use Rattle.base.specs.Choice.{choose, both}
 use Rattle.base.specs.Limits.{Limits, fieldLimit}
-use Rattle.base.proofs.Laws.{clash}
-use Rattle.node.specs.Sums.{Field, sentIn, takenIn, allSent, allTaken, number}
-use Rattle.node.specs.Agree.{isWithin, firstClauses, secondClauses, allHold, mayName}
+use Rattle.base.proofs.Laws.{clash, choose-yes}
+use Rattle.node.specs.Sums.{Has, Field, sentIn, takenIn, allSent, allTaken, number}
+use Rattle.node.specs.Agree.{firstClauses, secondClauses, allHold, mayName}
 use Rattle.node.specs.declared.Confirm.{Confirm}
 use Rattle.node.specs.declared.Stored.{Stored}
-use Rattle.survey.specs.Parts.{shellWithin, shellsWithin}
+use Rattle.node.proofs.Clauses.{all-within}
+use Rattle.survey.proofs.Valid.{fails}
 
 none-stored : (cs : List Bool) → getD cs 0 true ≡ false → mayName cs 0 ≡ true
 unfolding mayName
@@ -58,27 +59,15 @@ module _ (L : Limits) (p k : ℕ) (own : Field → ℕ) (x : Stored) where
     unfolding firstClauses
     first-2 e = failing first 2 here (ne-eqb _ _ e)
 
-    pub first-3 : shellsWithin L p k own x ≡ false → mayName first 3 ≡ true
-    unfolding firstClauses shellWithin
-    first-3 e = failing first 3 here (rw e)
+    -- not all sums are within the limit
+    pub first-3 : (((f : Field) → Has p (suc k) f → own f + number x f ≤ fieldLimit L) → ⊥) → mayName first 3 ≡ true
+    unfolding firstClauses
+    first-3 none = failing first 3 here (fails _ (λ e. none (all-within L p k own x e)))
 
-    module _ (issued received : ℕ) (a : issued ≡ own allSent + number x allSent)
-        (b : received ≡ own allTaken + number x allTaken) where
-      pub first-totals : shellsWithin L p k own x ≡ true
-          → both (isWithin L issued) (isWithin L received) ≡ false → mayName first 3 ≡ true
-      unfolding firstClauses shellWithin
-      first-totals e f = failing first 3 here (rw (e, sym a, sym b) f)
-
-      pub first-4 : choose (eqb (suc k) p) (eqb issued received) true ≡ false → mayName first 4 ≡ true
-      unfolding firstClauses
-      first-4 e = failing first 4 here (rw (sym a, sym b) e)
-
-      pub first-agrees : own (sentIn k) ≡ number x (takenIn k) → own (takenIn k) ≡ number x (sentIn k)
-          → shellsWithin L p k own x ≡ true
-          → both (isWithin L issued) (isWithin L received) ≡ true
-          → choose (eqb (suc k) p) (eqb issued received) true ≡ true → allHold first ≡ true
-      unfolding firstClauses shellWithin
-      first-agrees c d e f g = rw (here, eq-eqb _ _ c, eq-eqb _ _ d, e, sym a, sym b, f, g)
+    pub first-4 : suc k ≡ p → (own allSent + number x allSent ≡ own allTaken + number x allTaken → ⊥)
+        → mayName first 4 ≡ true
+    unfolding firstClauses
+    first-4 e f = failing first 4 here (choose-yes _ _ (eq-eqb (suc k) p e) ∙ ne-eqb _ _ f)
 
 module _ (L : Limits) (p k issued agreed : ℕ) (x : Confirm) where
   abbrev second : List Bool

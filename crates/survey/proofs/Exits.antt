@@ -10,7 +10,7 @@ use Rattle.tree.specs.Lookups.{badBoard}
 use Rattle.node.specs.Sums.{dims, allTaken, own}
 use Rattle.node.specs.State.{boardOk, positionOk, talliesOk, totalOk, busyOk, valid}
 use Rattle.node.specs.declared.Node.{Node}
-use Rattle.survey.specs.Walk.{positionTest, busyTest, headTest, totalTest}
+use Rattle.survey.specs.Pieces.{positionTest, busyTest, headTest, totalTest}
 use Rattle.survey.proofs.Valid.{whole-valid, not-both, invalid}
 use Rattle.survey.proofs.Tested.{stepAt, steps-whole}
 

@@ -3,7 +3,7 @@ use mathlib.Core.Path.{_≡_, refl, sym, ap, _∙_}
 use mathlib.Core.Bool.{Bool, true, false, not}
 use mathlib.Core.Logic.{_⊎_, inl, inr, ⊎-elim}
 use mathlib.Core.Option.{Option, none, some}
-use Prim.Native.Nat.{ℕ, suc, _-_, _≤_, _<_}
+use Prim.Native.Nat.{ℕ, suc, _-_, _≤_, _<_, _+_}
 use native.Mathlib.Decide.{decLe, ℕ-discrete}
 use native.Mathlib.Omega.{arith}
 use lib.Dec.{ltb, eqb}
@@ -18,14 +18,13 @@ use Rattle.tree.proofs.Lookups.{board-good}
 use Rattle.tree.proofs.Halves.{alone-lowest}
 use Rattle.node.specs.Sums.{dims, Field, sentIn, takenIn, allSent, allTaken, number}
 use Rattle.node.specs.declared.Stored.{Stored}
-use Rattle.node.specs.Agree.{isNone, isAlone, firstClauses, agrees}
+use Rattle.node.specs.Agree.{isNone, isAlone, isWithin, firstClauses, agrees}
 use Rattle.node.specs.State.{boardOk, positionOk, passedOk, awaitsFrame}
 use Rattle.node.specs.declared.Node.{Node}
-use Rattle.node.proofs.Clauses.{Has as InFrame}
-use Rattle.survey.specs.Parts.{shellWithin, shellsWithin}
-use Rattle.survey.specs.Step.{awaitsAt, firstPast, secondPast}
+use Rattle.node.specs.Sums.{Has as InFrame}
+use Rattle.survey.specs.Pieces.{awaitsAt, firstPast, secondPast}
 use Rattle.survey.specs.declared.Spot.{Spot}
-use Rattle.survey.specs.Walk.{loneAnswer, lone, spotAt}
+use Rattle.survey.specs.Spots.{loneAnswer, lone, spotAt}
 
 abbrev pub spotOf : Limits → Node → Spot
 spotOf L n = spotAt L (dims n) (n .nodes) (n .number) (n .pass) (n .dim) (n .agreed)
@@ -79,14 +78,17 @@ awaits-same L n k ok = go (decLe (dims n) k)
 
 module _ (L : Limits) (p k : ℕ) (f g : Field → ℕ) (x : Stored) (l : k < p)
     (same : (h : Field) → InFrame p k h → f h ≡ g h) where
-  shells-same : shellsWithin L p k f x ≡ shellsWithin L p k g x
-  unfolding shellWithin
+  abbrev within : (Field → ℕ) → ℕ → Bool
+  within own m =
+      both (isWithin L (own (sentIn m) + number x (sentIn m))) (isWithin L (own (takenIn m) + number x (takenIn m)))
+
+  shells-same : every (suc k) (p - suc k) (within f) ≡ every (suc k) (p - suc k) (within g)
   shells-same =
-      every-same (suc k) (p - suc k) (shellWithin L f x) (shellWithin L g x)
+      every-same (suc k) (p - suc k) (within f) (within g)
       (λ m a b. rw (same (sentIn m) (omega arith, omega arith), same (takenIn m) (omega arith, omega arith)))
 
   pub clauses-same : firstClauses L p k f x ≡ firstClauses L p k g x
-  unfolding firstClauses shellWithin
+  unfolding firstClauses
   clauses-same =
       rw (same (sentIn k) (omega arith, l), same (takenIn k) (omega arith, l), same allSent tt, same allTaken tt, shells-same)
 

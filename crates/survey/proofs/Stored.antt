@@ -12,7 +12,7 @@ use Rattle.frame.proofs.RoundTripChecks.{number-low, number-absent}
 use Rattle.node.specs.Sums.{Field, sentIn, takenIn, allSent, allTaken, number}
 use Rattle.node.specs.declared.Stored.{Stored}
 use Rattle.node.specs.declared.Confirm.{Confirm}
-use Rattle.survey.specs.Step.{pairOk, shellOk, firstTest, secondTest}
+use Rattle.survey.specs.Pieces.{pairOk, shellOk, firstTest, secondTest}
 
 -- the fields that a state has room for
 abbrev pub Has : Field → Type 0

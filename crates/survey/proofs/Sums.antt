@@ -15,7 +15,7 @@ use Rattle.node.specs.Sums.{dims, firstAt, secondAt, Field, sentIn, takenIn, al
 use Rattle.node.specs.Sums.{own, ownIssued}
 use Rattle.node.specs.State.{talliesOk, firstOk, secondOk, awaitsFrame}
 use Rattle.node.specs.declared.Node.{Node}
-use Rattle.survey.specs.Step.{shellOk, firstTest, secondTest}
+use Rattle.survey.specs.Pieces.{shellOk, firstTest, secondTest}
 use Rattle.survey.proofs.Stored.{Has, first-low, first-same, second-low, second-same}
 use Rattle.survey.proofs.Lists.{total-has}
 

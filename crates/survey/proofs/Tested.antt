@@ -13,8 +13,8 @@ use Rattle.node.specs.Agree.{isAlone, allHold, clauses, agrees}
 use Rattle.node.specs.State.{boardOk, positionOk, talliesOk, totalOk, firstOk, secondOk, busyOk, awaitsFrame}
 use Rattle.node.specs.Change.{noFirst, noSecond}
 use Rattle.node.specs.declared.Node.{Node}
-use Rattle.survey.specs.Step.{shellOk, firstTest, secondTest, awaitsAt, firstPast, secondPast, firstHeld, secondHeld}
-use Rattle.survey.specs.Step.{stepTest}
+use Rattle.survey.specs.Pieces.{shellOk, firstTest, secondTest, awaitsAt, firstPast, secondPast, firstHeld, secondHeld}
+use Rattle.survey.specs.Pieces.{stepTest}
 use Rattle.survey.proofs.Valid.{Whole}
 use Rattle.survey.proofs.Sums.{first-test, second-test}
 use Rattle.survey.proofs.Steps.{spotOf, awaits-same, few, passed-first, passed-second, all-passed}

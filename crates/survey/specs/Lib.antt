@@ -1,4 +1,3 @@
 pub mod Verdict
-pub mod Parts
-pub mod Step
-pub mod Walk
+pub mod Spots
+pub mod Pieces

@@ -3,7 +3,8 @@ use mathlib.Core.Path.{_≡_}
 use mathlib.Core.Bool.{Bool}
 use mathlib.Core.List.{List, [], _∷_, _++_, append-assoc}
 use Prim.Native.Nat.{ℕ}
-use Rattle.text.specs.Text.{digits, bit, rowText, stopText}
+use Rattle.printing.specs.Put.{digits}
+use Rattle.text.specs.Text.{bit, rowText, stopText}
 
 abbrev pub field : ℕ → List ℕ
 field x = digits x ++ (32 ∷ [])

@@ -2,86 +2,18 @@
 // function answers where its text ends.
 ghost use mathlib.Core.Path.{_≡_};
 ghost use mathlib.Core.List.{[], _∷_, _++_};
-ghost use Prim.Native.Nat.{_+_, _%_};
-ghost use Rattle.text.specs.Text.{digits, bit, header, shownText, stopText, put, ends};
+ghost use Rattle.printing.specs.Put.{digits, put, ends};
+ghost use Rattle.text.specs.Text.{bit, header, shownText, stopText};
 
-// ---- Bytes
-
-fn put_byte(out: &mut [u8], at: usize, x: u8) -> usize
-    ensures memory { λ r. ⌜ now (out .exit) ≡ put (now (out .entry)) at (x ∷ []) ⌝ }
-    ensures place { λ r. ⌜ r ≡ ends (now (out .entry)) at (x ∷ []) ⌝ }
-{
-    let n = out.len();
-    if n <= at {
-        return n;
-    }
-    out[at] = x;
-    at + 1
-}
-
-fn put_bytes(out: &mut [u8], at: usize, s: &[u8]) -> usize
-    ensures memory { λ r. ⌜ now (out .exit) ≡ put (now (out .entry)) at (now (s .entry)) ⌝ }
-    ensures place { λ r. ⌜ r ≡ ends (now (out .entry)) at (now (s .entry)) ⌝ }
-{
-    let n = out.len();
-    if n <= at {
-        return n;
-    }
-    let mut next = at;
-    let mut i = 0;
-    while i < s.len() {
-        next = put_byte(&mut *out, next, s[i]);
-        i += 1;
-    }
-    next
-}
-
-// ---- Numbers and bits
-
-// The last digit of a number.
-fn digit(x: u32) -> u8
-    ensures { λ r. ⌜ r ≡ 48 + x % 10 ⌝ }
-{
-    48 + (x % 10) as u8
-}
-
-fn put_two(out: &mut [u8], at: usize, a: u8, b: u8) -> usize
-    ensures memory { λ r. ⌜ now (out .exit) ≡ put (now (out .entry)) at (a ∷ b ∷ []) ⌝ }
-    ensures place { λ r. ⌜ r ≡ ends (now (out .entry)) at (a ∷ b ∷ []) ⌝ }
-{
-    let next = put_byte(&mut *out, at, a);
-    put_byte(&mut *out, next, b)
-}
-
-fn put_digits(out: &mut [u8], at: usize, x: u32) -> usize
-    ensures memory { λ r. ⌜ now (out .exit) ≡ put (now (out .entry)) at (digits x) ⌝ }
-    ensures place { λ r. ⌜ r ≡ ends (now (out .entry)) at (digits x) ⌝ }
-{
-    let ones = digit(x);
-    if x < 10 {
-        return put_byte(out, at, ones);
-    }
-    let tens = digit(x / 10);
-    if x < 100 {
-        return put_two(out, at, tens, ones);
-    }
-    let hundreds = digit(x / 100);
-    if x < 1000 {
-        let next = put_byte(&mut *out, at, hundreds);
-        return put_two(&mut *out, next, tens, ones);
-    }
-    let thousands = digit(x / 1000);
-    let next = put_two(&mut *out, at, thousands, hundreds);
-    put_two(&mut *out, next, tens, ones)
-}
+// ---- Fields
 
 // A number and a blank.
 fn put_field(out: &mut [u8], at: usize, x: u32) -> usize
     ensures memory { λ r. ⌜ now (out .exit) ≡ put (now (out .entry)) at (digits x ++ (32 ∷ [])) ⌝ }
     ensures place { λ r. ⌜ r ≡ ends (now (out .entry)) at (digits x ++ (32 ∷ [])) ⌝ }
 {
-    let next = put_digits(&mut *out, at, x);
-    put_byte(&mut *out, next, b' ')
+    let next = printing::put_digits(&mut *out, at, x);
+    printing::put_byte(&mut *out, next, b' ')
 }
 
 fn bit_of(b: bool) -> u8
@@ -95,8 +27,8 @@ fn put_bits(out: &mut [u8], at: usize, a: bool, b: bool) -> usize
     ensures memory { λ r. ⌜ now (out .exit) ≡ put (now (out .entry)) at (bit a ∷ 32 ∷ bit b ∷ 10 ∷ []) ⌝ }
     ensures place { λ r. ⌜ r ≡ ends (now (out .entry)) at (bit a ∷ 32 ∷ bit b ∷ 10 ∷ []) ⌝ }
 {
-    let next = put_two(&mut *out, at, bit_of(a), b' ');
-    put_two(&mut *out, next, bit_of(b), b'\n')
+    let next = printing::put_two(&mut *out, at, bit_of(a), b' ');
+    printing::put_two(&mut *out, next, bit_of(b), b'\n')
 }
 
 // ---- Lines
@@ -106,7 +38,7 @@ pub fn put_header(out: &mut [u8], at: usize) -> usize
     ensures memory { λ r. ⌜ now (out .exit) ≡ put (now (out .entry)) at header ⌝ }
     ensures place { λ r. ⌜ r ≡ ends (now (out .entry)) at header ⌝ }
 {
-    put_bytes(out, at, b"node answer phase pass dim flag busy\n")
+    printing::put_bytes(out, at, b"node answer phase pass dim flag busy\n")
 }
 
 // What is printed of a node's state.
@@ -136,9 +68,9 @@ pub fn put_stop(out: &mut [u8], at: usize, why: u32, line: u32) -> usize
     ensures memory { λ r. ⌜ now (out .exit) ≡ put (now (out .entry)) at (stopText why line) ⌝ }
     ensures place { λ r. ⌜ r ≡ ends (now (out .entry)) at (stopText why line) ⌝ }
 {
-    let a = put_bytes(&mut *out, at, b"stop ");
-    let b = put_digits(&mut *out, a, why);
-    let c = put_bytes(&mut *out, b, b" at line ");
-    let d = put_digits(&mut *out, c, line);
-    put_byte(&mut *out, d, b'\n')
+    let a = printing::put_bytes(&mut *out, at, b"stop ");
+    let b = printing::put_digits(&mut *out, a, why);
+    let c = printing::put_bytes(&mut *out, b, b" at line ");
+    let d = printing::put_digits(&mut *out, c, line);
+    printing::put_byte(&mut *out, d, b'\n')
 }

@@ -15,11 +15,11 @@ use Rattle.node.proofs.Valid.{valid-known}
 use Rattle.node.proofs.Bound.{due-length}
 use Rattle.node.proofs.Ways.{CallWay, call-way}
 use Rattle.layout.specs.Held.{isWhole, unpacked}
-use Rattle.states.specs.On.{Kept, keep, stepOn, stepBytes, stepReplied}
+use Rattle.state_calls.specs.On.{Kept, keep, stepOn, stepBytes, stepReplied}
 use Rattle.states.specs.declared.State.{State}
-use Rattle.states.specs.declared.StepReply.{StepReply}
+use Rattle.state_calls.specs.declared.StepReply.{StepReply}
 use Rattle.items.specs.declared.Item.{Item}
-use Rattle.stage.specs.Frames.{placeSize}
+use Rattle.under_way.specs.Frames.{placeSize}
 use Rattle.stage.specs.Board.{stateAt, frameItem}
 use Rattle.stage.specs.declared.Stage.{Stage}
 use Rattle.turn_call.specs.Calling.{callActed, callActedBytes, callAct, callActBytes}

@@ -8,10 +8,10 @@ use Rattle.frame.specs.Frame.{frameBytes}
 use Rattle.node.specs.Sums.{dims}
 use Rattle.node.specs.Answers.{Barrier, sent, waits, moved, left, barred}
 use Rattle.node.specs.Barrier.{frameDue}
-use Rattle.states.specs.On.{Kept, stepOn}
+use Rattle.state_calls.specs.On.{Kept, stepOn}
 use Rattle.states.specs.declared.State.{State}
 use Rattle.items.specs.declared.Item.{Item}
-use Rattle.stage.specs.Frames.{placeSize, roomFor, framed}
+use Rattle.under_way.specs.Frames.{placeSize, roomFor, framed}
 use Rattle.stage.specs.Board.{stateAt, nodeAt, changed, frameItem, quiet, putOne}
 use Rattle.stage.specs.declared.Stage.{Stage}
 use Rattle.stage.specs.declared.Acted.{Acted}

@@ -8,10 +8,10 @@ use Rattle.node.specs.Barrier.{frameDue}
 use Rattle.node.specs.Answers.{Barrier, sent, waits, moved, left, barred, also}
 use Rattle.node.specs.declared.Node.{Node}
 use Rattle.node.specs.declared.Receivers.{Receivers}
-use Rattle.states.specs.On.{stepOn}
+use Rattle.state_calls.specs.On.{stepOn}
 use Rattle.states.specs.declared.State.{State}
 use Rattle.items.specs.declared.Item.{Item}
-use Rattle.stage.specs.Frames.{placeSize}
+use Rattle.under_way.specs.Frames.{placeSize}
 use Rattle.stage.specs.Board.{nodeAt}
 use Rattle.stage.specs.declared.Stage.{Stage}
 use Rattle.turn_call.specs.Calling.{frameActedBytes}

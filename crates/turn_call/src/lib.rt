@@ -6,8 +6,8 @@ ghost use mathlib.Core.List.{[], _∷_};
 ghost use Prim.Native.Nat.{_+_, _*_, _≤_, _<_};
 ghost use lib.ListN.{length};
 ghost use Rattle.layout.specs.Held.{unpacked};
-ghost use Rattle.states.specs.On.{stepReplied, stepOn};
-ghost use Rattle.stage.specs.Frames.{placeSize, framed};
+ghost use Rattle.state_calls.specs.On.{stepReplied, stepOn};
+ghost use Rattle.under_way.specs.Frames.{placeSize, framed};
 ghost use Rattle.stage.specs.Board.{stateAt};
 ghost use Rattle.turn_call.specs.Calling.{frameActed, callAct, callActBytes};
 ghost use Rattle.turn_call.specs.Pieces.{callSends, frameHeader, due, framesIn, toList};
@@ -17,15 +17,15 @@ use node::Extra;
 use node::Receivers;
 use stage::Acted;
 use stage::Stage;
+use state_calls::StepReply;
 use states::State;
-use states::StepReply;
 
 // What a barrier call answers with the 76 bytes of a place, before any place is written.
 fn tried(s: State) -> StepReply
     ensures { λ r. ⌜ stepReplied r ≡ stepOn s placeSize ⌝ }
 {
     let mut scratch = [0u8; 76];
-    states::step(s, &mut scratch)
+    state_calls::step(s, &mut scratch)
 }
 
 // Writes the frame that is due at a place: the 76 bytes there are lent on.
@@ -35,7 +35,7 @@ fn write_at(s: State, place: usize, bytes: &mut [u8])
 {
     let a = 76 * place;
     let e = a + 76;
-    states::step(s, &mut bytes[a..e]);
+    state_calls::step(s, &mut bytes[a..e]);
 }
 
 // The header of a frame.
@@ -58,7 +58,7 @@ fn one_frame(st: Stage, a: u32, b: u8, after: State, headers: usize, bytes: &mut
     ensures memory { λ r. ⌜ now (bytes .exit) ≡ framesIn st headers (now (bytes .entry)) a (b ∷ []) ⌝ }
 {
     let under = st.under;
-    if stage::room_for(headers, bytes.len()) <= under {
+    if under_way::room_for(headers, bytes.len()) <= under {
         return stage::quiet(under, headers, st, a, 15);
     }
     let n = stage::state_at(st, a);
@@ -86,7 +86,7 @@ fn two_frames(
     ensures memory { λ r. ⌜ now (bytes .exit) ≡ framesIn st headers (now (bytes .entry)) a (b ∷ c ∷ []) ⌝ }
 {
     let under = st.under;
-    let room = stage::room_for(headers, bytes.len());
+    let room = under_way::room_for(headers, bytes.len());
     if room <= under {
         return stage::quiet(under, headers, st, a, 15);
     }

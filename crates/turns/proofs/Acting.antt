@@ -9,17 +9,18 @@ use Rattle.base.specs.Limits.{base}
 use Rattle.base.proofs.Laws.{choose-yes, choose-no, both-true}
 use Rattle.tree.specs.Lookups.{badBoard}
 use Rattle.node.specs.Answers.{Outcome, outcomeNumber}
-use Rattle.node.specs.Calls.{send, idle}
-use Rattle.states.specs.On.{Kept, onState}
+use Rattle.node.specs.Calls.{idle}
+use Rattle.state_calls.specs.On.{Kept, onState}
 use Rattle.script.specs.declared.Line.the-variants.{Nodes, Sends, Delivers, Idles, Calls, Bad}
 use Rattle.items.specs.Places.{noItem}
 use Rattle.items.specs.declared.Item.{Item}
-use Rattle.stage.specs.Frames.{roomFor, closed}
+use Rattle.under_way.specs.Frames.{roomFor, closed}
 use Rattle.stage.specs.Board.{stateAt, changed, isThere, quiet}
 use Rattle.stage.specs.declared.Stage.{Stage}
 use Rattle.stage.specs.declared.Acted.{Acted}
+use Rattle.turn_send.specs.Sending.{sendAct}
 use Rattle.turn_call.specs.Calling.{callAct, callActBytes}
-use Rattle.turns.specs.Acts.{takeOff, sendActed, itemCall, acted, actedBytes}
+use Rattle.turns.specs.Acts.{takeOff, itemCall, acted, actedBytes}
 
 -- no header is put and none goes, save this one
 pub one-off : (st : Stage) (headers : ℕ) (bytes : List ℕ) (after : Stage) (actor answer at : ℕ) (q : Acted)
@@ -60,7 +61,7 @@ module _ (st : Stage) (headers : ℕ) (bytes : List ℕ) (at : ℕ) (it : Item) 
 
   -- the place and the item are a delivery's; idle needs no bytes, and neither it nor work sent writes any
   pub send-any : (a b : ℕ)
-      → (acted st headers bytes (Sends a b) 0 noItem ≡ acted st headers bytes (Sends a b) at it)
+      → (sendAct st headers bytes a b ≡ acted st headers bytes (Sends a b) at it)
       × (bytes ≡ actedBytes st headers bytes (Sends a b) at it)
   unfolding acted actedBytes
   send-any a b = (refl, refl)
@@ -76,11 +77,6 @@ module _ (st : Stage) (headers : ℕ) (bytes : List ℕ) (at : ℕ) (it : Item) 
       × (callActBytes st headers bytes a ≡ actedBytes st headers bytes (Calls a) at it)
   unfolding acted actedBytes
   call-any a = (refl, refl)
-
-  pub send-by : (a b : ℕ) (r : Kept Outcome) → onState (λ n. send base n b) (stateAt st a) ≡ r
-      → acted st headers bytes (Sends a b) at it ≡ sendActed st headers bytes a b r (r .answer)
-  unfolding acted
-  send-by a b r e = ap (λ g. sendActed st headers bytes a b g (g .answer)) e
 
   pub idle-by : (a : ℕ) (r : Kept Outcome) → onState (idle base) (stateAt st a) ≡ r
       → acted st headers bytes (Idles a) at it

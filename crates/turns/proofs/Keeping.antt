@@ -9,7 +9,7 @@ use lib.ListN.{length, set, length-set}
 use borrow.Author.Tests.{ltb-true}
 use Rattle.base.specs.Limits.{base}
 use Rattle.base.proofs.Laws.{cases}
-use Rattle.states.specs.On.{Kept, onState, stepOn}
+use Rattle.state_calls.specs.On.{Kept, onState, stepOn}
 use Rattle.states.specs.declared.State.{State}
 use Rattle.node.specs.Answers.{Outcome, done, dropped, refused, outcomeNumber}
 use Rattle.node.specs.Answers.{Barrier, sent, waits, moved, left, barred}
@@ -18,12 +18,13 @@ use Rattle.script.specs.declared.Line.{Line}
 use Rattle.script.specs.declared.Line.the-variants.{Nodes, Sends, Delivers, Idles, Calls, Bad}
 use Rattle.items.specs.Places.{removed}
 use Rattle.items.specs.declared.Item.{Item}
-use Rattle.stage.specs.Frames.{placeSize, roomFor}
+use Rattle.under_way.specs.Frames.{placeSize, roomFor}
 use Rattle.stage.specs.Board.{isThere, stateAt}
 use Rattle.stage.specs.declared.Stage.{Stage}
 use Rattle.stage.specs.declared.Acted.{Acted}
 use Rattle.turn_call.specs.Calling.{frameActed, callActed, callAct}
-use Rattle.turns.specs.Acts.{sendActed, deliverActed, itemCall, acted, actedItems}
+use Rattle.turn_send.specs.Sending.{sendActed}
+use Rattle.turns.specs.Acts.{deliverActed, itemCall, acted, actedItems}
 use Rattle.turns.proofs.Turning.{length-moved}
 
 one-more : (under room : ℕ) → ltb under room ≡ true → under + 1 ≤ room

@@ -1,4 +1,3 @@
-pub mod Known
 pub mod Acting
 pub mod Turning
 pub mod Keeping

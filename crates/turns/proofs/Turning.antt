@@ -14,7 +14,7 @@ use Rattle.base.specs.Choice.{choose}
 use Rattle.base.specs.Limits.{base}
 use Rattle.base.proofs.Laws.{choose-yes, choose-no, cases}
 use Rattle.tree.specs.Lookups.{badBoard}
-use Rattle.states.specs.On.{Kept, onState, stepOn}
+use Rattle.state_calls.specs.On.{Kept, onState, stepOn}
 use Rattle.states.specs.declared.State.{State}
 use Rattle.node.specs.Answers.{Outcome, done, dropped, refused, outcomeNumber}
 use Rattle.node.specs.Answers.{Barrier, sent, waits, moved, left, barred}
@@ -22,7 +22,7 @@ use Rattle.node.specs.Calls.{send}
 use Rattle.script.specs.declared.Line.the-variants.{Sends, Delivers, Idles, Calls}
 use Rattle.items.specs.Places.{noItem, onLink, placeFrom, oldestAt, moved as movedDown, removed}
 use Rattle.items.specs.declared.Item.{Item}
-use Rattle.stage.specs.Frames.{placeSize, roomFor, closed}
+use Rattle.under_way.specs.Frames.{placeSize, roomFor, closed}
 use Rattle.stage.specs.Board.{isThere, nodeAt, stateAt, quiet, putOne}
 use Rattle.stage.specs.declared.Stage.{Stage}
 use Rattle.stage.specs.declared.Acted.{Acted}
@@ -32,7 +32,8 @@ use Rattle.turn_call.specs.Calling.{callActBytes}
 use Rattle.turn_call.specs.Pieces.{due}
 use Rattle.turns.specs.Events.{Turn, unchanged, sentBy, framedTo, calledBy, deliveredAt, called}
 use Rattle.turns.specs.Events.{sendTurn, idleTurn, callTurn, deliverTurn}
-use Rattle.turns.specs.Acts.{takeOff, sendActed, deliverActed, acted, actedBytes, actedItems}
+use Rattle.turn_send.specs.Sending.{sendActed}
+use Rattle.turns.specs.Acts.{takeOff, deliverActed, acted, actedBytes, actedItems}
 
 -- ---- the headers
 

@@ -1,22 +1,23 @@
 -- What the function for a line answers: the headers are not handed to it, only how many are lent, and for a delivery
 -- the place of the oldest item of the link and that item.
 use mathlib.Core.List.{List}
-use Prim.Native.Nat.{ℕ, _+_, _-_}
-use lib.Dec.{ltb, eqb}
+use Prim.Native.Nat.{ℕ, _-_}
+use lib.Dec.{eqb}
 use lib.ListN.{set}
 use Rattle.base.specs.Choice.{choose}
 use Rattle.base.specs.Limits.{base}
-use Rattle.node.specs.Answers.{Outcome, done, dropped, refused, outcomeNumber}
-use Rattle.node.specs.Calls.{send, take as takeCall, idle, frameIn}
-use Rattle.states.specs.On.{Kept, onState}
+use Rattle.node.specs.Answers.{Outcome, outcomeNumber}
+use Rattle.node.specs.Calls.{take as takeCall, idle, frameIn}
+use Rattle.state_calls.specs.On.{Kept, onState}
 use Rattle.script.specs.declared.Line.{Line}
 use Rattle.script.specs.declared.Line.the-variants.{Nodes, Sends, Delivers, Idles, Calls, Bad}
 use Rattle.items.specs.Places.{noItem, removed}
 use Rattle.items.specs.declared.Item.{Item}
-use Rattle.stage.specs.Frames.{roomFor, closed, frameHeld}
-use Rattle.stage.specs.Board.{stateAt, nodeAt, changed, workItem, isThere, quiet, putOne}
+use Rattle.under_way.specs.Frames.{closed, frameHeld}
+use Rattle.stage.specs.Board.{stateAt, changed, isThere, quiet}
 use Rattle.stage.specs.declared.Stage.{Stage}
 use Rattle.stage.specs.declared.Acted.{Acted}
+use Rattle.turn_send.specs.Sending.{sendAct}
 use Rattle.turn_call.specs.Calling.{callAct, callActBytes}
 
 module _ (st : Stage) (headers : ℕ) (bytes : List ℕ) where
@@ -34,14 +35,6 @@ module _ (st : Stage) (headers : ℕ) (bytes : List ℕ) where
         second = noItem;
       }
 
-  abbrev pub sendActed : ℕ → ℕ → Kept Outcome → Outcome → Acted
-  sendActed a b r done =
-      choose (ltb (st .under) (roomFor headers bytes))
-      (putOne st headers (changed st a (r .state) (st .under + 1)) a 0 (workItem a b (nodeAt st a)))
-      (quiet st headers st a 15)
-  sendActed a b r dropped = quiet st headers st a 24
-  sendActed a b r (refused x) = quiet st headers st a x
-
   -- the call at b for an item at a place
   abbrev pub itemCall : ℕ → ℕ → ℕ → Item → Kept Outcome
   itemCall a b at it =
@@ -54,7 +47,7 @@ module _ (st : Stage) (headers : ℕ) (bytes : List ℕ) where
 
   unfoldable pub acted : Line → ℕ → Item → Acted
   acted (Nodes P) at it = quiet st headers st 0 17
-  acted (Sends a b) at it = let r = onState (λ n. send base n b) (stateAt st a) in sendActed a b r (r .answer)
+  acted (Sends a b) at it = sendAct st headers bytes a b
   acted (Delivers a b) at it =
       let r = itemCall a b at it in
       choose (isThere st headers bytes at) (deliverActed b at r (outcomeNumber (r .answer))) (quiet st headers st b 16)

@@ -12,11 +12,11 @@ use Rattle.node.specs.Answers.{Outcome, done, dropped, refused, outcomeNumber}
 use Rattle.node.specs.Answers.{Barrier, sent, waits, moved, left, barred}
 use Rattle.node.specs.Calls.{send, take as takeCall, idle, frameIn}
 use Rattle.node.specs.Barrier.{frameDue}
-use Rattle.states.specs.On.{Kept, onState, stepOn}
+use Rattle.state_calls.specs.On.{Kept, onState, stepOn}
 use Rattle.states.specs.declared.State.{State}
 use Rattle.items.specs.Places.{noItem, oldestAt, removed}
 use Rattle.items.specs.declared.Item.{Item}
-use Rattle.stage.specs.Frames.{placeSize, roomFor, closed, framed, frameHeld}
+use Rattle.under_way.specs.Frames.{placeSize, roomFor, closed, framed, frameHeld}
 use Rattle.stage.specs.Board.{stateAt, nodeAt, changed, workItem, frameItem}
 use Rattle.stage.specs.declared.Stage.{Stage}
 

@@ -2,81 +2,36 @@
 // Any board, line, numbers and bytes may be handed.
 ghost use mathlib.Core.Path.{_≡_};
 ghost use mathlib.Core.Bool.{false};
-ghost use mathlib.Core.List.{List, []};
-ghost use Prim.Native.Nat.{ℕ, _+_, _*_, _≤_};
+ghost use mathlib.Core.List.{[]};
+ghost use Prim.Native.Nat.{_+_, _*_, _≤_};
 ghost use lib.ListN.{length};
 ghost use Rattle.base.specs.Limits.{base};
 ghost use Rattle.tree.specs.Lookups.{badBoard};
-ghost use Rattle.node.specs.Answers.{outcomeOf, outcomeNumber};
 ghost use Rattle.node.specs.Calls.{frameIn};
-ghost use Rattle.states.specs.On.{replied, onState};
-ghost use Rattle.script.specs.declared.Line.the-variants.{Sends, Delivers, Idles};
+ghost use Rattle.state_calls.specs.On.{replied, onState};
+ghost use Rattle.script.specs.declared.Line.the-variants.{Delivers, Idles};
 ghost use Rattle.items.specs.Places.{noItem};
-ghost use Rattle.stage.specs.Frames.{placeSize, roomFor, frameHeld};
+ghost use Rattle.under_way.specs.Frames.{placeSize, frameHeld};
 ghost use Rattle.turns.specs.Acts.{itemCall, acted, actedBytes};
 use items::Item;
-use node::Answer;
 use script::Line;
 use stage::Acted;
 use stage::Stage;
-use states::Reply;
+use state_calls::Reply;
 use states::State;
 
-// ---- Answers
-
-// The number of an answer.
-fn number_of(answer: Answer) -> u32
-    ensures { λ r. ⌜ r ≡ outcomeNumber (outcomeOf answer) ⌝ }
-{
-    match answer {
-        Answer::Done => 0,
-        Answer::Dropped => 24,
-        Answer::Refused(x) => x as u32,
-    }
-}
-
-// ---- s and i
-
-fn send_act(st: Stage, a: u32, b: u32, headers: usize, room: usize) -> Acted
-    ensures { λ r. ⌜ ((bs : List ℕ) → room ≡ roomFor headers bs → r ≡ acted st headers bs (Sends a b) 0 noItem) ⌝ }
-{
-    let under = st.under;
-    let n = stage::state_at(st, a);
-    let r = states::send_to(n, b);
-    let answer = r.answer;
-    match answer {
-        Answer::Done => {
-            if room <= under {
-                return stage::quiet(under, headers, st, a, 15);
-            }
-            let m = r.state;
-            let after = stage::with_state(st, a, m, under + 1);
-            let it = Item {
-                from: a as u8,
-                to: b as u8,
-                kind: 0,
-                phase: states::phase_of(n),
-            };
-            let mut acted = stage::quiet(under, headers, after, a, 0);
-            acted.at = under;
-            acted.first = it;
-            acted
-        }
-        Answer::Dropped => stage::quiet(under, headers, st, a, 24),
-        Answer::Refused(x) => stage::quiet(under, headers, st, a, x as u32),
-    }
-}
+// ---- i
 
 fn idle_act(st: Stage, a: u32, headers: usize) -> Acted
     ensures { λ r. ⌜ r ≡ acted st headers [] (Idles a) 0 noItem ⌝ }
 {
     let under = st.under;
     let n = stage::state_at(st, a);
-    let r = states::go_idle(n);
+    let r = state_calls::go_idle(n);
     let m = r.state;
     let answer = r.answer;
     let after = stage::with_state(st, a, m, under);
-    stage::quiet(under, headers, after, a, number_of(answer))
+    stage::quiet(under, headers, after, a, answers::number_of(answer))
 }
 
 // ---- d
@@ -87,8 +42,8 @@ fn frame_call(s: State, size: u32, at: usize, bytes: &[u8]) -> Reply
     ensures { λ r. ⌜ replied r ≡ onState (λ n. frameIn base n (frameHeld size (now (bytes .entry)) at)) s ⌝ }
 {
     let a = 76 * at;
-    let e = a + stage::stated_on(size, bytes[a], bytes[a + 2]);
-    states::frame_in(s, &bytes[a..e])
+    let e = a + under_way::stated_on(size, bytes[a], bytes[a + 2]);
+    state_calls::frame_in(s, &bytes[a..e])
 }
 
 // The call at b for an item at a place.
@@ -98,7 +53,7 @@ fn item_call(st: Stage, a: u32, b: u32, at: usize, it: Item, bytes: &[u8]) -> Re
 {
     let n = stage::state_at(st, b);
     if it.kind == 0 {
-        return states::take_from(n, a, it.phase);
+        return state_calls::take_from(n, a, it.phase);
     }
     frame_call(n, st.size, at, bytes)
 }
@@ -122,11 +77,11 @@ fn deliver_act(
     let r = item_call(st, a, b, at, it, &bytes[..]);
     let m = r.state;
     let answer = r.answer;
-    let x = number_of(answer);
+    let x = answers::number_of(answer);
     if x == 7 {
         return stage::quiet(under, headers, st, b, 7);
     }
-    stage::close_gap(&mut *bytes, under, at);
+    under_way::close_gap(&mut *bytes, under, at);
     let after = stage::with_state(st, b, m, under - 1);
     let mut acted = stage::quiet(under, headers, after, b, x);
     acted.gone = at;
@@ -143,7 +98,13 @@ pub fn act(st: Stage, line: Line, at: usize, it: Item, headers: usize, bytes: &m
     let under = st.under;
     match line {
         Line::Nodes(p) => stage::quiet(under, headers, st, 0, 17),
-        Line::Sends(a, b) => send_act(st, a, b, headers, stage::room_for(headers, bytes.len())),
+        Line::Sends(a, b) => turn_send::send_act(
+            st,
+            a,
+            b,
+            headers,
+            under_way::room_for(headers, bytes.len()),
+        ),
         Line::Delivers(a, b) => deliver_act(st, a, b, at, it, headers, bytes),
         Line::Idles(a) => idle_act(st, a, headers),
         Line::Calls(a) => turn_call::call_act(st, a, headers, bytes),

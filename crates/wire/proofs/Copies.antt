@@ -1,55 +1,18 @@
--- Laws of copies number by number: of a frame's numbers into words, and of words into bytes.
+-- Laws of words put into bytes, number by number.
 use mathlib.Core.Path.{_≡_, sym, ap, _∙_}
-use mathlib.Core.List.{List, [], _∷_, _++_, append-assoc, append-nil}
-use Prim.Native.Nat.{ℕ, suc, _+_, _-_, _*_, _≤_, _<_}
-use native.Mathlib.Nat.{zero-add}
+use mathlib.Core.List.{List}
+use Prim.Native.Nat.{ℕ, _+_, _-_, _*_, _≤_, _<_}
 use native.Mathlib.Numerals.{add-one}
 use native.Mathlib.Omega.{arith}
-use lib.ListN.{length, getD, set, take, drop, length-drop}
-use lib.Seq.{take-suc, drop-cons, set-at, take-length, drop-length, length-take-le}
+use lib.ListN.{length, getD, take}
+use lib.Seq.{take-suc, take-length, length-take-le}
 use borrow.Author.Tests.{le-leb, lt-leb}
-use Rattle.base.specs.Choice.{list}
-use Rattle.base.proofs.Laws.{choose-yes, choose-no, length-list, list-more}
+use Rattle.base.proofs.Laws.{choose-yes, choose-no}
 use Rattle.frame.specs.Numbers.{fourBytes, bytesOf}
-use Rattle.frame.specs.Frame.{numberAt}
 use Rattle.frame.specs.Parts.{pasted}
 use Rattle.frame.proofs.Words.{length-fourBytes, length-bytesOf, bytesOf-more}
 use Rattle.frame.proofs.Pasting.{paste-none, paste-more}
-use Rattle.wire.specs.Wire.{numbersFrom, putNumbers, part}
-
--- ---- numbers into words
-
--- one number more is copied
-pub copy-more : (g : ℕ → ℕ) (ws l : List ℕ) (i : ℕ) → i < length ws → l ≡ list 0 i g ++ drop i ws
-    → set l i (g i) ≡ list 0 (i + 1) g ++ drop (i + 1) ws
-copy-more g ws l i h e =
-    let z : 0 + i ≡ i = zero-add i in
-    let w : list 0 (i + 1) g ≡ list 0 i g ++ (g i ∷ []) = list-more 0 i g ∙ rw z in
-    rw (e, w, append-assoc (list 0 i g) (g i ∷ []) (drop (i + 1) ws), drop-cons ws i 0 h, add-one)
-    (set-at (list 0 i g) (getD ws i 0) (drop (suc i) ws) (g i) i (length-list 0 i g))
-
--- all are
-copy-all : (g : ℕ → ℕ) (ws l : List ℕ) (i : ℕ) → i ≡ length ws → l ≡ list 0 i g ++ drop i ws
-    → l ≡ list 0 (length ws) g
-copy-all g ws l i h e = e ∙ rw (h, drop-length, append-nil)
-
--- none are, or all
-pub copy-no : (bs ws : List ℕ) → length bs < 4 + 4 * length ws → ws ≡ numbersFrom bs ws
-copy-no bs ws h = sym (choose-no _ _ (lt-leb (4 + 4 * length ws) (length bs) h))
-
-pub copy-yes : (bs ws l : List ℕ) (i : ℕ) → i ≡ length ws → 4 + 4 * length ws ≤ length bs
-    → l ≡ list 0 i (numberAt bs) ++ drop i ws → l ≡ numbersFrom bs ws
-copy-yes bs ws l i h r e =
-    copy-all (numberAt bs) ws l i h e ∙ sym (choose-yes _ _ (le-leb (4 + 4 * length ws) (length bs) r))
-
--- a part of words that got numbers
-pub part-copied : (bs ws ys : List ℕ) (at n : ℕ) → at + n ≤ length ws → 4 + 4 * n ≤ length bs
-    → ys ≡ numbersFrom bs (part ws at n) → ys ≡ list 0 n (numberAt bs)
-part-copied bs ws ys at n h r e =
-    let c : length (part ws at n) ≡ n = length-take-le n (drop at ws) (simp length-drop (omega arith)) in
-    e ∙ choose-yes _ _ (le-leb (4 + 4 * length (part ws at n)) (length bs) (rw c r)) ∙ rw c
-
--- ---- words into bytes
+use Rattle.wire.specs.Wire.{putNumbers}
 
 pub put-none : (d ws : List ℕ) (at : ℕ) → d ≡ pasted d at (bytesOf (take 0 ws))
 unfolding bytesOf

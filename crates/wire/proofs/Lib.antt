@@ -1,3 +1,2 @@
 pub mod Copies
-pub mod Within
 pub mod Putting

@@ -1,16 +1,11 @@
--- Frames in lent bytes: their numbers copied from there into lent words and back.
+-- Frames put into lent bytes.
 use mathlib.Core.List.{List}
 use Prim.Native.Nat.{ℕ, _+_, _*_}
 use lib.Dec.{leb}
 use lib.ListN.{length, take, drop}
-use Rattle.base.specs.Choice.{choose, list}
+use Rattle.base.specs.Choice.{choose}
 use Rattle.frame.specs.Numbers.{bytesOf}
-use Rattle.frame.specs.Frame.{numberAt}
 use Rattle.frame.specs.Parts.{pasted}
-
--- as many numbers of a frame as there are words; the words stay where the bytes have fewer
-abbrev pub numbersFrom : List ℕ → List ℕ → List ℕ
-numbersFrom bs ws = choose (leb (4 + 4 * length ws) (length bs)) (list 0 (length ws) (numberAt bs)) ws
 
 -- bytes with others from a place on; they stay where there is no room
 abbrev pub putAt : List ℕ → ℕ → List ℕ → List ℕ

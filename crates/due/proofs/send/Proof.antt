@@ -91,5 +91,5 @@ returns-3 c =
 pub send-spec : {M : Type 1} → statement M
 send-spec =
     tie.close
-    (tie.spec returns (λ c κs. search needs) (λ c. search needs) whom-due-requires (λ c. search needs) (λ c κs. search
+    (tie.spec (λ c. search needs) returns (λ c κs. search needs) (λ c. search needs) whom-due-requires (λ c. search needs) (λ c κs. search
     needs) (λ c κs. search needs) (λ c. search needs) returns-2 (λ c. search needs) (λ c κs. search needs) returns-3)

@@ -2,14 +2,14 @@
 use borrow.Author.Needs.{needs}
 use native.Mathlib.Omega.{arith}
 use mathlib.Core.Path.{refl, ap, _∙_}
-use mathlib.Core.List.{List, [], _∷_, _++_}
+use mathlib.Core.List.{List, _++_}
 use Prim.Native.Nat.{ℕ, _+_, _-_, _*_}
 use denote.Ref.{now}
 use lib.ListN.{getD, length-append}
 use Rattle.wire.specs.Wire.{putNumbers}
 use Rattle.wire.proofs.Putting.{one-put, next-put}
-use Rattle.fields.specs.Fields.{atPhase, atDim, atSender, atIssued, atAgreed, atSent, atTaken}
-use Rattle.fields.specs.Pieces.{between, firstNumbers}
+use Rattle.field_words.specs.Words.{atDim, atIssued, atAgreed, atSent, atTaken}
+use Rattle.fields.specs.Pieces.{between, headWith, firstNumbers}
 use Rattle.fields.proofs.Bytes.{put-no, put-yes, length-between, length-first}
 use Rattle.fields.proofs.put_first.Statement.{statement}
 use Rattle.fields.proofs.put_first.Tie as tie
@@ -24,16 +24,16 @@ returns c =
 returns-2 : tie.Need-returns-2
 returns-2 c =
     let t = c .before .before in
-    let u = t .before .before .before .before .before in
-    let v = u .before .before .before .before .before in
-    let h = v .before .before .before .before .before in
-    let e = h .before .before .before .before in
+    let u = t .before .before .before .before in
+    let v = u .before .before .before .before in
+    let h = v .before .before .before .before in
+    let e = h .before .before in
     let s = e .before .before .before .before in
     let p = s .args .p in
     let ws = now (s .args .fields) in
     let buf = now (s .args .buf) in
     let k : ℕ = getD ws atDim 0 in
-    let head : List ℕ = 1 ∷ getD ws atPhase 0 ∷ k ∷ getD ws atSender 0 ∷ [] in
+    let head = headWith 1 ws in
     let xs : List ℕ = between ws (atSent k) (atSent p) in
     let ys : List ℕ = between ws (atTaken k) (atTaken p) in
     let zs : List ℕ = between ws atIssued atAgreed in
@@ -43,11 +43,11 @@ returns-2 c =
     let lz = length-between ws (s .pre .0) atIssued atAgreed (omega arith) (omega arith) in
     let g = e .if1 .left in
     put-yes ws buf 1 (firstNumbers p ws) (12 + 2 * (4 * (p - k))) _ (omega (arith, n)) g
-    (t .put-numbers3 .ensures
+    (t .put-between3 .ensures
     ∙ next-put buf head refl _ (xs ++ ys) zs _
-    (u .put-numbers2 .ensures
+    (u .put-between2 .ensures
     ∙ next-put buf head refl _ xs ys _
-    (v .put-numbers .ensures
+    (v .put-between .ensures
     ∙ ap (λ l. putNumbers l 4 xs) (h .put-head .ensures)
     ∙ one-put buf head refl xs (omega (arith, lx, g)))
     (omega (arith, lx)) (omega (arith, lx, ly, g)))
@@ -56,10 +56,4 @@ returns-2 c =
 pub put-first-spec : {M : Type 1} → statement M
 put-first-spec =
     tie.close
-    (tie.spec (λ c. search needs) (λ c. search needs) (λ c. search needs) (λ c. search needs) (λ c. search needs)
-    (λ c. search needs) returns (λ c. search needs) (λ c. search needs) (λ c. search needs) (λ c. search needs)
-    (λ c. search needs) (λ c. search needs) (λ c κs. search needs) (λ c. search needs) (λ c. search needs)
-    (λ c. search needs) (λ c. search needs) (λ c. search needs) (λ c. search needs) (λ c κs. search needs)
-    (λ c. search needs) (λ c. search needs) (λ c. search needs) (λ c. search needs) (λ c. search needs)
-    (λ c. search needs) (λ c. search needs) (λ c κs. search needs) (λ c. search needs) (λ c. search needs)
-    (λ c. search needs) (λ c. search needs) (λ c. search needs) (λ c κs. search needs) (λ c. search needs) returns-2)
+    (tie.spec (λ c. search needs) (λ c. search needs) (λ c. search needs) (λ c. search needs) (λ c. search needs) (λ c. search needs) returns (λ c. search needs) (λ c κs. search needs) (λ c. search needs) (λ c. search needs) (λ c κs. search needs) (λ c. search needs) (λ c. search needs) (λ c. search needs) (λ c κs. search needs) (λ c. search needs) (λ c. search needs) (λ c κs. search needs) (λ c. search needs) returns-2)

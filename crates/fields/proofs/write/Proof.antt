@@ -15,8 +15,8 @@ use Rattle.tree.specs.Lookups.{badBoard, foundAnswer}
 use Rattle.tree.proofs.Lookups.{dimension-refused, dimension-found, board-good}
 use Rattle.frame.specs.Frame.{badStep, numbersOk}
 use Rattle.frame.proofs.RoundTripChecks.{step-known}
-use Rattle.wire.proofs.Within.{few}
-use Rattle.fields.specs.Fields.{atPass, atDim, frameFrom}
+use Rattle.wire_read.proofs.Within.{few}
+use Rattle.field_words.specs.Words.{atPass, atDim, frameFrom}
 use Rattle.fields.proofs.Bytes.{wrote-board, wrote-phase, wrote-step, wrote-numbers, wrote-stranger, wrote-frame}
 use Rattle.fields.proofs.write.Statement.{statement}
 use Rattle.fields.proofs.write.Tie as tie

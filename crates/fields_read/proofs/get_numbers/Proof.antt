@@ -2,8 +2,8 @@
 use borrow.Author.Needs.{needs}
 use mathlib.Core.Path.{sym, ap, _∙_}
 use denote.Ref.{now}
-use Rattle.wire.proofs.Within.{fields-first, fields-second}
-use Rattle.fields.specs.Fields.{fieldWords}
+use Rattle.wire_read.proofs.Within.{fields-first, fields-second}
+use Rattle.field_words.specs.Words.{fieldWords}
 use Rattle.fields_read.specs.Pieces.{dimsBy}
 use Rattle.fields_read.proofs.get_numbers.Statement.{statement}
 use Rattle.fields_read.proofs.get_numbers.Tie as tie

@@ -11,6 +11,7 @@ use Rattle.base.proofs.Laws.{clash}
 use Rattle.base.proofs.Limits.{fits-of}
 use Rattle.tree.specs.Lookups.{badBoard, foundAnswer}
 use Rattle.tree.proofs.Lookups.{dimension-refused, dimension-found}
+use Rattle.layout.specs.Places.{atNodes}
 use Rattle.layout.specs.Places.{stateWords}
 use Rattle.layout.specs.Held.{word, dimsOf}
 use Rattle.layout.proofs.Whole.{few}
@@ -53,7 +54,7 @@ module _ (k : tie.After-known-told) where
   abbrev p : ℕ
   p = k .before .p .given .0 .0
 
-  known : (badBoard (L s) (word (ws s) 0) ≡ false) × (p ≡ dimsOf (ws s))
+  known : (badBoard (L s) (word (ws s) atNodes) ≡ false) × (p ≡ dimsOf (ws s))
   known = dimension-found (L s) _ _ (sym (d .dimension-for .ensures) ∙ ap foundAnswer (k .before .p .given .1))
 
   low : p ≤ 8

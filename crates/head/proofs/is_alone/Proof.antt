@@ -4,7 +4,7 @@ use mathlib.Core.Path.{_≡_, sym, ap, _∙_}
 use Rattle.base.specs.Limits.{limitsOf}
 use Rattle.tree.specs.Lookups.{placedAnswer}
 use Rattle.tree.specs.declared.Placed.{Placed}
-use Rattle.survey.specs.Walk.{loneAnswer, lone}
+use Rattle.survey.specs.Spots.{loneAnswer, lone}
 use Rattle.head.proofs.is_alone.Statement.{statement}
 use Rattle.head.proofs.is_alone.Tie as tie
 

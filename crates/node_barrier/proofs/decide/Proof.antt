@@ -17,13 +17,14 @@ use Rattle.due.specs.declared.Sending.{Sending}
 use Rattle.node_barrier.specs.Pieces.{Lent}
 use Rattle.node_barrier.proofs.Due.{Known, due-known}
 use Rattle.node_barrier.proofs.Turning.{turns-same, short, sends, looks}
+use Rattle.layout.specs.Places.{atDim}
 use Rattle.node_barrier.proofs.decide.Statement.{statement}
 use Rattle.node_barrier.proofs.decide.Tie as tie
 
 -- what is handed, and what came of sending
 module _ (d : tie.After-send) where
   abbrev s : tie.Start
-  s = d .before .before .before .before .before
+  s = d .before .before .before .before .before .before
 
   abbrev L : Limits
   L = limitsOf (s .args .b)
@@ -69,40 +70,48 @@ returns : tie.Need-returns
 returns c =
     let m = c .before in
     let d = m .before .before .before .before in
-    let k = known d (m .sending .given .1) in
-    turns-same (L d) (n d) (buf d) (wrote d _ (d .send .ensures .1) (m .sending .given .1)) refl
-    (sends (L d) (n d) (buf d) (lent d .valid) (idle d) _ _ _ (k .0) (k .1) (k .2) (k .3) (k .4))
+    let k = known d (m .sending .given .1) in (
+      turns-same (L d) (n d) (buf d) (wrote d _ (d .send .ensures .1) (m .sending .given .1)) refl
+          (sends (L d) (n d) (buf d) (lent d .valid) (idle d) _ _ _ (k .0) (k .1) (k .2) (k .3) (k .4)),
+      refl,
+    )
 
 returns-2 : tie.Need-returns-2
 returns-2 c =
     let d = c .before .before .before .before in
-    let k = known d (c .enum-told .given .1) in
-    turns-same (L d) (n d) (buf d) (wrote d _ (d .send .ensures .1) (c .enum-told .given .1)) refl
-    (short (L d) (n d) (buf d) (lent d .valid) (idle d) (k .0) (k .1))
+    let k = known d (c .enum-told .given .1) in (
+      turns-same (L d) (n d) (buf d) (wrote d _ (d .send .ensures .1) (c .enum-told .given .1)) refl
+          (short (L d) (n d) (buf d) (lent d .valid) (idle d) (k .0) (k .1)),
+      refl,
+    )
 
 -- ---- nobody
 
-dim-is : (d : tie.After-send) → isAlone (n d) (n d .dim) ≡ isAlone (n d) (word (ws d) 5)
+dim-is : (d : tie.After-send) → isAlone (n d) (n d .dim) ≡ isAlone (n d) (word (ws d) atDim)
 unfolding unpacked
 dim-is d = refl
 
 look-requires : tie.Need-look-requires
 look-requires c κs =
-    let m = c .before in
+    let m = c .before .before in
     let d = m .before .before .before .before in
     let h = s d .pre in
     (h .0, h .1, h .3, known d (m .sending2 .given .1) .1 ∙ dim-is d)
 
 returns-3 : tie.Need-returns-3
 returns-3 c =
-    let m = c .before .before in
-    let d = m .before .before .before .before in
-    turns-same (L d) (n d) (buf d) (wrote d _ (d .send .ensures .1) (m .sending2 .given .1)) refl
-    (looks (L d) (n d) (buf d) (lent d .valid) (idle d) (known d (m .sending2 .given .1) .0) (c .look .result)
-    (c .look .ensures))
+    let l = c .before .before in
+    let m = l .before .before .before in
+    let d = m .before .before .before .before in (
+      turns-same (L d) (n d) (buf d) (wrote d _ (d .send .ensures .1) (m .sending2 .given .1)) refl
+          (looks (L d) (n d) (buf d) (lent d .valid) (idle d) (known d (m .sending2 .given .1) .0) (l .look .result)
+          (l .look .ensures .0)),
+      l .look .ensures .1,
+    )
 
 pub decide-spec : {M : Type 1} → statement M
 decide-spec =
     tie.close
-    (tie.spec (λ c κs. search needs) (λ c. search needs) (λ c. search needs) (λ c. search needs) look-requires (λ c.
-    search needs) returns (λ c. search needs) returns-2 (λ c. search needs) returns-3)
+    (tie.spec (λ c κs. search needs) (λ c. search needs) (λ c. search needs) (λ c. search needs) look-requires
+    (λ c. search needs) (λ c. search needs) returns (λ c. search needs) (λ c. search needs) returns-2 (λ c. search needs)
+    (λ c. search needs) returns-3)

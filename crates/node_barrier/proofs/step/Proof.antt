@@ -124,10 +124,10 @@ step-on-requires c κs =
 
 returns-2 : tie.Need-returns-2
 returns-2 c =
-    let d = c .before .before .before .before in
+    let d = c .before .before .before .before .before .before in
     let e = d .before .before .before .before .before in
     let s = k e in
-    on-state (L s) (ws s) (buf s) (room s) (known e .ready) (d .step-on .result) _ _ (d .step-on .ensures)
+    on-state (L s) (ws s) (buf s) (room s) (known e .ready) (d .step-on .result) _ _ (d .step-on .ensures .0)
 
 pub step-spec : {M : Type 1} → statement M
 step-spec =

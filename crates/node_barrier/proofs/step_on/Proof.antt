@@ -21,6 +21,7 @@ use Rattle.node_turn.proofs.Acting.{acted}
 use Rattle.node_barrier.specs.Pieces.{Lent}
 use Rattle.node_barrier.proofs.Turning.{refuses-busy}
 use Rattle.node_barrier.proofs.Answering.{steps}
+use Rattle.layout.specs.Places.{atBusy}
 use Rattle.node_barrier.proofs.step_on.Statement.{statement}
 use Rattle.node_barrier.proofs.step_on.Tie as tie
 
@@ -44,7 +45,7 @@ module _ (s : tie.Start) where
   lent : Lent L ws (now (s .args .sums)) (s .args .p) (s .args .issued .0)
   lent = s .pre .2
 
-  busy : word ws 3 ≡ 1 → n .busy ≡ true
+  busy : word ws atBusy ≡ 1 → n .busy ≡ true
   unfolding unpacked
   busy q = eq-eqb _ 1 q
 
@@ -61,27 +62,31 @@ module _ (s : tie.Start) where
 
 returns : tie.Need-returns
 returns c =
-    let s = c .before .before .before .before .before in
-    steps (L s) (ws s) (buf s) (Refuses 12) (ws s) (buf s) refl
-    (refuses-busy (L s) (n s) (buf s) (lent s .valid) (busy s (c .if1 .taken))) (after s (Refuses 12))
+    let s = c .before .before .before .before .before in (
+      steps (L s) (ws s) (buf s) (Refuses 12) (ws s) (buf s) refl
+          (refuses-busy (L s) (n s) (buf s) (lent s .valid) (busy s (c .if1 .taken))) (after s (Refuses 12)),
+      refl,
+    )
 
 decide-requires : tie.Need-decide-requires
 decide-requires c κs =
-    let e = c .before .before in
+    let e = c .before .before .before in
     let s = e .before .before .before .before .before in
     (s .pre .0, s .pre .1, ne-eqb _ 1 (e .if1 .left), s .pre .2)
 
 returns-2 : tie.Need-returns-2
 returns-2 c =
     let a = c .before .before in
-    let d = a .before .before .before .before in
-    let s = d .before .before .before .before .before .before .before .before in
-    let t = d .decide .result in
-    steps (L s) (ws s) (buf s) t _ _ (a .act .ensures .0 ∙ choose-no _ _ (headed s)) (d .decide .ensures)
-    (a .act .ensures .1 ∙ choose-no _ _ (headed s) ∙ after s t)
+    let d = a .before .before .before .before .before .before in
+    let s = d .before .before .before .before .before .before .before .before .before in
+    let t = d .decide .result in (
+      steps (L s) (ws s) (buf s) t _ _ (a .act .ensures .0 ∙ choose-no _ _ (headed s)) (d .decide .ensures .0)
+          (a .act .ensures .1 ∙ choose-no _ _ (headed s) ∙ after s t),
+      d .decide .ensures .1,
+    )
 
 pub step-on-spec : {M : Type 1} → statement M
 step-on-spec =
     tie.close
-    (tie.spec (λ c. search needs) returns decide-requires (λ c κs. search needs) (λ c. search needs) (λ c. search
-    needs) returns-2)
+    (tie.spec (λ c. search needs) returns decide-requires (λ c κs. search needs) (λ c. search needs) (λ c. search needs)
+    (λ c. search needs) returns-2)

@@ -12,7 +12,7 @@ use Rattle.base.specs.Limits.{Limits, Fits, limitsOf}
 use Rattle.base.specs.Refusal.{Check}
 use Rattle.base.proofs.Limits.{fits-of}
 use Rattle.base.proofs.Laws.{Passes, Stops, later, order-passes}
-use Rattle.tree.specs.Tree.{distance}
+use Rattle.tree.specs.Tree.{dimension, distance}
 use Rattle.node.specs.Sums.{allSent, tally}
 use Rattle.node.specs.Answers.{give, done}
 use Rattle.node.specs.Calls.{refusal, oneSent, send}
@@ -20,11 +20,14 @@ use Rattle.node.specs.declared.Answer.the-variants.{Done, Refused}
 use Rattle.node.specs.declared.Node.{Node}
 use Rattle.node.proofs.Valid.{Valid, valid-known}
 use Rattle.node.proofs.Ways.{sendChecks, send-refuses}
-use Rattle.layout.specs.Held.{unpacked, dimsOf, word, Passed}
+use Rattle.layout.specs.Held.{unpacked, dimsOf, word}
+use Rattle.layout.specs.Pieces.{Passed}
 use Rattle.layout.proofs.Answers.{gives, stays}
 use Rattle.refusals.specs.Tests.{sendTests}
 use Rattle.refusals.proofs.First.{met-some, met-none}
-use Rattle.node_calls.proofs.Calls.{tallies-room, sent-within, put-one-sent}
+use Rattle.layout.specs.Places.{atNodes, atNumber, atBusy}
+use Rattle.node_take.proofs.Counted.{tallies-room, sent-within, put-one-sent}
+use Rattle.node_take.proofs.Shells.{shell-known}
 use Rattle.node_calls.proofs.send_on.Statement.{statement}
 use Rattle.node_calls.proofs.send_on.Tie as tie
 
@@ -56,20 +59,20 @@ module _ (s : tie.Start) where
 
   -- the tests of the words, then those of the state
   abbrev tests : List Check
-  tests = sendTests L (word ws 0) (word ws 1) (word ws 3) (s .args .sends .0) to
+  tests = sendTests L (word ws atNodes) (word ws atNumber) (word ws atBusy) (s .args .sends .0) to
 
   stops : {x : ℕ} → Stops tests x → send L n to ≡ refusal n x
   unfolding unpacked
   stops {x} t =
       send-refuses L n to
       (later (ap not (passed .valid))
-      (subst (λ k. Stops (sendTests L (word ws 0) (word ws 1) (word ws 3) k to) x) (s .pre .1) t))
+      (subst (λ k. Stops (sendTests L (word ws atNodes) (word ws atNumber) (word ws atBusy) k to) x) (s .pre .1) t))
 
   passes : Passes tests → send L n to ≡ give (oneSent n (distance (n .nodes) (n .number) to)) done
   unfolding unpacked send
   passes t =
       order-passes (refusal n) (sendChecks L n to) _
-      (ap not (passed .valid), subst (λ k. Passes (sendTests L (word ws 0) (word ws 1) (word ws 3) k to)) (s .pre .1) t)
+      (ap not (passed .valid), subst (λ k. Passes (sendTests L (word ws atNodes) (word ws atNumber) (word ws atBusy) k to)) (s .pre .1) t)
 
 returns : tie.Need-returns
 returns c =
@@ -90,13 +93,6 @@ module _ (c : tie.Else1) where
   sends =
       omega (arith, leb-false (L start .sends) (start .args .sends .0) (none .1 .1 .1 .0), start .pre .1)
 
-shell-of-requires : tie.Need-shell-of-requires
-unfolding unpacked
-shell-of-requires c κs =
-    let v = good (start c) in
-    let t = none c in
-    (v .board, v .number, leb-false _ _ (t .0), eqb-false _ _ (t .1 .0))
-
 module _ (c : tie.After-shell-of) where
   abbrev sender : tie.Start
   sender = start (c .before)
@@ -104,8 +100,17 @@ module _ (c : tie.After-shell-of) where
   abbrev shell : ℕ
   shell = c .shell-of .result
 
+  known : let P = word (ws sender) 0 in
+      (shell ≡ distance P (word (ws sender) 1) (to sender)) × (shell < dimension P) × (shell < 8)
+  unfolding unpacked
+  known =
+      let v = good sender in
+      let t = none (c .before) in
+      shell-known (L sender) (fit sender) _ _ _ shell (c .shell-of .ensures) (v .board) (v .number)
+      (leb-false _ _ (t .0)) (eqb-false _ _ (t .1 .0))
+
   shell-in : shell < dimsOf (ws sender)
-  shell-in = c .shell-of .ensures .1
+  shell-in = known .1
 
   -- the tally has room for one more
   more : word (ws sender) (8 + shell) < 65535
@@ -114,12 +119,12 @@ module _ (c : tie.After-shell-of) where
         arith,
         sends (c .before),
         fit sender .sends,
-        sent-within (L sender) (ws sender) (passed sender .whole) shell shell-in (c .shell-of .ensures .2),
+        sent-within (L sender) (ws sender) (passed sender .whole) shell shell-in (known .2),
       )
 
   shell-is : shell ≡ distance (n sender .nodes) (n sender .number) (to sender)
   unfolding unpacked
-  shell-is = c .shell-of .ensures .0
+  shell-is = known .0
 
 slice-read-state : tie.Need-slice-read-state
 slice-read-state c = omega (arith, long (sender (c .before)), shell-in (c .before))
@@ -136,7 +141,7 @@ returns-2 c =
     let s = sender h in
     gives (L s) (fit s) (λ m. send (L s) m (to s)) (ws s) Done _ _
     (passes s (none (h .before)) ∙ ap (λ m. give (oneSent (n s) m) done) (sym (shell-is h)))
-    (put-one-sent (L s) (ws s) (passed s .whole) (shell h) (shell-in h) (h .shell-of .ensures .2))
+    (put-one-sent (L s) (ws s) (passed s .whole) (shell h) (shell-in h) (known h .2))
 
 slice-read-nodes : tie.Need-slice-read-nodes
 slice-read-nodes c = omega (arith, long (c .before .before))
@@ -150,6 +155,6 @@ slice-read-send-no c = omega (arith, long (c .before .before .before .before))
 pub send-on-spec : {M : Type 1} → statement M
 send-on-spec =
     tie.close
-    (tie.spec slice-read-nodes slice-read-number slice-read-send-no (λ c κs. search needs) returns shell-of-requires
-    (λ c. search needs) (λ c. search needs) (λ c. search needs) slice-read-state add-state (λ c. search needs) (λ c.
+    (tie.spec slice-read-nodes slice-read-number slice-read-send-no (λ c κs. search needs) returns (λ c κs. search needs)
+    (λ c. omega (arith, known c .2)) (λ c. search needs) (λ c. search needs) slice-read-state add-state (λ c. search needs) (λ c.
     search needs) slice-write-state (λ c. search needs) returns-2)

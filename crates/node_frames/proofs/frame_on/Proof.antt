@@ -13,7 +13,8 @@ use Rattle.node.specs.Calls.{gotten, frameIn}
 use Rattle.node.specs.declared.Answer.{Answer}
 use Rattle.node.specs.declared.Answer.the-variants.{Done, Dropped, Refused}
 use Rattle.node.specs.declared.Node.{Node}
-use Rattle.layout.specs.Held.{dimsOf, unpacked, Passed}
+use Rattle.layout.specs.Held.{dimsOf, unpacked}
+use Rattle.layout.specs.Pieces.{Passed}
 use Rattle.layout.proofs.Becomes.{Becomes}
 use Rattle.layout.proofs.Answers.{gives, stays}
 use Rattle.node_frames.specs.Pieces.{Judged}

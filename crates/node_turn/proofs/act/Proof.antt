@@ -18,4 +18,4 @@ returns-2 c =
     (w .write .ensures .0 ∙ sym (choose-no _ _ e), w .write .ensures .1 ∙ sym (choose-no _ _ e))
 
 pub act-spec : {M : Type 1} → statement M
-act-spec = tie.close (tie.spec returns (λ c κs. search needs) (λ c. search needs) returns-2)
+act-spec = tie.close (tie.spec (λ c. search needs) returns (λ c κs. search needs) (λ c. search needs) returns-2)

@@ -12,6 +12,7 @@ use Rattle.base.proofs.Laws.{choose-yes, choose-no}
 use Rattle.layout.specs.Held.{word}
 use Rattle.node_turn.specs.Turn.{onwardTurn}
 use Rattle.node_turn.specs.declared.Turn.the-variants.{Moves, Leaves}
+use Rattle.layout.specs.Places.{atPass, atAgreed}
 use Rattle.node_turn.proofs.onward.Statement.{statement}
 use Rattle.node_turn.proofs.onward.Tie as tie
 
@@ -41,7 +42,7 @@ module _ (c : tie.Else2) where
 
   last : (total : ℕ) → let a = s .args in
       choose (eqb (w .word-at .result) 1) (Moves 2 0 total) Leaves
-      ≡ onwardTurn (a .p) (word (now (a .s)) 4) (a .k) (word (now (a .s)) 7) total
+      ≡ onwardTurn (a .p) (word (now (a .s)) atPass) (a .k) (word (now (a .s)) atAgreed) total
   unfolding onwardTurn
   last total =
       let a = s .args in
@@ -53,7 +54,7 @@ module _ (c : tie.Else2) where
 returns-3 : tie.Need-returns-3
 returns-3 c =
     let t = c .before in
-    ap (Moves 2 0) (c .total-with .ensures) ∙ sym (choose-yes _ _ (eq-eqb _ _ (t .if3 .taken))) ∙ last (t .before) _
+    ap (Moves 2 0) (c .word-at3 .ensures) ∙ sym (choose-yes _ _ (eq-eqb _ _ (t .if3 .taken))) ∙ last (t .before) _
 
 returns-4 : tie.Need-returns-4
 returns-4 c = sym (choose-no _ _ (ne-eqb _ _ (c .if3 .left))) ∙ last (c .before) _
@@ -62,4 +63,4 @@ pub onward-spec : {M : Type 1} → statement M
 onward-spec =
     tie.close
     (tie.spec returns (λ c κs. search needs) (λ c. search needs) (λ c. search needs) (λ c κs. search needs) returns-2
-    (λ c κs. search needs) returns-3 returns-4)
+    (λ c. search needs) (λ c. search needs) (λ c κs. search needs) returns-3 returns-4)

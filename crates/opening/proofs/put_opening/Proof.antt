@@ -1,6 +1,6 @@
 -- `put_opening` puts the header, and the line of a stop where there is one.
 use borrow.Author.Needs.{needs}
-use Rattle.text.proofs.Putting.{then, said}
+use Rattle.printing.proofs.Putting.{then, said}
 use Rattle.opening.proofs.Texts.{opening-none, opening-stop}
 use Rattle.opening.proofs.put_opening.Statement.{statement}
 use Rattle.opening.proofs.put_opening.Tie as tie

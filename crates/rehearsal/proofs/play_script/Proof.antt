@@ -48,7 +48,7 @@ use denote.Exit.{yes as kept}
 use native.Mathlib.Decide.{decLt}
 use Rattle.walks.proofs.Calls.{at-list, both-hold, holds, calls-lent, calls-lent₂, calls-shared, loc, lets, lands-in}
 use Rattle.walks.proofs.Calls.{ends-local, fieldv, ptrv}
-use Rattle.text.specs.Text.{put, ends}
+use Rattle.printing.specs.Put.{put, ends}
 use Rattle.items.specs.declared.Item.{Item}
 use Rattle.items.proofs.Item as ItemT
 use Rattle.script.proofs.Parsed.Laws as ParsedL
@@ -58,12 +58,12 @@ use Rattle.stage.proofs.Stage.Laws as StageL
 use Rattle.stage.proofs.Acted.Laws as ActedL
 use Rattle.opening.specs.declared.Opened.{Opened}
 use Rattle.opening.proofs.Opened.Laws as OpenedL
-use Rattle.rehearsal.proofs.Values.{opened-fit, stage-fit, parsed-fit, acted-stage, typed-stage, typed-acted}
-use Rattle.rehearsal.proofs.Values.{typed-parsed, typed-opened}
+use Rattle.line_step.proofs.Values.{opened-fit, stage-fit, parsed-fit, acted-stage, typed-stage, typed-acted}
+use Rattle.line_step.proofs.Values.{typed-parsed, typed-opened}
 use Rattle.rehearsal.proofs.Played.{Inv, goal, start, again, finish}
-use Rattle.rehearsal.proofs.Does.{OpenScript, PutOpening, NextLine, PutLine, open-script-does, put-opening-does}
-use Rattle.rehearsal.proofs.Does.{next-line-does, put-line-does}
-use Rattle.rehearsal.proofs.Steps.{Step, step-does}
+use Rattle.line_step.proofs.Does.{OpenScript, PutOpening, NextLine, PutLine, open-script-does, put-opening-does}
+use Rattle.line_step.proofs.Does.{next-line-does, put-line-does}
+use Rattle.line_step.proofs.Steps.{Step, step-does}
 use Rattle.opening.proofs.open_script.Symbol as open-script-def
 use Rattle.opening.proofs.open_script.Symbol.{name as #opening·open-script}
 use Rattle.opening.proofs.open_script.Met as open-script-thm
@@ -73,9 +73,9 @@ use Rattle.opening.proofs.put_opening.Met as put-opening-thm
 use Rattle.lines.proofs.next_line.Symbol as next-line-def
 use Rattle.lines.proofs.next_line.Symbol.{name as #lines·next-line}
 use Rattle.lines.proofs.next_line.Met as next-line-thm
-use Rattle.rehearsal.proofs.step.Symbol as step-def
-use Rattle.rehearsal.proofs.step.Symbol.{name as #rehearsal·step}
-use Rattle.rehearsal.proofs.step.Met as step-thm
+use Rattle.line_step.proofs.step.Symbol as step-def
+use Rattle.line_step.proofs.step.Symbol.{name as #line-step·step}
+use Rattle.line_step.proofs.step.Met as step-thm
 use Rattle.lines.proofs.put_line.Symbol as put-line-def
 use Rattle.lines.proofs.put_line.Symbol.{name as #lines·put-line}
 use Rattle.lines.proofs.put_line.Met as put-line-thm
@@ -184,7 +184,7 @@ module _ {M : Type 1} (𝓤 : URA M) (H : Heap 𝓤) (A : Atoms 𝓤) (W : Given
   module _ (𝓣 : Tables 𝓤 H) (known-open-script : Triple 𝓤 (𝓣 .C #opening·open-script) (OpenScript 𝓤 H A mem run))
       (known-put-opening : Triple 𝓤 (𝓣 .C #opening·put-opening) (PutOpening 𝓤 H A mem run))
       (known-next-line : Triple 𝓤 (𝓣 .C #lines·next-line) (NextLine 𝓤 H A mem run))
-      (known-step : Triple 𝓤 (𝓣 .C #rehearsal·step) (Step 𝓤 H A mem run))
+      (known-step : Triple 𝓤 (𝓣 .C #line-step·step) (Step 𝓤 H A mem run))
       (known-put-line : Triple 𝓤 (𝓣 .C #lines·put-line) (PutLine 𝓤 H A mem run))
       (room₀ : Room ItemT.the-row (length items)) (room₁ : Room u8 (length bytes)) (room₂ : Room u8 (length out))
       (room₃ : Room u8 (length script)) where
@@ -276,7 +276,7 @@ module _ {M : Type 1} (𝓤 : URA M) (H : Heap 𝓤) (A : Atoms 𝓤) (W : Given
           lets ! (agg ! (and-then ! (loc ! 14 refl) (and-then ! (fieldv ! 46 1 refl refl refl) (no-more !)))) 12
           refl (tt, (tt, (record { fits = room₁ .0 }, tt))) $
           calls-lent₂ ! fm ItemT.the-row κ₀ q₀ γ₀ b₀ o₀ (s₀ ∷ []) zs u8 κ₁ q₁ γ₁ b₁ o₁ (s₁ ∷ []) zs₁
-          (step-does 𝓤 H A W mem run C fm #rehearsal·step known-step b₀ o₀ zs s₀ b₁ o₁ zs₁ s₁ st (told .line)
+          (step-does 𝓤 H A W mem run C fm #line-step·step known-step b₀ o₀ zs s₀ b₁ o₁ zs₁ s₁ st (told .line)
           (h .is-st) (parsed-fit told is-told .0))
           (λ _ _ _ _. and-then ! (loc ! 16 refl) (and-then ! (loc ! 12 refl)
           (and-then ! (loc ! 36 refl) (and-then ! (fieldv ! 30 0 refl refl refl) (no-more !)))))
@@ -442,7 +442,7 @@ module _ {M : Type 1} (𝓤 : URA M) (H : Heap 𝓤) (A : Atoms 𝓤) (W : Given
   Known C = Triple 𝓤 (C #opening·open-script) (OpenScript 𝓤 H A mem run) ×
       (Triple 𝓤 (C #opening·put-opening) (PutOpening 𝓤 H A mem run) ×
       (Triple 𝓤 (C #lines·next-line) (NextLine 𝓤 H A mem run) ×
-      (Triple 𝓤 (C #rehearsal·step) (Step 𝓤 H A mem run) × Triple 𝓤 (C #lines·put-line) (PutLine 𝓤 H A mem run))))
+      (Triple 𝓤 (C #line-step·step) (Step 𝓤 H A mem run) × Triple 𝓤 (C #lines·put-line) (PutLine 𝓤 H A mem run))))
 
   play-script-walks : (𝓣 : Tables 𝓤 H) → Known (𝓣 .C) → Walks 𝓤 H A play-script.ended stayed
       (WpFn 𝓤 H (𝓣 .C) (𝓣 .Λ) code.function) (play-script.clauses 𝓤 H A mem run)
@@ -497,8 +497,8 @@ play-script-spec 𝓤 H 𝓜 𝓖 𝓡 =
           cited 𝓤 H (NextLine 𝓤 H (𝓖 .A) (𝓜 .mem) (𝓡 .run)) 𝓜 𝓡 code.env #lines·next-line next-line-def.routine
               code.calls-lines·next-line (next-line-thm.met 𝓤 H 𝓜 𝓖 𝓡),
           (
-            cited 𝓤 H (Step 𝓤 H (𝓖 .A) (𝓜 .mem) (𝓡 .run)) 𝓜 𝓡 code.env #rehearsal·step step-def.routine
-                code.calls-rehearsal·step (step-thm.met 𝓤 H 𝓜 𝓖 𝓡),
+            cited 𝓤 H (Step 𝓤 H (𝓖 .A) (𝓜 .mem) (𝓡 .run)) 𝓜 𝓡 code.env #line-step·step step-def.routine
+                code.calls-line-step·step (step-thm.met 𝓤 H 𝓜 𝓖 𝓡),
             cited 𝓤 H (PutLine 𝓤 H (𝓖 .A) (𝓜 .mem) (𝓡 .run)) 𝓜 𝓡
                 code.env #lines·put-line put-line-def.routine code.calls-lines·put-line
                 (put-line-thm.met 𝓤 H 𝓜 𝓖 𝓡),

@@ -48,9 +48,9 @@ use Rattle.items.specs.Places.{noItem}
 use Rattle.items.proofs.Item as ItemT
 use Rattle.items.proofs.Item.Laws as ItemL
 use Rattle.items.proofs.Values.{val, none-fits, typed}
-use Rattle.text.specs.Text.{put, ends}
+use Rattle.printing.specs.Put.{put, ends}
 use Rattle.rehearsal.specs.Play.{play}
-use Rattle.rehearsal.specs.Lines.{noItems}
+use Rattle.rehearsal.specs.Play.{noItems}
 use Rattle.rehearsal.proofs.Plays.{PlayScript, play-does}
 use Rattle.rehearsal.proofs.play_script.Symbol as play-script-def
 use Rattle.rehearsal.proofs.play_script.Symbol.{name as #rehearsal·play-script}

@@ -2,12 +2,12 @@
 use borrow.Author.Needs.{needs}
 use denote.Ref.{now}
 use native.Mathlib.Omega.{arith}
-use mathlib.Core.Path.{_≡_, sym, _∙_}
+use mathlib.Core.Path.{sym, _∙_}
 use mathlib.Core.List.{List}
 use Prim.Native.Nat.{ℕ}
 use Rattle.base.specs.Limits.{Limits, limitsOf}
 use Rattle.base.proofs.Laws.{both-true}
-use Rattle.survey.specs.Step.{awaitsAt, firstPast}
+use Rattle.survey.specs.Pieces.{awaitsAt, firstPast}
 use Rattle.scan.proofs.Settled.{near, first-words}
 use Rattle.scan.proofs.Stepping.{first-open-done, first-passed-done}
 use Rattle.scan.proofs.first_step.Statement.{statement}

@@ -2,14 +2,14 @@
 use borrow.Author.Needs.{needs}
 use denote.Ref.{now}
 use native.Mathlib.Omega.{arith}
-use mathlib.Core.Path.{_≡_, refl, sym, _∙_}
+use mathlib.Core.Path.{refl, sym, _∙_}
 use mathlib.Core.List.{List}
 use Prim.Native.Nat.{ℕ}
 use Rattle.base.specs.Limits.{Limits, limitsOf}
 use Rattle.base.proofs.Laws.{both-true}
-use Rattle.survey.specs.Step.{awaitsAt, secondPast}
+use Rattle.survey.specs.Pieces.{awaitsAt, secondPast}
 use Rattle.scan.proofs.Settled.{near, second-words}
-use Rattle.scan.proofs.Stepping.{second-open-done, second-passed-done}
+use Rattle.scan.proofs.Stepping.{second-passed, second-open-done, second-passed-done}
 use Rattle.scan.proofs.second_step.Statement.{statement}
 use Rattle.scan.proofs.second_step.Tie as tie
 
@@ -28,8 +28,10 @@ returns c =
     λ spot told same.
     let q = both-true (awaitsAt spot (s .args .k)) (secondPast spot (s .args .k)) (told .tried ∙ i .if1 .taken) in
     second-passed-done (L s) (ws s) spot (s .args .k) (s .args .at) _ (rw (told .dims) (s .pre .0))
-    (rw (told .dims) (s .pre .1)) (s .pre .2) (rw same (s .pre .3)) (q .0) (q .1) (c .second-passed .result)
-    (rw (told .dims, same) (c .second-passed .ensures))
+    (rw (told .dims) (s .pre .1)) (s .pre .2) (rw same (s .pre .3)) (q .0) (q .1) (c .pass-step .result)
+    (rw (told .dims, same)
+    (second-passed (L s) (ws s) (s .args .p) (s .args .k) (s .args .at) _ _ (s .pre .0) (s .pre .1) (c .pass-step .result)
+    (c .pass-step .ensures)))
 
 add-stored-ok : tie.Need-add-stored-ok
 add-stored-ok c =

@@ -1,14 +1,28 @@
 -- `stored_ok` is `heldTest`.
 use borrow.Author.Needs.{needs}
-use borrow.Author.Tests.{eq-eqb, ne-eqb, not-true, not-false}
-use mathlib.Core.Path.{_≡_}
+use borrow.Author.Tests.{eq-eqb, ne-eqb, le-leb, lt-leb, not-true, not-false}
+use native.Mathlib.Decide.{decLe}
+use native.Mathlib.Omega.{arith}
+use mathlib.Core.Path.{_≡_, _∙_}
+use Prim.Native.Nat.{ℕ, _≤_}
+use lib.Dec.{leb, eqb}
 use Rattle.stored.specs.Held.{heldTest}
 use Rattle.scan.proofs.stored_ok.Statement.{statement}
 use Rattle.scan.proofs.stored_ok.Tie as tie
 
+-- none is above 0
+at-most-none : (x : ℕ) → eqb x 0 ≡ leb x 0
+at-most-none x = go (decLe x 0)
+  where
+    go : Dec (x ≤ 0) → eqb x 0 ≡ leb x 0
+    go (yes l) = rw (eq-eqb x 0 (omega arith), le-leb x 0 l)
+    go (no l) = rw (ne-eqb x 0 (λ e. omega arith), lt-leb x 0 (omega arith))
+
 returns : tie.Need-returns
 unfolding heldTest
-returns c = rw (eq-eqb _ _ (c .before .if1 .taken)) (c .limited .ensures)
+returns c =
+    at-most-none (c .before .largest .result) ∙ c .before .largest .ensures 0
+    ∙ rw (eq-eqb _ _ (c .if1 .taken))
 
 returns-2 : tie.Need-returns-2
 unfolding heldTest
@@ -21,22 +35,23 @@ returns-3 c =
     rw (
       ne-eqb _ _ (m .before .if1 .left),
       eq-eqb _ _ (m .if2 .left),
-      not-true (m .before .before .before .before .args .awaits) (c .if3 .taken),
+      not-true (m .before .before .before .before .before .args .awaits) (c .if3 .taken),
     )
 
 returns-4 : tie.Need-returns-4
 unfolding heldTest
 returns-4 c =
-    let m = c .before .before in
+    let m = c .before in
+    let l = m .before .before in
     rw (
       ne-eqb _ _ (m .before .if1 .left),
       eq-eqb _ _ (m .if2 .left),
-      not-false (m .before .before .before .before .args .awaits) (c .before .if3 .left),
+      not-false (l .before .before .before .args .awaits) (c .if3 .left),
     )
-    (c .limited2 .ensures)
+    (l .largest .ensures (l .before .before .before .args .limit))
 
 pub stored-ok-spec : {M : Type 1} → statement M
 stored-ok-spec =
     tie.close
-    (tie.spec (λ c. search needs) (λ c. search needs) (λ c. search needs) (λ c κs. search needs) returns returns-2 returns-3
-    (λ c. search needs) (λ c κs. search needs) returns-4)
+    (tie.spec (λ c. search needs) (λ c. search needs) (λ c. search needs) (λ c κs. search needs) returns returns-2
+    returns-3 returns-4)

@@ -3,7 +3,7 @@ use borrow.Author.Needs.{needs}
 use borrow.Author.Tests.{not-true, not-false}
 use denote.Ref.{now}
 use native.Mathlib.Omega.{arith}
-use mathlib.Core.Path.{_≡_, refl, sym, ap, _∙_}
+use mathlib.Core.Path.{_≡_, refl, ap, _∙_}
 use mathlib.Core.Bool.{true}
 use mathlib.Core.List.{List}
 use Prim.Native.Nat.{ℕ, _+_, _-_, _*_, _<_, _≤_}
@@ -11,7 +11,7 @@ use Rattle.base.specs.Limits.{Limits, Fits, limitsOf, fieldLimit}
 use Rattle.base.proofs.Laws.{both-true}
 use Rattle.base.proofs.Limits.{fits-of}
 use Rattle.node.specs.Sums.{dims}
-use Rattle.survey.specs.Step.{awaitsAt, firstPast}
+use Rattle.survey.specs.Pieces.{awaitsAt, firstPast}
 use Rattle.survey.specs.declared.Spot.{Spot}
 use Rattle.survey.proofs.Steps.{few}
 use Rattle.layout.specs.Held.{unpacked}

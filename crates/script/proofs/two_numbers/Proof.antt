@@ -3,7 +3,7 @@ use borrow.Author.Needs.{needs}
 use mathlib.Core.Path.{_≡_, sym, ap₂, _∙_}
 use mathlib.Core.Bool.{true}
 use Rattle.script.specs.declared.Line.the-variants.{Sends, Delivers}
-use Rattle.script.specs.Script.{isNumber, valueAfter}
+use Rattle.line_parts.specs.Parts.{isNumber, valueAfter}
 use Rattle.script.proofs.Answers.{number-none, number-is, two-bad}
 use Rattle.script.proofs.two_numbers.Statement.{statement}
 use Rattle.script.proofs.two_numbers.Tie as tie

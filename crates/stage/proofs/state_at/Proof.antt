@@ -3,7 +3,7 @@ use borrow.Author.Needs.{needs}
 use native.Mathlib.Omega.{arith}
 use mathlib.Core.Path.{_≡_, sym, _∙_}
 use lib.ListN.{length, length-map}
-use Rattle.states.specs.On.{noState}
+use Rattle.states.specs.Words.{noState}
 use Rattle.stage.proofs.Board.{any-default, past-all, in-array}
 use Rattle.stage.proofs.state_at.Statement.{statement}
 use Rattle.stage.proofs.state_at.Tie as tie

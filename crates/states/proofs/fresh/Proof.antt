@@ -1,6 +1,6 @@
 -- `fresh` is a fresh state in words of zeros.
 use borrow.Author.Needs.{needs}
-use Rattle.states.specs.On.{freshState}
+use Rattle.states.specs.Words.{freshState}
 use Rattle.states.proofs.fresh.Statement.{statement}
 use Rattle.states.proofs.fresh.Tie as tie
 

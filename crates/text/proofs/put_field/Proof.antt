@@ -1,8 +1,8 @@
 -- `put_field` puts the digits of a number, then a blank.
 use borrow.Author.Needs.{needs}
 use mathlib.Core.List.{[], _∷_}
-use Rattle.text.specs.Text.{digits}
-use Rattle.text.proofs.Putting.{then}
+use Rattle.printing.specs.Put.{digits}
+use Rattle.printing.proofs.Putting.{then}
 use Rattle.text.proofs.put_field.Statement.{statement}
 use Rattle.text.proofs.put_field.Tie as tie
 

@@ -1,6 +1,6 @@
 -- `put_stop` puts the line of a stop, piece after piece.
 use borrow.Author.Needs.{needs}
-use Rattle.text.proofs.Putting.{then, said}
+use Rattle.printing.proofs.Putting.{then, said}
 use Rattle.text.proofs.Lines.{stop-text}
 use Rattle.text.proofs.put_stop.Statement.{statement}
 use Rattle.text.proofs.put_stop.Tie as tie

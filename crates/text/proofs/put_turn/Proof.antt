@@ -1,6 +1,6 @@
 -- `put_turn` puts the line of an event, field after field.
 use borrow.Author.Needs.{needs}
-use Rattle.text.proofs.Putting.{then, said}
+use Rattle.printing.proofs.Putting.{then, said}
 use Rattle.text.proofs.Lines.{row-text}
 use Rattle.text.proofs.put_turn.Statement.{statement}
 use Rattle.text.proofs.put_turn.Tie as tie

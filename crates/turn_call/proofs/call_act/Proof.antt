@@ -4,8 +4,8 @@ use mathlib.Core.Path.{_≡_, sym, ap, _∙_}
 use Prim.Native.Nat.{ℕ}
 use Rattle.node.specs.Answers.{barrierOf}
 use Rattle.node.specs.declared.BarrierAnswer.{BarrierAnswer}
-use Rattle.states.specs.On.{keep, stepOn}
-use Rattle.stage.specs.Frames.{placeSize}
+use Rattle.state_calls.specs.On.{keep, stepOn}
+use Rattle.under_way.specs.Frames.{placeSize}
 use Rattle.stage.specs.Board.{stateAt, changed, quiet}
 use Rattle.stage.specs.declared.Acted.{Acted}
 use Rattle.turn_call.specs.Calling.{callActed, callActedBytes, callAct, callActBytes}

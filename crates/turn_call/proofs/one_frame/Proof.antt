@@ -5,7 +5,7 @@ use mathlib.Core.Path.{_≡_, sym, ap, _∙_}
 use mathlib.Core.Bool.{true}
 use Rattle.base.proofs.Laws.{choose-yes, choose-no}
 use Rattle.layout.specs.Held.{unpacked}
-use Rattle.stage.specs.Frames.{framed}
+use Rattle.under_way.specs.Frames.{framed}
 use Rattle.stage.specs.Board.{quiet}
 use Rattle.stage.proofs.Lines.{no-room, some-room, one-put}
 use Rattle.turn_call.specs.Pieces.{callSends, due}

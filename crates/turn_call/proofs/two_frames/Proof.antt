@@ -6,7 +6,7 @@ use mathlib.Core.Bool.{true}
 use Prim.Native.Nat.{_+_, _<_}
 use Rattle.base.proofs.Laws.{choose-yes, choose-no}
 use Rattle.layout.specs.Held.{unpacked}
-use Rattle.stage.specs.Frames.{framed}
+use Rattle.under_way.specs.Frames.{framed}
 use Rattle.stage.proofs.Lines.{no-room, no-two, some-room}
 use Rattle.turn_call.specs.Pieces.{callSends, due}
 use Rattle.turn_call.specs.Calling.{putTwo}

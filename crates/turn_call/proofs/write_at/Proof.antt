@@ -4,8 +4,8 @@ use native.Mathlib.Omega.{arith}
 use mathlib.Core.Path.{_≡_, _∙_}
 use Prim.Native.Nat.{_+_, _-_, _*_}
 use borrow.Rule.Slice.PartMut.{mid-len}
-use Rattle.stage.specs.Frames.{placeSize}
-use Rattle.stage.proofs.Parts.{frame-part}
+use Rattle.under_way.specs.Frames.{placeSize}
+use Rattle.under_way.proofs.Parts.{frame-part}
 use Rattle.turn_call.proofs.Known.{sending-known, sent-bytes}
 use Rattle.turn_call.proofs.write_at.Statement.{statement}
 use Rattle.turn_call.proofs.write_at.Tie as tie

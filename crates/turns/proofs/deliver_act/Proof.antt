@@ -7,8 +7,8 @@ use Prim.Native.Nat.{_/_, _≤_}
 use lib.ListN.{length}
 use borrow.Author.Tests.{lt-ltb, le-leb, not-true, not-false}
 use Rattle.base.proofs.Laws.{choose-yes, both-make}
-use Rattle.states.specs.On.{replied}
-use Rattle.stage.specs.Frames.{placeSize}
+use Rattle.state_calls.specs.On.{replied}
+use Rattle.under_way.specs.Frames.{placeSize}
 use Rattle.stage.specs.Board.{isThere, quiet}
 use Rattle.turns.proofs.Acting.{one-off, deliver-none, deliver-early, deliver-off, there-known}
 use Rattle.turns.proofs.deliver_act.Statement.{statement}

@@ -3,8 +3,8 @@ use borrow.Author.Needs.{needs}
 use mathlib.Core.Path.{ap, _∙_}
 use Rattle.base.specs.Limits.{base}
 use Rattle.node.specs.Calls.{frameIn}
-use Rattle.states.specs.On.{onState}
-use Rattle.stage.proofs.Parts.{held}
+use Rattle.state_calls.specs.On.{onState}
+use Rattle.under_way.proofs.Parts.{held}
 use Rattle.turns.proofs.frame_call.Statement.{statement}
 use Rattle.turns.proofs.frame_call.Tie as tie
 

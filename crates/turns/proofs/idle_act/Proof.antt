@@ -4,7 +4,7 @@ use mathlib.Core.Path.{_≡_, sym, ap, _∙_}
 use mathlib.Core.List.{[]}
 use Rattle.base.specs.Limits.{base}
 use Rattle.node.specs.Calls.{idle}
-use Rattle.states.specs.On.{onState, replied}
+use Rattle.state_calls.specs.On.{onState, replied}
 use Rattle.items.specs.Places.{noItem}
 use Rattle.stage.specs.Board.{stateAt, quiet}
 use Rattle.turns.proofs.Acting.{idle-by}

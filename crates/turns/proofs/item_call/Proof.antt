@@ -5,8 +5,8 @@ use borrow.Author.Tests.{eq-eqb, ne-eqb}
 use Rattle.base.specs.Limits.{base}
 use Rattle.base.proofs.Laws.{choose-yes, choose-no}
 use Rattle.node.specs.Calls.{take as takeCall, frameIn}
-use Rattle.states.specs.On.{onState}
-use Rattle.stage.specs.Frames.{frameHeld}
+use Rattle.state_calls.specs.On.{onState}
+use Rattle.under_way.specs.Frames.{frameHeld}
 use Rattle.turns.proofs.item_call.Statement.{statement}
 use Rattle.turns.proofs.item_call.Tie as tie
 

@@ -1,0 +1,80 @@
+-- Laws of the calls on words: what is answered where the words hold no state, and what they become where a message is
+-- counted.
+use mathlib.Core.Path.{_≡_, sym, ap, _∙_}
+use mathlib.Core.Bool.{true, not}
+use mathlib.Core.List.{List}
+use Prim.Native.Nat.{ℕ, _+_, _≤_, _<_}
+use native.Mathlib.Omega.{arith}
+use lib.ListN.{length, set}
+use borrow.Author.Tests.{lt-ltb}
+use Rattle.base.specs.Limits.{Limits, Fits}
+use Rattle.base.proofs.Laws.{choose-yes}
+use Rattle.frame.specs.Frame.{sentNumber, takenNumber, sentAt, takenAt}
+use Rattle.node.specs.Sums.{allSent, allTaken, tally}
+use Rattle.node.specs.Change.{withBusy, withSent, withTaken, at}
+use Rattle.node.specs.State.{valid}
+use Rattle.node.specs.Answers.{Given, Outcome, refused}
+use Rattle.node.specs.Calls.{refusal, oneSent, oneTaken, woken}
+use Rattle.node.specs.declared.Node.{Node}
+use Rattle.survey.proofs.Lists.{total-has}
+use Rattle.layout.specs.Places.{atSent, atTaken}
+use Rattle.layout.specs.Held.{word, dimsOf, unpacked, isWhole, answerOn, wordsOn}
+use Rattle.layout.proofs.Offsets.{first-above}
+use Rattle.layout.proofs.Whole.{whole}
+use Rattle.layout.proofs.Reading.{sent-word, taken-word}
+use Rattle.layout.proofs.Becomes.{Becomes, becomes-then}
+use Rattle.layout.proofs.Writes.{put-busy, put-position, put-sent, put-taken}
+use Rattle.layout.proofs.Answers.{fails}
+use Rattle.scan.specs.Scan.{scanned}
+use Rattle.scan.specs.declared.Scan.{Scan}
+use Rattle.scan.proofs.Known.{failed}
+use Rattle.node_take.specs.Pieces.{wokenWords}
+
+-- no state: 13, and the words stay
+pub no-state : (L : Limits) → Fits L → (room : ℕ) (ws : List ℕ) (s : Scan) → s ≡ scanned L room ws
+    → (call : Node → Given Outcome) → not (s .ok) ≡ true
+    → (not (valid L (unpacked ws)) ≡ true → call (unpacked ws) ≡ refusal (unpacked ws) 13)
+    → (refused 13 ≡ answerOn L room call ws) × (ws ≡ wordsOn L room call ws)
+no-state L fit room ws s r call o f = fails L fit call ws room (failed L room ws s r o) f
+
+-- the same words, the same state
+becomes-is : {L : Limits} {ws after : List ℕ} {n m : Node} → n ≡ m → Becomes L ws after n → Becomes L ws after m
+becomes-is {L} {ws} {after} e b = rw e at b
+
+module _ (L : Limits) (ws : List ℕ) (e : isWhole L ws ≡ true) where
+  -- the head and the tallies are there
+  pub tallies-room : 8 + (dimsOf ws + dimsOf ws) ≤ length ws
+  tallies-room = omega (arith, first-above (dimsOf ws) (dimsOf ws), whole L ws e .long)
+
+  module _ (m : ℕ) (h : m < dimsOf ws) (l : m < 8) where
+    sent-is : sentAt (unpacked ws .sent) m ≡ word ws (atSent m)
+    sent-is = sent-word ws m l ∙ choose-yes _ _ (lt-ltb _ _ h)
+
+    taken-is : takenAt (unpacked ws .taken) m ≡ word ws (atTaken (dimsOf ws) m)
+    taken-is = taken-word ws m l ∙ choose-yes _ _ (lt-ltb _ _ h)
+
+    -- a tally is at most the total
+    pub sent-within : word ws (atSent m) ≤ tally (unpacked ws) allSent
+    unfolding unpacked
+    sent-within = omega (arith, sent-is, total-has (sentAt (unpacked ws .sent)) (dimsOf ws) m h)
+
+    pub taken-within : word ws (atTaken (dimsOf ws) m) ≤ tally (unpacked ws) allTaken
+    unfolding unpacked
+    taken-within = omega (arith, taken-is, total-has (takenAt (unpacked ws .taken)) (dimsOf ws) m h)
+
+    pub put-one-sent : Becomes L ws (set ws (atSent m) (word ws (atSent m) + 1)) (oneSent (unpacked ws) m)
+    put-one-sent =
+        becomes-is (ap (λ x. withSent (unpacked ws) (set (unpacked ws .sent) m (sentNumber (x + 1)))) (sym sent-is))
+        (put-sent L ws e m (word ws (atSent m) + 1) h l)
+
+    put-one-taken : Becomes L ws (set ws (atTaken (dimsOf ws) m) (word ws (atTaken (dimsOf ws) m) + 1))
+        (oneTaken (unpacked ws) m)
+    put-one-taken =
+        becomes-is (ap (λ x. withTaken (unpacked ws) (set (unpacked ws .taken) m (takenNumber (x + 1)))) (sym taken-is))
+        (put-taken L ws e m (word ws (atTaken (dimsOf ws) m) + 1) h l)
+
+    pub put-woken : Becomes L ws (wokenWords ws (atTaken (dimsOf ws) m)) (woken (unpacked ws) m)
+    put-woken =
+        let a = put-one-taken in
+        let b = becomes-then L a (becomes-is (ap (λ n. withBusy n true) (a .node)) (put-busy L _ (a .whole) true)) in
+        becomes-then L b (becomes-is (ap (λ n. at n 1 0 true 0) (b .node)) (put-position L _ (b .whole) 1 0 true 0))

@@ -1,0 +1,94 @@
+-- `tried`: clauses 0, 1 and 2 in their order, then the others.
+use borrow.Author.Needs.{needs}
+use borrow.Author.Tests.{eq-eqb, ne-eqb}
+use denote.Ref.{now}
+use mathlib.Core.Path.{_≡_, refl, sym, _∙_}
+use mathlib.Core.Bool.{true}
+use mathlib.Core.List.{List}
+use Prim.Native.Nat.{ℕ, _+_, _-_}
+use Rattle.base.specs.Limits.{Limits, limitsOf}
+use Rattle.node.specs.Sums.{Field, sentIn, takenIn, number}
+use Rattle.node.specs.Agree.{firstClauses, mayName}
+use Rattle.node.specs.declared.Stored.{Stored}
+use Rattle.survey.specs.declared.Verdict.the-variants.{Fails}
+use Rattle.survey.proofs.Clauses.{first-0, first-1, first-2}
+use Rattle.layout.specs.Held.{word, firstFrom, sumOf}
+use Rattle.pass_one.specs.Pieces.{Judged}
+use Rattle.pass_one.proofs.Adding.{sent-first, taken-first}
+use Rattle.pass_one.proofs.Judging.{fails}
+use Rattle.pass_one.proofs.tried.Statement.{statement}
+use Rattle.pass_one.proofs.tried.Tie as tie
+
+-- what is handed
+module _ (s : tie.Start) where
+  abbrev L : Limits
+  L = limitsOf (s .args .b)
+
+  abbrev ws : List ℕ
+  ws = now (s .args .s)
+
+  abbrev before : List ℕ
+  before = now (s .args .sums)
+
+  abbrev p : ℕ
+  p = s .args .p
+
+  abbrev k : ℕ
+  k = s .args .k
+
+  abbrev own : Field → ℕ
+  own = sumOf p before
+
+  abbrev frame : Stored
+  frame = firstFrom ws p k (s .args .at)
+
+  sent : number frame (sentIn k) ≡ word ws (s .args .at + 1)
+  sent = sent-first ws before p k (s .args .at) 0 (s .pre .low) (s .pre .few)
+
+  taken : number frame (takenIn k) ≡ word ws (s .args .at + 1 + (p - k))
+  taken = taken-first ws before p k (s .args .at) 0 (s .pre .low) (s .pre .few)
+
+  stops : (c : ℕ) → mayName (firstClauses L p k own frame) c ≡ true → Judged L p k frame before before (Fails c)
+  stops c m = fails L p k frame before c m before refl
+
+abbrev first : tie.Else1 → tie.Start
+first c = c .before .before .before .before
+
+here : (c : tie.Else1) → frame (first c) .present ≡ true
+here c = eq-eqb _ _ (c .if1 .left)
+
+returns : tie.Need-returns
+returns c =
+    let s = c .before .before .before .before in
+    stops s 0 (first-0 (L s) (p s) (k s) (own s) (frame s) (ne-eqb _ _ (c .if1 .taken)))
+
+returns-2 : tie.Need-returns-2
+returns-2 c =
+    let e = c .before .before .before .before .before in
+    let s = first e in
+    stops s 1 (first-1 (L s) (p s) (k s) (own s) (frame s) (here e) (λ q. c .if2 .taken (q ∙ taken s)))
+
+returns-3 : tie.Need-returns-3
+returns-3 c =
+    let e = c .before .before .before .before .before .before .before .before .before .before in
+    let s = first e in
+    stops s 2 (first-2 (L s) (p s) (k s) (own s) (frame s) (here e) (λ q. c .if3 .taken (q ∙ sent s)))
+
+add-frame-requires : tie.Need-add-frame-requires
+add-frame-requires c κs =
+    let g = c .before in
+    let h = g .before .before .before .before .before in
+    let e = h .before .before .before .before .before in
+    let s = first e in (
+      s .pre,
+      record { stored = here e; sent = h .if2 .left ∙ sym (taken s); taken = g .if3 .left ∙ sym (sent s) },
+    )
+
+pub tried-spec : {M : Type 1} → statement M
+tried-spec =
+    tie.close
+    (tie.spec (λ c. search needs) (λ c. search needs) returns (λ c. search needs) (λ c. search needs)
+    (λ c. search needs) (λ c. search needs) (λ c. search needs) (λ c. search needs) (λ c. search needs)
+    (λ c. search needs) returns-2 (λ c. search needs) (λ c. search needs) (λ c. search needs) (λ c. search needs)
+    (λ c. search needs) (λ c. search needs) (λ c. search needs) (λ c. search needs) returns-3 add-frame-requires
+    (λ c. search needs) (λ c. search needs))

@@ -1,0 +1,42 @@
+// What a line of work sent does to a board of up to 16 nodes.
+// Any board and numbers may be handed.
+ghost use mathlib.Core.Path.{_≡_};
+ghost use mathlib.Core.List.{List};
+ghost use Prim.Native.Nat.{ℕ};
+ghost use Rattle.under_way.specs.Frames.{roomFor};
+ghost use Rattle.turn_send.specs.Sending.{sendAct};
+use items::Item;
+use node::Answer;
+use stage::Acted;
+use stage::Stage;
+
+// Work goes from a to b, where there is room for so many items.
+pub fn send_act(st: Stage, a: u32, b: u32, headers: usize, room: usize) -> Acted
+    ensures { λ r. ⌜ ((bs : List ℕ) → room ≡ roomFor headers bs → r ≡ sendAct st headers bs a b) ⌝ }
+{
+    let under = st.under;
+    let n = stage::state_at(st, a);
+    let r = state_calls::send_to(n, b);
+    let answer = r.answer;
+    match answer {
+        Answer::Done => {
+            if room <= under {
+                return stage::quiet(under, headers, st, a, 15);
+            }
+            let m = r.state;
+            let after = stage::with_state(st, a, m, under + 1);
+            let it = Item {
+                from: a as u8,
+                to: b as u8,
+                kind: 0,
+                phase: states::phase_of(n),
+            };
+            let mut acted = stage::quiet(under, headers, after, a, 0);
+            acted.at = under;
+            acted.first = it;
+            acted
+        }
+        Answer::Dropped => stage::quiet(under, headers, st, a, 24),
+        Answer::Refused(x) => stage::quiet(under, headers, st, a, x as u32),
+    }
+}
