@@ -2,7 +2,7 @@
 """Puts what a run of the gate cost into docs/COST.md: python3 docs/gate.py LOG MINUTES
 
 LOG is what bash .ci/run printed in a clean clone, MINUTES how long it took. A crate that was proved more than once counts
-with its last time, rt ci's.
+with its first time, rt ci's.
 """
 import pathlib
 import re
@@ -23,14 +23,15 @@ def table(crates, edits):
 
 def main():
     log = pathlib.Path(sys.argv[1]).read_text(encoding="utf-8")
-    crates = {name: int(seconds) for name, seconds in PROVED.findall(log)}
+    crates = {}
+    for name, seconds in PROVED.findall(log):
+        crates.setdefault(name, int(seconds))
     edits = {}
     for name, seconds in REFUSED.findall(log):
         edits.setdefault(name, []).append(int(seconds))
     spent = [seconds for tried in edits.values() for seconds in tried]
     words = (f"{table(crates, edits)}\n\nThat run took {sys.argv[2]} minutes. Added up, two at a time, the proofs are "
-             f"{sum(crates.values()):,} seconds and the\n{len(spent)} must-fail edits {sum(spent):,}; the tests before them, with what they "
-             "build, have the rest.")
+             f"{sum(crates.values()):,} seconds and the\n{len(spent)} must-fail edits {sum(spent):,}; the tests after them have the rest.")
     page = PAGE.read_text(encoding="utf-8")
     made = re.compile(r"(<!-- the gate -->\n\n).*?(\n\n<!-- the gate's end -->)", re.DOTALL)
     if not made.search(page):

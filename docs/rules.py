@@ -26,7 +26,16 @@ HEADLINE = {
         "pub rehearsals : EveryRehearsal", "pub texts : EveryTextFits",
         "pub safe : (es : List Event) → Safe base P (run base P es)",
         "pub lives : (es : List Event) → NoLoss es → Lives base P (run base P es)",
-        "pub facts : (es : List Event) → Facts base P (run base P es)"],
+        "pub facts : (es : List Event) → Facts base P (run base P es)",
+        # each claim of the records
+        "pub ours :", "pub stay :", "pub fresh :", "pub freshStays :", "pub sends :", "pub takes :",
+        "pub idles :", "pub frames : (bs : List ℕ)", "pub steps :", "pub stepStays :", "pub dimensions :", "pub places :", "pub distances :",
+        "pub dimensionStays :", "pub placeStays :", "pub distanceStays :", "pub writes :", "pub writeStays :",
+        "pub reads :", "pub readStays :", "pub fits :", "pub smallest :", "pub sent :", "pub awaits :",
+        "pub neighbours :", "pub hermits :", "pub hermitNext :", "pub messengers :", "pub hermitBefore :",
+        "pub samePlace :", "pub alones :", "pub near :", "pub nearer :", "pub below :", "pub symmetric :",
+        "pub shells :", "pub aloneShells :", "pub sameShells :", "pub writtenRead :", "pub readBytes :",
+        "pub readWritten :", "pub sameBytes :"],
     "crates/promises/proofs/Whole.antt": ["pub promises : Promises"],
     "crates/runs/specs/Claim.antt": [
         "pub busySend :", "pub busyIs :", "pub wakes :", "pub leavesTaken :", "pub leavesIdle :", "pub leavesReached :",

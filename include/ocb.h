@@ -169,7 +169,7 @@ extern "C" {
  * already, and what interrupts put there, comes on top. docs/COST.md has the bound of each function, and it is checked
  * that none is above this.
  */
-#define OCB_STACK_BYTES 640
+#define OCB_STACK_BYTES 512
 
 /* Words that a barrier call, a place and a frame's fields take. */
 #define OCB_DETAIL_WORDS 5
