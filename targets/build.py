@@ -26,9 +26,8 @@ WORDS = ["-ffunction-sections", "-fdata-sections", "-mllvm", "-trap-unreachable"
 
 # More for the library. The proved code is many functions that lend each other slices and structs, which are in memory where
 # a function is not put into the one that calls it. At -Os few are, by clang's own measure of size: a larger one gives less
-# stack, and fewer instructions in the dearest calls. On a Cortex-M0 any size from 600 to 1500 gives the same. At -O2 loops
-# would be unrolled, which is a fifth of the code and a little stack for hardly any time, since they have few turns. The
-# versions by hand that are measured beside the library gain nothing from these words.
+# stack, and fewer instructions in the dearest calls. At -O2 loops would be unrolled, which is a fifth of the code and a
+# little stack for 3 or 4 in 100 of the instructions. docs/DECISIONS.md has how these words were picked.
 MORE = {"Os": ["-mllvm", "-inline-threshold=1000"], "O2": ["-fno-unroll-loops"]}
 KEEPING = """#!/bin/sh
 for word in "$@"; do case $word in *.bc) cp "$word" "{kept}" ;; esac; done
