@@ -2,22 +2,23 @@
 use mathlib.Core.Path.{_≡_, refl, sym, ap, _∙_}
 use mathlib.Core.Bool.{Bool, true, false}
 use mathlib.Core.List.{List, [], _∷_, _++_}
-use Prim.Native.Nat.{ℕ, _+_, _-_, _*_, _≤_, _<_}
+use Prim.Native.Nat.{ℕ, _+_, _-_, _≤_, _<_}
 use native.Mathlib.Omega.{arith}
 use lib.Dec.{ltb}
 use lib.ListN.{length, drop, length-append, length-drop, List·getD-append}
 use lib.Seq.{drop-append-add, drop-append-seam, getD-append-add}
 use borrow.Author.Tests.{ltb-true}
 use Rattle.base.specs.Choice.{choose, list}
-use Rattle.base.specs.Limits.{Limits}
+use Rattle.base.specs.Limits.{Limits, width}
 use Rattle.base.proofs.Laws.{cases, length-list, list-same, list-one}
 use Rattle.tree.specs.Tree.{dimension}
 use Rattle.tree.specs.Lookups.{badBoard}
 use Rattle.frame.specs.Frame.{sentNumber, takenNumber, hasShell}
 use Rattle.frame.proofs.RoundTripChecks.{shell-known}
 use Rattle.node.specs.Change.{freshIn, noFirst, noSecond}
-use Rattle.layout.specs.Places.{atNodes, atNumber, atSent, atTaken, atFirst, atSecond, stateWords}
+use Rattle.layout.specs.Places.{atNodes, atNumber, atSent, atTaken, atFirst, atSecond, stateWords, headWords}
 use Rattle.layout.specs.Places.{sentPlace, takenPlace, issuedPlace, receivedPlace, agreedPlace, confirmedPlace}
+use Rattle.layout.specs.Places.{firstWords, stepWords}
 use Rattle.layout.specs.Held.{word, dimsOf, firstFrom, secondFrom, firstIn, secondIn, unpacked, isWhole, spare}
 use Rattle.layout.proofs.Offsets.{first-above, first-inside}
 use Rattle.layout.proofs.Whole.{whole, whole-made}
@@ -26,7 +27,7 @@ use Rattle.layout.proofs.Becomes.{Becomes}
 -- the words of a fresh state, then others
 abbrev pub freshly : ℕ → ℕ → ℕ → List ℕ → List ℕ
 freshly P a ph rest =
-    (P ∷ a ∷ ph ∷ 1 ∷ 1 ∷ 0 ∷ 1 ∷ 0 ∷ []) ++ (list 0 (stateWords (dimension P) - 8) (λ i. 0) ++ rest)
+    (P ∷ a ∷ ph ∷ 1 ∷ 1 ∷ 0 ∷ 1 ∷ 0 ∷ []) ++ (list 0 (stateWords (dimension P) - headWords) (λ i. 0) ++ rest)
 
 module _ (P a ph : ℕ) (rest : List ℕ) where
   abbrev p : ℕ
@@ -39,10 +40,10 @@ module _ (P a ph : ℕ) (rest : List ℕ) where
   head = P ∷ a ∷ ph ∷ 1 ∷ 1 ∷ 0 ∷ 1 ∷ 0 ∷ []
 
   abbrev zeros : List ℕ
-  zeros = list 0 (stateWords p - 8) (λ i. 0)
+  zeros = list 0 (stateWords p - headWords) (λ i. 0)
 
-  zeros-long : 8 + length zeros ≡ stateWords p
-  zeros-long = omega (arith, first-above p p, length-list {A = ℕ} 0 (stateWords p - 8) (λ i. 0))
+  zeros-long : headWords + length zeros ≡ stateWords p
+  zeros-long = omega (arith, first-above p p, length-list {A = ℕ} 0 (stateWords p - headWords) (λ i. 0))
 
   pub fresh-length : length ws ≡ stateWords p + length rest
   fresh-length = omega (arith, zeros-long, length-append zeros rest)
@@ -54,36 +55,36 @@ module _ (P a ph : ℕ) (rest : List ℕ) where
       ∙ drop-append-seam zeros rest
 
   -- after the head there are only zeros
-  blank : (i : ℕ) → 8 ≤ i → i < stateWords p → word ws i ≡ 0
+  blank : (i : ℕ) → headWords ≤ i → i < stateWords p → word ws i ≡ 0
   blank i low high =
-      let j : ℕ = i - 8 in
-      let e : i ≡ 8 + j = omega arith in
+      let j : ℕ = i - headWords in
+      let e : i ≡ headWords + j = omega arith in
       ap (word ws) e
       ∙ getD-append-add head (zeros ++ rest) j 0
       ∙ List·getD-append zeros rest 0 j (omega (arith, zeros-long))
-      ∙ list-one 0 (stateWords p - 8) 0 j
+      ∙ list-one 0 (stateWords p - headWords) 0 j
 
   -- a number that is 0 where it is there
   none : (t : Bool) (x : ℕ) → (t ≡ true → x ≡ 0) → choose t x 0 ≡ 0
   none t x h = cases (λ y. y ≡ 0) t x 0 h (λ e. refl)
 
   tallies : {A : Type 0} (make : ℕ → A) (at : ℕ → ℕ)
-      → ((m : ℕ) → m < p → (8 ≤ at m) × (at m < stateWords p))
-      → list 0 8 (λ m. make (choose (ltb m p) (word ws (at m)) 0)) ≡ list 0 8 (λ m. make 0)
+      → ((m : ℕ) → m < p → (headWords ≤ at m) × (at m < stateWords p))
+      → list 0 width (λ m. make (choose (ltb m p) (word ws (at m)) 0)) ≡ list 0 width (λ m. make 0)
   tallies make at h =
-      list-same 0 8 _ _
+      list-same 0 width _ _
       (λ m u v.
       ap make (none (ltb m p) (word ws (at m)) (λ t. let r = h m (ltb-true m p t) in blank (at m) (r .0) (r .1))))
 
   -- the stored frames
   module _ (k : ℕ) (h : k < p) where
-    at : (i j : ℕ) → i < 2 * (p - k) + 6 → j ≡ atFirst p k + i → word ws j ≡ 0
+    at : (i j : ℕ) → i < stepWords p k → j ≡ atFirst p k + i → word ws j ≡ 0
     at i j l e = blank j (omega (arith, first-above p k)) (omega (arith, first-inside p k h))
 
     shells : {A : Type 0} (make : ℕ → A) (f : ℕ → ℕ) → ((m : ℕ) → k ≤ m → m < p → word ws (f m) ≡ 0)
-        → list 0 8 (λ m. make (choose (hasShell p k m) (word ws (f m)) 0)) ≡ list 0 8 (λ m. make 0)
+        → list 0 width (λ m. make (choose (hasShell p k m) (word ws (f m)) 0)) ≡ list 0 width (λ m. make 0)
     shells make f s =
-        list-same 0 8 _ _
+        list-same 0 width _ _
         (λ m u v.
         ap make (none (hasShell p k m) (word ws (f m)) (λ t. let r = shell-known p k m t in s m (r .0) (r .1))))
 
@@ -93,20 +94,20 @@ module _ (P a ph : ℕ) (rest : List ℕ) where
         rw (
           at 0 from (omega arith) (omega arith),
           shells sentNumber (sentPlace from k)
-              (λ m g l. at (1 + (m - k)) (sentPlace from k m) (omega arith) (omega arith)),
+              (λ m g l. at (sentPlace 0 k m) (sentPlace from k m) (omega arith) (omega arith)),
           shells takenNumber (takenPlace p from k)
-              (λ m g l. at (1 + (p - k) + (m - k)) (takenPlace p from k m) (omega arith) (omega arith)),
-          at (1 + 2 * (p - k)) (issuedPlace p from k) (omega arith) (omega arith),
-          at (2 + 2 * (p - k)) (receivedPlace p from k) (omega arith) (omega arith),
+              (λ m g l. at (takenPlace p 0 k m) (takenPlace p from k m) (omega arith) (omega arith)),
+          at (issuedPlace p 0 k) (issuedPlace p from k) (omega arith) (omega arith),
+          at (receivedPlace p 0 k) (receivedPlace p from k) (omega arith) (omega arith),
         )
 
     second-blank : secondFrom ws (atSecond p k) ≡ noSecond
     second-blank =
         let from = atSecond p k in
         rw (
-          at (2 * (p - k) + 3) from (omega arith) (omega arith),
-          at (2 * (p - k) + 4) (agreedPlace from) (omega arith) (omega arith),
-          at (2 * (p - k) + 5) (confirmedPlace from) (omega arith) (omega arith),
+          at (firstWords p k) from (omega arith) (omega arith),
+          at (agreedPlace (firstWords p k)) (agreedPlace from) (omega arith) (omega arith),
+          at (confirmedPlace (firstWords p k)) (confirmedPlace from) (omega arith) (omega arith),
         )
 
   first-none : (k : ℕ) → firstIn ws p k ≡ noFirst
@@ -126,8 +127,8 @@ module _ (P a ph : ℕ) (rest : List ℕ) where
       rw (
         tallies sentNumber atSent (λ m l. (omega arith, omega arith)),
         tallies takenNumber (atTaken p) (λ m l. (omega arith, omega arith)),
-        list-same 0 8 (firstIn ws p) (λ k. noFirst) (λ k u v. first-none k),
-        list-same 0 8 (secondIn ws p) (λ k. noSecond) (λ k u v. second-none k),
+        list-same 0 width (firstIn ws p) (λ k. noFirst) (λ k u v. first-none k),
+        list-same 0 width (secondIn ws p) (λ k. noSecond) (λ k u v. second-none k),
       )
 
   pub fresh-whole : (L : Limits) → badBoard L P ≡ false → ph < 256 → isWhole L ws ≡ true
@@ -140,7 +141,7 @@ module _ (P a ph : ℕ) (rest : List ℕ) where
         busy = omega arith;
         flag = omega arith;
         first = λ k h. omega (arith, at k h 0 (atFirst p k) (omega arith) (omega arith));
-        second = λ k h. omega (arith, at k h (2 * (p - k) + 3) (atSecond p k) (omega arith) (omega arith));
+        second = λ k h. omega (arith, at k h (firstWords p k) (atSecond p k) (omega arith) (omega arith));
       })
 
 -- a fresh state of the same node

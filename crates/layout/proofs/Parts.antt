@@ -3,7 +3,7 @@
 use mathlib.Core.Path.{_≡_, refl, sym, ap, _∙_}
 use mathlib.Core.Bool.{Bool, true, false}
 use mathlib.Core.List.{List}
-use Prim.Native.Nat.{ℕ, _+_, _-_, _*_, _≤_, _<_}
+use Prim.Native.Nat.{ℕ, _+_, _≤_, _<_}
 use native.Mathlib.Nat.{zero-add}
 use native.Mathlib.Omega.{arith}
 use lib.Dec.{ltb, leb}
@@ -13,7 +13,8 @@ use Rattle.base.specs.Choice.{choose, list}
 use Rattle.base.specs.Limits.{width}
 use Rattle.base.proofs.Laws.{both-true, list-same, list-set}
 use Rattle.frame.specs.Frame.{sentNumber, takenNumber, hasShell}
-use Rattle.layout.specs.Places.{atFirst, atSecond, sentPlace, takenPlace, issuedPlace, receivedPlace}
+use Rattle.layout.specs.Places.{atFirst, atSecond, sentPlace, takenPlace, issuedPlace, receivedPlace, firstWords}
+use Rattle.layout.specs.Places.{secondWords, agreedPlace, confirmedPlace}
 use Rattle.layout.specs.Held.{word, firstFrom, secondFrom, firstIn, secondIn}
 
 -- ---- Lists by a rule
@@ -24,21 +25,21 @@ chosen true a b d h = h refl
 chosen false a b d h = refl
 
 -- the rules agree but at k
-pub one-set : {A : Type 0} (f g : ℕ → A) (k : ℕ) (x : A) → k < 8 → g k ≡ x
+pub one-set : {A : Type 0} (f g : ℕ → A) (k : ℕ) (x : A) → k < width → g k ≡ x
     → ((j : ℕ) → (j ≡ k → ⊥) → g j ≡ f j)
     → list 0 width g ≡ set (list 0 width f) k x
 one-set f g k x h e s =
     sym
-    (rw (← e, ← ap g (zero-add k)) (list-set 0 8 f g k h (λ j a b n. sym (s j (λ z. n (z ∙ sym (zero-add k)))))))
+    (rw (← e, ← ap g (zero-add k)) (list-set 0 width f g k h (λ j a b n. sym (s j (λ z. n (z ∙ sym (zero-add k)))))))
 
 -- the tallies of p shells, each by a rule
 module _ {A : Type 0} (make : ℕ → A) (p : ℕ) (f g : ℕ → ℕ) where
   pub tallies-same : ((j : ℕ) → j < p → g j ≡ f j)
       → list 0 width (λ m. make (choose (ltb m p) (g m) 0)) ≡ list 0 width (λ m. make (choose (ltb m p) (f m) 0))
   tallies-same s =
-      list-same 0 8 _ _ (λ m a b. ap make (chosen (ltb m p) (g m) (f m) 0 (λ t. s m (ltb-true m p t))))
+      list-same 0 width _ _ (λ m a b. ap make (chosen (ltb m p) (g m) (f m) 0 (λ t. s m (ltb-true m p t))))
 
-  pub tallies-set : (m x : ℕ) → m < p → m < 8 → g m ≡ x → ((j : ℕ) → j < p → (j ≡ m → ⊥) → g j ≡ f j)
+  pub tallies-set : (m x : ℕ) → m < p → m < width → g m ≡ x → ((j : ℕ) → j < p → (j ≡ m → ⊥) → g j ≡ f j)
       → list 0 width (λ m. make (choose (ltb m p) (g m) 0))
       ≡ set (list 0 width (λ m. make (choose (ltb m p) (f m) 0))) m (make x)
   tallies-set m x h l e s =
@@ -57,50 +58,50 @@ alike-at : (xs : List ℕ) (a : ℕ) (ys : List ℕ) (b n : ℕ) → Alike xs a 
     → word xs c ≡ word ys d
 alike-at xs a ys b n h i c d l e f = ap (word xs) e ∙ h i l ∙ ap (word ys) (sym f)
 
-pub first-alike : (xs ys : List ℕ) (p k a b : ℕ) → Alike xs a ys b (2 * (p - k) + 3)
+pub first-alike : (xs ys : List ℕ) (p k a b : ℕ) → Alike xs a ys b (firstWords p k)
     → firstFrom xs p k a ≡ firstFrom ys p k b
 first-alike xs ys p k a b h =
     let e0 = at 0 a b (omega arith) (omega arith) (omega arith) in
-    let e1 = at (1 + 2 * (p - k)) (issuedPlace p a k) (issuedPlace p b k) (omega arith) (omega arith) (omega arith) in
-    let e2 = at (2 + 2 * (p - k)) (receivedPlace p a k) (receivedPlace p b k) (omega arith) (omega arith) (omega arith) in
+    let e1 = at (issuedPlace p 0 k) (issuedPlace p a k) (issuedPlace p b k) (omega arith) (omega arith) (omega arith) in
+    let e2 = at (receivedPlace p 0 k) (receivedPlace p a k) (receivedPlace p b k) (omega arith) (omega arith) (omega arith) in
     let s = shells sentNumber (sentPlace a k) (sentPlace b k) sents in
     let t = shells takenNumber (takenPlace p a k) (takenPlace p b k) takens in
     cc
   where
-    at : (i c d : ℕ) → i < 2 * (p - k) + 3 → c ≡ a + i → d ≡ b + i → word xs c ≡ word ys d
-    at = alike-at xs a ys b (2 * (p - k) + 3) h
+    at : (i c d : ℕ) → i < firstWords p k → c ≡ a + i → d ≡ b + i → word xs c ≡ word ys d
+    at = alike-at xs a ys b (firstWords p k) h
 
     sents : (m : ℕ) → k ≤ m → m < p → word xs (sentPlace a k m) ≡ word ys (sentPlace b k m)
-    sents m g l = at (1 + (m - k)) _ _ (omega arith) (omega arith) (omega arith)
+    sents m g l = at (sentPlace 0 k m) _ _ (omega arith) (omega arith) (omega arith)
 
     takens : (m : ℕ) → k ≤ m → m < p → word xs (takenPlace p a k m) ≡ word ys (takenPlace p b k m)
-    takens m g l = at (1 + (p - k) + (m - k)) _ _ (omega arith) (omega arith) (omega arith)
+    takens m g l = at (takenPlace p 0 k m) _ _ (omega arith) (omega arith) (omega arith)
 
     shells : {A : Type 0} (make : ℕ → A) (f g : ℕ → ℕ) → ((m : ℕ) → k ≤ m → m < p → word xs (f m) ≡ word ys (g m))
         → list 0 width (λ m. make (choose (hasShell p k m) (word xs (f m)) 0))
         ≡ list 0 width (λ m. make (choose (hasShell p k m) (word ys (g m)) 0))
     shells make f g s =
-        list-same 0 8 _ _
+        list-same 0 width _ _
         (λ m u v.
         ap make
         (chosen (hasShell p k m) (word xs (f m)) (word ys (g m)) 0
         (λ t. let q = both-true (leb k m) (ltb m p) t in s m (leb-true k m (q .0)) (ltb-true m p (q .1)))))
 
-pub second-alike : (xs ys : List ℕ) (a b : ℕ) → Alike xs a ys b 3 → secondFrom xs a ≡ secondFrom ys b
+pub second-alike : (xs ys : List ℕ) (a b : ℕ) → Alike xs a ys b secondWords → secondFrom xs a ≡ secondFrom ys b
 second-alike xs ys a b h =
-    let at = alike-at xs a ys b 3 h in
+    let at = alike-at xs a ys b secondWords h in
     let e0 = at 0 a b (omega arith) (omega arith) (omega arith) in
-    let e1 = h 1 (omega arith) in
-    let e2 = h 2 (omega arith) in
+    let e1 = h (agreedPlace 0) (omega arith) in
+    let e2 = h (confirmedPlace 0) (omega arith) in
     cc
 
 -- the frames of dimension k
 module _ (xs ys : List ℕ) (p k : ℕ) where
-  pub first-same : (k < p → Alike xs (atFirst p k) ys (atFirst p k) (2 * (p - k) + 3)) → firstIn xs p k ≡ firstIn ys p k
+  pub first-same : (k < p → Alike xs (atFirst p k) ys (atFirst p k) (firstWords p k)) → firstIn xs p k ≡ firstIn ys p k
   unfolding firstIn
   first-same h =
       chosen (ltb k p) _ _ _ (λ t. first-alike xs ys p k (atFirst p k) (atFirst p k) (h (ltb-true k p t)))
 
-  pub second-same : (k < p → Alike xs (atSecond p k) ys (atSecond p k) 3) → secondIn xs p k ≡ secondIn ys p k
+  pub second-same : (k < p → Alike xs (atSecond p k) ys (atSecond p k) secondWords) → secondIn xs p k ≡ secondIn ys p k
   unfolding secondIn
   second-same h = chosen (ltb k p) _ _ _ (λ t. second-alike xs ys (atSecond p k) (atSecond p k) (h (ltb-true k p t)))

@@ -20,36 +20,36 @@ use Rattle.layout.specs.Places.{atSent, atTaken, atFirst, atSecond, sent
 use Rattle.layout.specs.Held.{word, dimsOf, firstFrom, secondFrom, firstIn, secondIn, unpacked}
 
 -- a number of shells listed by a rule
-sent-listed : (f : ℕ → ℕ) (m : ℕ) → m < 8 → sentAt (list 0 width (λ i. sentNumber (f i))) m ≡ f m
+sent-listed : (f : ℕ → ℕ) (m : ℕ) → m < width → sentAt (list 0 width (λ i. sentNumber (f i))) m ≡ f m
 sent-listed f m h = ap (λ (x : Sent). x .0) (list-at width (λ i. sentNumber (f i)) m (sentNumber 0) h)
 
-taken-listed : (f : ℕ → ℕ) (m : ℕ) → m < 8 → takenAt (list 0 width (λ i. takenNumber (f i))) m ≡ f m
+taken-listed : (f : ℕ → ℕ) (m : ℕ) → m < width → takenAt (list 0 width (λ i. takenNumber (f i))) m ≡ f m
 taken-listed f m h = ap (λ (x : Taken). x .0) (list-at width (λ i. takenNumber (f i)) m (takenNumber 0) h)
 
-sent-past : (f : ℕ → ℕ) (m : ℕ) → 8 ≤ m → sentAt (list 0 width (λ i. sentNumber (f i))) m ≡ 0
+sent-past : (f : ℕ → ℕ) (m : ℕ) → width ≤ m → sentAt (list 0 width (λ i. sentNumber (f i))) m ≡ 0
 sent-past f m h = ap (λ (x : Sent). x .0) (List·getD-eq-default (list 0 width (λ i. sentNumber (f i))) (sentNumber 0) h)
 
-taken-past : (f : ℕ → ℕ) (m : ℕ) → 8 ≤ m → takenAt (list 0 width (λ i. takenNumber (f i))) m ≡ 0
+taken-past : (f : ℕ → ℕ) (m : ℕ) → width ≤ m → takenAt (list 0 width (λ i. takenNumber (f i))) m ≡ 0
 taken-past f m h =
     ap (λ (x : Taken). x .0) (List·getD-eq-default (list 0 width (λ i. takenNumber (f i))) (takenNumber 0) h)
 
 -- ---- The state
 
-pub sent-word : (ws : List ℕ) (m : ℕ) → m < 8
+pub sent-word : (ws : List ℕ) (m : ℕ) → m < width
     → sentAt (unpacked ws .sent) m ≡ choose (ltb m (dimsOf ws)) (word ws (atSent m)) 0
 unfolding unpacked
 sent-word ws m h = sent-listed (λ i. choose (ltb i (dimsOf ws)) (word ws (atSent i)) 0) m h
 
-pub taken-word : (ws : List ℕ) (m : ℕ) → m < 8
+pub taken-word : (ws : List ℕ) (m : ℕ) → m < width
     → takenAt (unpacked ws .taken) m ≡ choose (ltb m (dimsOf ws)) (word ws (atTaken (dimsOf ws) m)) 0
 unfolding unpacked
 taken-word ws m h = taken-listed (λ i. choose (ltb i (dimsOf ws)) (word ws (atTaken (dimsOf ws) i)) 0) m h
 
-pub first-word : (ws : List ℕ) (k : ℕ) → k < 8 → firstAt (unpacked ws) k ≡ firstIn ws (dimsOf ws) k
+pub first-word : (ws : List ℕ) (k : ℕ) → k < width → firstAt (unpacked ws) k ≡ firstIn ws (dimsOf ws) k
 unfolding unpacked
 first-word ws k h = list-at width (firstIn ws (dimsOf ws)) k _ h
 
-pub second-word : (ws : List ℕ) (k : ℕ) → k < 8 → secondAt (unpacked ws) k ≡ secondIn ws (dimsOf ws) k
+pub second-word : (ws : List ℕ) (k : ℕ) → k < width → secondAt (unpacked ws) k ≡ secondIn ws (dimsOf ws) k
 unfolding unpacked
 second-word ws k h = list-at width (secondIn ws (dimsOf ws)) k _ h
 
@@ -80,20 +80,20 @@ module _ (ws : List ℕ) (p k at m : ℕ) where
   abbrev takenHeld : ℕ → ℕ
   takenHeld i = choose (hasShell p k i) (word ws (takenPlace p at k i)) 0
 
-  pub number-sent : k ≤ m → m < p → m < 8 → number (firstFrom ws p k at) (sentIn m) ≡ word ws (sentPlace at k m)
+  pub number-sent : k ≤ m → m < p → m < width → number (firstFrom ws p k at) (sentIn m) ≡ word ws (sentPlace at k m)
   number-sent a b h = sent-listed sentHeld m h ∙ choose-yes _ _ (both-make (le-leb k m a) (lt-ltb m p b))
 
-  pub number-taken : k ≤ m → m < p → m < 8 → number (firstFrom ws p k at) (takenIn m) ≡ word ws (takenPlace p at k m)
+  pub number-taken : k ≤ m → m < p → m < width → number (firstFrom ws p k at) (takenIn m) ≡ word ws (takenPlace p at k m)
   number-taken a b h = taken-listed takenHeld m h ∙ choose-yes _ _ (both-make (le-leb k m a) (lt-ltb m p b))
 
   -- a shell that the frame does not have
   pub number-outside : hasShell p k m ≡ false
       → (number (firstFrom ws p k at) (sentIn m) ≡ 0) × (number (firstFrom ws p k at) (takenIn m) ≡ 0)
-  number-outside e = go (decLt m 8)
+  number-outside e = go (decLt m width)
     where
-      go : Dec (m < 8) → (number (firstFrom ws p k at) (sentIn m) ≡ 0) × (number (firstFrom ws p k at) (takenIn m) ≡ 0)
+      go : Dec (m < width) → (number (firstFrom ws p k at) (sentIn m) ≡ 0) × (number (firstFrom ws p k at) (takenIn m) ≡ 0)
       go (yes h) = (
         sent-listed sentHeld m h ∙ choose-no (word ws (sentPlace at k m)) 0 e,
         taken-listed takenHeld m h ∙ choose-no (word ws (takenPlace p at k m)) 0 e,
       )
-      go (no h) = let o : 8 ≤ m = omega arith in (sent-past sentHeld m o, taken-past takenHeld m o)
+      go (no h) = let o : width ≤ m = omega arith in (sent-past sentHeld m o, taken-past takenHeld m o)

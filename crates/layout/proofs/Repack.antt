@@ -9,15 +9,16 @@ use lib.ListN.{length, take, take-append-drop}
 use lib.Seq.{slice}
 use borrow.Author.Tests.{lt-ltb}
 use Rattle.base.specs.Choice.{choose, list}
-use Rattle.base.specs.Limits.{Limits, Fits}
+use Rattle.base.specs.Limits.{Limits, Fits, width}
 use Rattle.base.proofs.Laws.{choose-yes}
 use Rattle.tree.specs.Tree.{dimension}
 use Rattle.frame.specs.Frame.{sentAt, takenAt}
 use Rattle.node.specs.Sums.{firstAt, secondAt}
 use Rattle.node.specs.Change.{freshIn}
 use Rattle.node.specs.declared.Stored.{Stored}
-use Rattle.layout.specs.Places.{atNodes, atNumber, atPhase, atPass, atDim, atAgreed}
-use Rattle.layout.specs.Places.{atBusy, atFlag, atFirst, atSecond, stateWords, firstWords}
+use Rattle.layout.specs.Places.{atNodes, atNumber, atPhase, atPass, atDim, atAgreed, markWords}
+use Rattle.layout.specs.Places.{atBusy, atFlag, atFirst, atSecond, stateWords, firstWords, headWords, secondWords}
+use Rattle.layout.specs.Places.{receivedPlace, agreedPlace, confirmedPlace}
 use Rattle.layout.specs.Held.{word, bit, dimsOf, firstFrom, secondFrom, unpacked, isWhole, headOf}
 use Rattle.layout.specs.Held.{firstList, secondList, joinedList, packed, spare, holding}
 use Rattle.layout.proofs.Offsets.{first-none, first-more, first-above, first-up, first-inside}
@@ -41,38 +42,41 @@ shells ws p k a f h long e =
     (λ i j l m q. let z : a + (i - k) ≡ j = omega arith in rw z at (e i l (omega arith)))
 
 -- a frame of pass 1 whose words begin at a place
-first-kept : (ws : List ℕ) (p k at end : ℕ) → k ≤ p → p ≤ 8 → at + firstWords p k ≡ end → end ≤ length ws
+first-kept : (ws : List ℕ) (p k at end : ℕ) → k ≤ p → p ≤ width → at + firstWords p k ≡ end → end ≤ length ws
     → word ws at < 2 → firstList p k (firstFrom ws p k at) ≡ slice at end ws
 unfolding firstList
 first-kept ws p k at end h few n long mark =
     let x : Stored = firstFrom ws p k at in
-    let s : ℕ = at + 1 + (p - k) in
+    let a : ℕ = at + markWords in
+    let s : ℕ = a + (p - k) in
     let t : ℕ = s + (p - k) in
-    let marks = one ws at (at + 1) (bit (x .present)) refl (omega arith) (bit-write (word ws at) mark) in
-    let sents = shells ws p k (at + 1) (sentAt (x .sent)) h (omega arith)
+    let r : ℕ = receivedPlace p at k in
+    let marks = one ws at a (bit (x .present)) refl (omega arith) (bit-write (word ws at) mark) in
+    let sents = shells ws p k a (sentAt (x .sent)) h (omega arith)
     (λ i l m. number-sent ws p k at i l m (omega arith)) in
     let takens = shells ws p k s (takenAt (x .taken)) h (omega arith)
     (λ i l m. number-taken ws p k at i l m (omega arith)) in
-    let issued = one ws t (t + 1) (x .issued .0) refl (omega arith) (ap (word ws) (omega arith)) in
-    let received = one ws (t + 1) end (x .received .0) (omega arith) long (ap (word ws) (omega arith)) in
-    joins ws at (at + 1) end (omega arith) (omega arith) marks
-    (joins ws (at + 1) s end (omega arith) (omega arith) sents
+    let issued = one ws t r (x .issued .0) (omega arith) (omega arith) (ap (word ws) (omega arith)) in
+    let received = one ws r end (x .received .0) (omega arith) long refl in
+    joins ws at a end (omega arith) (omega arith) marks
+    (joins ws a s end (omega arith) (omega arith) sents
     (joins ws s t end (omega arith) (omega arith) takens
-    (joins ws t (t + 1) end (omega arith) (omega arith) issued received)))
+    (joins ws t r end (omega arith) (omega arith) issued received)))
 
-second-kept : (ws : List ℕ) (at end : ℕ) → at + 3 ≡ end → end ≤ length ws → word ws at < 2
+second-kept : (ws : List ℕ) (at end : ℕ) → at + secondWords ≡ end → end ≤ length ws → word ws at < 2
     → secondList (secondFrom ws at) ≡ slice at end ws
 unfolding secondList
 second-kept ws at end n long mark =
-    joins ws at (at + 1) end (omega arith) (omega arith)
-    (one ws at (at + 1) (bit (eqb (word ws at) 1)) refl (omega arith) (bit-write (word ws at) mark))
-    (joins ws (at + 1) (at + 2) end (omega arith) (omega arith)
-    (one ws (at + 1) (at + 2) (word ws (at + 1)) (omega arith) (omega arith) refl)
-    (one ws (at + 2) end (word ws (at + 2)) (omega arith) long refl))
+    let a : ℕ = agreedPlace at in
+    let c : ℕ = confirmedPlace at in
+    joins ws at a end (omega arith) (omega arith)
+    (one ws at a (bit (eqb (word ws at) 1)) refl (omega arith) (bit-write (word ws at) mark))
+    (joins ws a c end (omega arith) (omega arith)
+    (one ws a c (word ws a) (omega arith) (omega arith) refl) (one ws c end (word ws c) (omega arith) long refl))
 
 -- ---- The state
 
-module _ (ws : List ℕ) (L : Limits) (w : Whole L ws) (low : dimsOf ws ≤ 8) where
+module _ (ws : List ℕ) (L : Limits) (w : Whole L ws) (low : dimsOf ws ≤ width) where
   abbrev p : ℕ
   p = dimsOf ws
 
@@ -93,27 +97,27 @@ module _ (ws : List ℕ) (L : Limits) (w : Whole L ws) (low : dimsOf ws ≤ 8) w
       ∙ second-kept ws (atSecond p k) (atFirst p (suc k)) (omega arith) (omega arith) (w .second k h))
 
   rows-kept : joinedList 0 p (λ k. firstList p k (firstAt (unpacked ws) k) ++ secondList (secondAt (unpacked ws) k))
-      ≡ slice (8 + p + p) (stateWords p) ws
+      ≡ slice (headWords + p + p) (stateWords p) ws
   rows-kept =
-      let from : 8 + p + p ≡ atFirst p 0 = omega (arith, first-none p) in
+      let from : headWords + p + p ≡ atFirst p 0 = omega (arith, first-none p) in
       let to : 0 + p ≡ p = omega arith in
       rw from
       (rw to at
       (rows ws (atFirst p) (λ k. firstList p k (firstAt (unpacked ws) k) ++ secondList (secondAt (unpacked ws) k)) 0 p
       (first-up p) (λ k h. row-kept k (omega arith))))
 
-  head-kept : headOf (unpacked ws) ≡ slice 0 8 ws
+  head-kept : headOf (unpacked ws) ≡ slice 0 headWords ws
   unfolding unpacked
   head-kept =
       let long = w .long in
       let b = bit-write (word ws atBusy) (w .busy) in
       let f = bit-write (word ws atFlag) (w .flag) in
       (λ i. word ws atNodes ∷ word ws atNumber ∷ word ws atPhase ∷ b i ∷ word ws atPass ∷ word ws atDim ∷ f i ∷ word ws atAgreed ∷ [])
-      ∙ listed ws 0 8 0 8 (word ws) refl (omega (arith, first-above p p)) (λ i j l m q. ap (word ws) (omega arith))
+      ∙ listed ws 0 headWords 0 headWords (word ws) refl (omega (arith, first-above p p)) (λ i j l m q. ap (word ws) (omega arith))
 
   -- the tallies, those sent or those taken
   tallies-kept : (a : ℕ) (f : ℕ → ℕ) → a + p ≤ stateWords p
-      → ((i : ℕ) → i < 8 → f i ≡ choose (ltb i p) (word ws (a + i)) 0) → list 0 p f ≡ slice a (a + p) ws
+      → ((i : ℕ) → i < width → f i ≡ choose (ltb i p) (word ws (a + i)) 0) → list 0 p f ≡ slice a (a + p) ws
   tallies-kept a f h e =
       let long = w .long in
       listed ws a (a + p) 0 p f refl (omega arith)
@@ -123,10 +127,10 @@ module _ (ws : List ℕ) (L : Limits) (w : Whole L ws) (low : dimsOf ws ≤ 8) w
   unfolding packed unpacked
   state-kept =
       let above = first-above p p in
-      joins ws 0 8 (stateWords p) (omega arith) (omega arith) head-kept
-      (joins ws 8 (8 + p) (stateWords p) (omega arith) (omega arith) (tallies-kept 8 _ (omega arith) (sent-word ws))
-      (joins ws (8 + p) (8 + p + p) (stateWords p) (omega arith) (omega arith)
-      (tallies-kept (8 + p) _ (omega arith) (taken-word ws)) rows-kept))
+      joins ws 0 headWords (stateWords p) (omega arith) (omega arith) head-kept
+      (joins ws headWords (headWords + p) (stateWords p) (omega arith) (omega arith) (tallies-kept headWords _ (omega arith) (sent-word ws))
+      (joins ws (headWords + p) (headWords + p + p) (stateWords p) (omega arith) (omega arith)
+      (tallies-kept (headWords + p) _ (omega arith) (taken-word ws)) rows-kept))
 
 pub repacked : (L : Limits) → Fits L → (ws : List ℕ) → isWhole L ws ≡ true → holding ws (unpacked ws) ≡ ws
 repacked L fit ws e =
@@ -136,12 +140,12 @@ repacked L fit ws e =
 -- ---- A fresh state
 
 -- on a board of p dimensions
-fresh-words : (P a ph p : ℕ) → p ≤ 8
+fresh-words : (P a ph p : ℕ) → p ≤ width
     → headOf (freshIn P a ph)
     ++ (list 0 p (sentAt (freshIn P a ph .sent))
     ++ (list 0 p (takenAt (freshIn P a ph .taken))
     ++ joinedList 0 p (λ k. firstList p k (firstAt (freshIn P a ph) k) ++ secondList (secondAt (freshIn P a ph) k))))
-    ≡ (P ∷ a ∷ ph ∷ 1 ∷ 1 ∷ 0 ∷ 1 ∷ 0 ∷ []) ++ list 0 (stateWords p - 8) (λ i. 0)
+    ≡ (P ∷ a ∷ ph ∷ 1 ∷ 1 ∷ 0 ∷ 1 ∷ 0 ∷ []) ++ list 0 (stateWords p - headWords) (λ i. 0)
 unfolding joinedList firstList secondList atFirst
 fresh-words P a ph zero h = refl
 fresh-words P a ph (suc zero) h = refl
@@ -154,8 +158,8 @@ fresh-words P a ph (suc (suc (suc (suc (suc (suc (suc zero))))))) h = refl
 fresh-words P a ph (suc (suc (suc (suc (suc (suc (suc (suc zero)))))))) h = refl
 fresh-words P a ph (suc (suc (suc (suc (suc (suc (suc (suc (suc p))))))))) h = absurd (omega arith)
 
-pub fresh-packed : (P a ph : ℕ) → dimension P ≤ 8
+pub fresh-packed : (P a ph : ℕ) → dimension P ≤ width
     → packed (freshIn P a ph)
-    ≡ (P ∷ a ∷ ph ∷ 1 ∷ 1 ∷ 0 ∷ 1 ∷ 0 ∷ []) ++ list 0 (stateWords (dimension P) - 8) (λ i. 0)
+    ≡ (P ∷ a ∷ ph ∷ 1 ∷ 1 ∷ 0 ∷ 1 ∷ 0 ∷ []) ++ list 0 (stateWords (dimension P) - headWords) (λ i. 0)
 unfolding packed
 fresh-packed P a ph h = fresh-words P a ph (dimension P) h

@@ -2,18 +2,19 @@
 use mathlib.Core.Path.{_≡_, sym, ap, _∙_}
 use mathlib.Core.Bool.{true}
 use mathlib.Core.List.{List, [], _∷_}
-use Prim.Native.Nat.{ℕ, _+_, _-_, _*_, _≤_, _<_}
+use Prim.Native.Nat.{ℕ, _+_, _≤_, _<_}
 use native.Mathlib.Decide.{ℕ-discrete, decLt}
 use native.Mathlib.Nat.{zero-add, add-zero}
 use native.Mathlib.Omega.{arith}
 use lib.ListN.{length, set}
-use Rattle.base.specs.Limits.{Limits}
+use Rattle.base.specs.Limits.{Limits, width}
 use Rattle.frame.specs.Frame.{sentNumber}
 use Rattle.frame.specs.Parts.{pasted}
 use Rattle.node.specs.Change.{withFirst, withSecond}
 use Rattle.node.specs.declared.Stored.{Stored}
 use Rattle.node.specs.declared.Confirm.{Confirm}
-use Rattle.layout.specs.Places.{atNodes, atSent, atTaken, atFirst, atSecond}
+use Rattle.layout.specs.Places.{atNodes, atSent, atTaken, atFirst, atSecond, firstWords, secondWords, stepWords}
+use Rattle.layout.specs.Places.{markWords}
 use Rattle.layout.specs.Held.{word, dimsOf, firstFrom, firstIn, secondIn, unpacked, isWhole}
 use Rattle.layout.proofs.Offsets.{first-above, first-apart, first-inside}
 use Rattle.layout.proofs.Whole.{whole}
@@ -27,12 +28,12 @@ use Rattle.layout.proofs.Writes.{Marked, marked, tail-put}
 module _ (L : Limits) (ws : List ℕ) (e : isWhole L ws ≡ true) (k : ℕ) (h : k < dimsOf ws) where
   -- a write among the words of dimension k
   module _ (after : List ℕ) (from n : ℕ) (w : Written ws after from n) (low : atFirst (dimsOf ws) k ≤ from)
-      (high : from + n ≤ atFirst (dimsOf ws) k + (2 * (dimsOf ws - k) + 6)) where
+      (high : from + n ≤ atFirst (dimsOf ws) k + stepWords (dimsOf ws) k) where
     board : word after atNodes ≡ word ws atNodes
-    board = w .low 0 (omega (arith, first-above (dimsOf ws) k))
+    board = w .low atNodes (omega (arith, first-above (dimsOf ws) k))
 
     -- the words of the other dimensions
-    elsewhere : (j i : ℕ) → (j ≡ k → ⊥) → atFirst (dimsOf ws) j ≤ i → i < atFirst (dimsOf ws) j + (2 * (dimsOf ws - j) + 6)
+    elsewhere : (j i : ℕ) → (j ≡ k → ⊥) → atFirst (dimsOf ws) j ≤ i → i < atFirst (dimsOf ws) j + stepWords (dimsOf ws) j
         → word after i ≡ word ws i
     elsewhere j i d a b = go (decLt j k)
       where
@@ -72,7 +73,7 @@ module _ (L : Limits) (ws : List ℕ) (e : isWhole L ws ≡ true) (k : ℕ) (h :
 
   -- words pasted among those of dimension k
   module _ (from : ℕ) (bs : List ℕ) (low : atFirst (dimsOf ws) k ≤ from)
-      (high : from + length bs ≤ atFirst (dimsOf ws) k + (2 * (dimsOf ws - k) + 6)) where
+      (high : from + length bs ≤ atFirst (dimsOf ws) k + stepWords (dimsOf ws) k) where
     room : from + length bs ≤ length ws
     room = omega (arith, first-inside (dimsOf ws) k h, whole L ws e .long)
 
@@ -85,7 +86,7 @@ module _ (L : Limits) (ws : List ℕ) (e : isWhole L ws ≡ true) (k : ℕ) (h :
     mark-back : 0 < length bs → word (pasted ws from bs) from ≡ word bs 0
     mark-back a = ap (word (pasted ws from bs)) (sym (add-zero from)) ∙ read-back 0 a
 
-  pub put-first : k < 8 → (l : List ℕ) → length l ≡ 2 * (dimsOf ws - k) + 2
+  pub put-first : k < width → (l : List ℕ) → markWords + length l ≡ firstWords (dimsOf ws) k
       → Becomes L ws (pasted ws (atFirst (dimsOf ws) k) (1 ∷ l))
       (withFirst (unpacked ws) (set (unpacked ws .first) k (firstFrom (1 ∷ l) (dimsOf ws) k 0)))
   put-first m l q =
@@ -119,19 +120,19 @@ module _ (L : Limits) (ws : List ℕ) (e : isWhole L ws ≡ true) (k : ℕ) (h :
           second-same after ws (dimsOf ws) j (λ a i b. w .high (atSecond (dimsOf ws) j + i) (rw z (omega arith)))
       seconds j (no z) = seconds-elsewhere after from (length bs) w (omega arith) (omega arith) j z
 
-  pub put-second : k < 8 → (t s : ℕ)
+  pub put-second : k < width → (t s : ℕ)
       → Becomes L ws (pasted ws (atSecond (dimsOf ws) k) (1 ∷ t ∷ s ∷ []))
       (withSecond (unpacked ws)
       (set (unpacked ws .second) k (record { present = true; agreed = t; issued = sentNumber s })))
   put-second m t s =
       let mark = mark-back from bs (omega arith) (omega arith) (omega arith) in
-      store-put after from 3 w (omega arith) (omega arith) _ _
+      store-put after from secondWords w (omega arith) (omega arith) _ _
       (rw (w .low (atFirst (dimsOf ws) k) (omega arith)) (marked L ws e k h .0)) (rw mark (omega arith))
       (firsts-same ws after here (λ j. firsts j (ℕ-discrete j k)))
       (seconds-set ws after here k _ m
       (second-in after (dimsOf ws) k h
       ∙ second-alike after bs from 0 (read-back from bs (omega arith) (omega arith)))
-      (seconds-elsewhere after from 3 w (omega arith) (omega arith)))
+      (seconds-elsewhere after from secondWords w (omega arith) (omega arith)))
     where
       from : ℕ
       from = atSecond (dimsOf ws) k
@@ -142,14 +143,14 @@ module _ (L : Limits) (ws : List ℕ) (e : isWhole L ws ≡ true) (k : ℕ) (h :
       after : List ℕ
       after = pasted ws from bs
 
-      w : Written ws after from 3
+      w : Written ws after from secondWords
       w = block from bs (omega arith) (omega arith)
 
       here : word after atNodes ≡ word ws atNodes
-      here = board after from 3 w (omega arith) (omega arith)
+      here = board after from secondWords w (omega arith) (omega arith)
 
       firsts : (j : ℕ) → Dec (j ≡ k) → firstIn after (dimsOf ws) j ≡ firstIn ws (dimsOf ws) j
       firsts j (yes z) =
           first-same after ws (dimsOf ws) j
           (λ a i b. w .low (atFirst (dimsOf ws) j + i) (rw z (omega (arith, rw z at b))))
-      firsts j (no z) = firsts-elsewhere after from 3 w (omega arith) (omega arith) j z
+      firsts j (no z) = firsts-elsewhere after from secondWords w (omega arith) (omega arith) j z

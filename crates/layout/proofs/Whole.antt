@@ -2,19 +2,19 @@
 use mathlib.Core.Path.{_≡_, refl, ap}
 use mathlib.Core.Bool.{Bool, true, false, not}
 use mathlib.Core.List.{List}
-use Prim.Native.Nat.{ℕ, _+_, _*_, _≤_, _<_}
+use Prim.Native.Nat.{ℕ, _≤_, _<_}
 use native.Mathlib.Omega.{arith}
 use lib.Dec.{ltb, leb}
 use lib.ListN.{length}
 use borrow.Author.Tests.{ltb-true, lt-ltb, leb-true, le-leb, not-true}
 use Rattle.base.specs.Choice.{both, every}
-use Rattle.base.specs.Limits.{Limits, Fits, base}
+use Rattle.base.specs.Limits.{Limits, Fits, base, width}
 use Rattle.base.proofs.Laws.{both-true, both-make, every-at, every-make}
 use Rattle.base.proofs.Limits.{fits-base}
 use Rattle.tree.specs.Lookups.{badBoard}
 use Rattle.tree.proofs.Dimension.{smallest}
 use Rattle.tree.proofs.Lookups.{board-good}
-use Rattle.layout.specs.Places.{atNodes, atPhase, atBusy, atFlag, atFirst, atSecond, stateWords}
+use Rattle.layout.specs.Places.{atNodes, atPhase, atBusy, atFlag, atFirst, atSecond, stateWords, sumWords, mostSums}
 use Rattle.layout.specs.Held.{word, dimsOf, isMarked, isWhole, isReady}
 
 pub record Whole (L : Limits) (ws : List ℕ) : Type 0 where
@@ -62,19 +62,19 @@ whole-made L ws w =
     (λ k a b.
     let l : k < dimsOf ws = omega arith in both-make (lt-ltb _ _ (w .first k l)) (lt-ltb _ _ (w .second k l))))))))
 
--- no board of a build has more than eight dimensions
-pub few : (L : Limits) → Fits L → (ws : List ℕ) → badBoard L (word ws atNodes) ≡ false → dimsOf ws ≤ 8
+-- no board of a build has more than `width` dimensions
+pub few : (L : Limits) → Fits L → (ws : List ℕ) → badBoard L (word ws atNodes) ≡ false → dimsOf ws ≤ width
 few L fit ws e =
     let g = board-good L (word ws atNodes) e in
     let h = fit .nodes in
-    smallest (word ws atNodes) 8 (omega (arith, g .1))
+    smallest (word ws atNodes) width (omega (arith, g .1))
 
--- with this build's limits, 18 words are enough for the sums of every board
-pub roomy : (ws : List ℕ) → isReady base 18 ws ≡ isWhole base ws
+-- with this build's limits, `mostSums` words are enough for the sums of every board
+pub roomy : (ws : List ℕ) → isReady base mostSums ws ≡ isWhole base ws
 roomy ws = go (isWhole base ws) refl
   where
-    go : (t : Bool) → isWhole base ws ≡ t → both t (leb (2 * dimsOf ws + 2) 18) ≡ t
+    go : (t : Bool) → isWhole base ws ≡ t → both t (leb (sumWords (dimsOf ws)) mostSums) ≡ t
     go true e =
         let l = few base fits-base ws (whole base ws e .board) in
-        le-leb (2 * dimsOf ws + 2) 18 (omega arith)
+        le-leb (sumWords (dimsOf ws)) mostSums (omega arith)
     go false e = refl

@@ -1,6 +1,7 @@
 -- Where the numbers of a state stand in the words that a caller lends. A board of p dimensions has p shells, and a pass 1
 -- frame of dimension k has the shells k to p - 1: no other number has a place.
 use Prim.Native.Nat.{ℕ, zero, suc, _+_, _*_, _-_}
+use Rattle.base.specs.Limits.{width}
 
 -- ---- The head
 
@@ -49,9 +50,13 @@ firstWords p k = 2 * (p - k) + 3
 abbrev pub secondWords : ℕ
 secondWords = 3
 
+-- both frames of dimension k
+abbrev pub stepWords : ℕ → ℕ → ℕ
+stepWords p k = firstWords p k + secondWords
+
 unfoldable pub atFirst : ℕ → ℕ → ℕ
 atFirst p zero = headWords + 2 * p
-atFirst p (suc k) = atFirst p k + (firstWords p k + secondWords)
+atFirst p (suc k) = atFirst p k + stepWords p k
 
 abbrev pub atSecond : ℕ → ℕ → ℕ
 atSecond p k = atFirst p k + firstWords p k
@@ -60,16 +65,23 @@ atSecond p k = atFirst p k + firstWords p k
 abbrev pub stateWords : ℕ → ℕ
 stateWords p = atFirst p p
 
+-- those of a state of `width` dimensions
+abbrev pub mostWords : ℕ
+mostWords = 144
+
 -- ---- In a stored frame of dimension k whose words begin at a place: the mark is first, 1 where a frame is stored
 
+abbrev pub markWords : ℕ
+markWords = 1
+
 abbrev pub sentPlace : ℕ → ℕ → ℕ → ℕ
-sentPlace at k m = at + 1 + (m - k)
+sentPlace at k m = at + markWords + (m - k)
 
 abbrev pub takenPlace : ℕ → ℕ → ℕ → ℕ → ℕ
-takenPlace p at k m = at + 1 + (p - k) + (m - k)
+takenPlace p at k m = at + markWords + (p - k) + (m - k)
 
 abbrev pub issuedPlace : ℕ → ℕ → ℕ → ℕ
-issuedPlace p at k = at + 1 + 2 * (p - k)
+issuedPlace p at k = at + markWords + 2 * (p - k)
 
 abbrev pub receivedPlace : ℕ → ℕ → ℕ → ℕ
 receivedPlace p at k = at + 2 + 2 * (p - k)
@@ -94,3 +106,7 @@ sumReceived p = 2 * p + 1
 
 abbrev pub sumWords : ℕ → ℕ
 sumWords p = 2 * p + 2
+
+-- room for those of every board
+abbrev pub mostSums : ℕ
+mostSums = sumWords width

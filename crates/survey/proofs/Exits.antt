@@ -4,7 +4,7 @@ use mathlib.Core.Bool.{Bool, true, false, not}
 use Prim.Native.Nat.{ℕ, _<_}
 use lib.Dec.{ltb}
 use Rattle.base.specs.Choice.{both}
-use Rattle.base.specs.Limits.{Limits, Fits}
+use Rattle.base.specs.Limits.{Limits, Fits, width}
 use Rattle.base.proofs.Laws.{both-true, both-make}
 use Rattle.tree.specs.Lookups.{badBoard}
 use Rattle.node.specs.Sums.{dims, allTaken, own}
@@ -62,7 +62,7 @@ module _ (L : Limits) (n : Node) (received : ℕ) (e : received ≡ own n (dims 
   good-total f = sym total-is ∙ f
 
 module _ (L : Limits) (fit : Fits L) (n : Node) (board : boardOk L n ≡ true)
-    (steps : (k : ℕ) → k < 8 → stepAt L n k ≡ true) where
+    (steps : (k : ℕ) → k < width → stepAt L n k ≡ true) where
   pub found : positionOk n ≡ true → talliesOk L n ≡ true → totalOk L n ≡ true → busyOk n ≡ true → valid L n ≡ true
   found position tallies total busy =
       whole-valid L n (steps-whole L fit n board position tallies total busy steps)

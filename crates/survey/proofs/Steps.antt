@@ -9,7 +9,7 @@ use native.Mathlib.Omega.{arith}
 use lib.Dec.{ltb, eqb}
 use borrow.Author.Tests.{lt-ltb, le-ltb, lt-leb, eq-eqb, ne-eqb, ltb-true, eqb-true, not-true}
 use Rattle.base.specs.Choice.{choose, both, either, every}
-use Rattle.base.specs.Limits.{Limits, Fits}
+use Rattle.base.specs.Limits.{Limits, Fits, width}
 use Rattle.base.proofs.Laws.{clash, both-true, both-make, every-at, every-make, every-same}
 use Rattle.tree.specs.Tree.{dimension, Place, alone, hermit, neighbour, messenger, awaits, place, awaited}
 use Rattle.tree.specs.Lookups.{badBoard, placeLookup}
@@ -94,12 +94,12 @@ module _ (L : Limits) (p k : ℕ) (f g : Field → ℕ) (x : Stored) (l : k < p)
 
 -- ---- the board and the position
 
-pub few : (L : Limits) → Fits L → (n : Node) → boardOk L n ≡ true → dims n ≤ 8
+pub few : (L : Limits) → Fits L → (n : Node) → boardOk L n ≡ true → dims n ≤ width
 unfolding boardOk
 few L fit n board =
     let q = both-true (not (badBoard L (n .nodes))) (ltb (n .number) (n .nodes)) board in
     let b = board-good L (n .nodes) (not-true _ (q .0)) in
-    smallest (n .nodes) 8 (omega (arith, b .1, fit .nodes))
+    smallest (n .nodes) width (omega (arith, b .1, fit .nodes))
 
 module _ (n : Node) (position : positionOk n ≡ true) where
   -- the position is below p, or 0

@@ -5,7 +5,7 @@ use Prim.Native.Nat.{ℕ, _≤_, _<_}
 use native.Mathlib.Omega.{arith}
 use borrow.Author.Tests.{not-true}
 use Rattle.base.specs.Choice.{choose, both, either, every}
-use Rattle.base.specs.Limits.{Limits, fieldLimit}
+use Rattle.base.specs.Limits.{Limits, fieldLimit, width}
 use Rattle.base.proofs.Laws.{both-true, every-at}
 use Rattle.frame.specs.Frame.{hasShell, numberOk}
 use Rattle.frame.proofs.RoundTripChecks.{number-low, number-absent}
@@ -16,8 +16,8 @@ use Rattle.survey.specs.Pieces.{pairOk, shellOk, firstTest, secondTest}
 
 -- the fields that a state has room for
 abbrev pub Has : Field → Type 0
-Has (sentIn m) = m < 8
-Has (takenIn m) = m < 8
+Has (sentIn m) = m < width
+Has (takenIn m) = m < width
 Has allSent = Unit
 Has allTaken = Unit
 
@@ -43,7 +43,7 @@ module _ (L : Limits) (awaits : Bool) (p k : ℕ) (x : Stored) (ok : firstTest L
   places = either awaits (not (x .present))
 
   abbrev shells : Bool
-  shells = every 0 8 (shellOk L p k x)
+  shells = every 0 width (shellOk L p k x)
 
   abbrev totals : Bool
   totals = pairOk L (x .present) (number x allSent) (number x allTaken)
@@ -59,12 +59,12 @@ module _ (L : Limits) (awaits : Bool) (p k : ℕ) (x : Stored) (ok : firstTest L
   abbrev told : ℕ → Bool
   told m = both (x .present) (hasShell p k m)
 
-  shell : (m : ℕ) → m < 8
+  shell : (m : ℕ) → m < width
       → (numberOk L (told m) (number x (sentIn m)) ≡ true) × (numberOk L (told m) (number x (takenIn m)) ≡ true)
   unfolding shellOk
   shell m l =
       both-true (numberOk L (told m) (number x (sentIn m))) (numberOk L (told m) (number x (takenIn m)))
-      (every-at 0 8 (shellOk L p k x) (tests .1) m (omega arith) (omega arith))
+      (every-at 0 width (shellOk L p k x) (tests .1) m (omega arith) (omega arith))
 
   all : (numberOk L (x .present) (number x allSent) ≡ true) × (numberOk L (x .present) (number x allTaken) ≡ true)
   all = both-true (numberOk L (x .present) (number x allSent)) (numberOk L (x .present) (number x allTaken)) (tests .2)

@@ -7,7 +7,7 @@ use native.Mathlib.Omega.{arith}
 use lib.Dec.{leb, eqb}
 use borrow.Author.Tests.{leb-true, eqb-true}
 use Rattle.base.specs.Choice.{both, every}
-use Rattle.base.specs.Limits.{Limits, Fits, fieldLimit, takenLimit}
+use Rattle.base.specs.Limits.{Limits, Fits, fieldLimit, takenLimit, width}
 use Rattle.base.proofs.Laws.{both-true, every-at}
 use Rattle.base.proofs.Limits.{field-low, taken-low}
 use Rattle.frame.specs.Frame.{sentAt, takenAt}
@@ -65,7 +65,7 @@ module _ (L : Limits) (n : Node) (ok : talliesOk L n ≡ true) where
   takesLow = leb (tally n allTaken) (takenLimit L)
 
   abbrev spare : Bool
-  spare = every (dims n) (8 - dims n) (spareZero n)
+  spare = every (dims n) (width - dims n) (spareZero n)
 
   tests : (sendsLow ≡ true) × (takesLow ≡ true) × (spare ≡ true)
   unfolding talliesOk
@@ -80,10 +80,10 @@ module _ (L : Limits) (n : Node) (ok : talliesOk L n ≡ true) where
   pub takes-low : tally n allTaken ≤ takenLimit L
   takes-low = leb-true _ _ (tests .1)
 
-  zero-past : (m : ℕ) → dims n ≤ m → m < 8 → (sentAt (n .sent) m ≡ 0) × (takenAt (n .taken) m ≡ 0)
+  zero-past : (m : ℕ) → dims n ≤ m → m < width → (sentAt (n .sent) m ≡ 0) × (takenAt (n .taken) m ≡ 0)
   zero-past m a b =
       let q = both-true (eqb (sentAt (n .sent) m) 0) (eqb (takenAt (n .taken) m) 0)
-      (every-at (dims n) (8 - dims n) (spareZero n) (tests .2) m a (omega arith)) in
+      (every-at (dims n) (width - dims n) (spareZero n) (tests .2) m a (omega arith)) in
       (eqb-true _ _ (q .0), eqb-true _ _ (q .1))
 
 -- in the largest build, and so in every one

@@ -6,7 +6,7 @@ use native.Mathlib.Omega.{arith}
 use lib.Dec.{ltb}
 use borrow.Author.Tests.{lt-ltb, le-ltb, ltb-true, not-true}
 use Rattle.base.specs.Choice.{choose, both, either}
-use Rattle.base.specs.Limits.{Limits, Fits}
+use Rattle.base.specs.Limits.{Limits, Fits, width}
 use Rattle.base.proofs.Laws.{clash, choose-no, both-true, both-make, every-at, every-make}
 use Rattle.node.specs.Sums.{dims, firstAt, secondAt, own, ownIssued}
 use Rattle.node.specs.Agree.{isAlone, allHold, clauses, agrees}
@@ -62,11 +62,11 @@ module _ (L : Limits) (n : Node) (board : boardOk L n ≡ true) (k : ℕ) where
   unfolding agrees
   agrees-is pass e = choose-no _ _ e
 
-  pub whole-step : k < 8 → Whole L n → stepAt L n k ≡ true
+  pub whole-step : k < width → Whole L n → stepAt L n k ≡ true
   whole-step l w =
       step-is
-      ∙ both-make (every-at 0 8 (firstOk L n) (w .first) k (omega arith) (omega arith))
-      (both-make (every-at 0 8 (secondOk L n) (w .second) k (omega arith) (omega arith))
+      ∙ both-make (every-at 0 width (firstOk L n) (w .first) k (omega arith) (omega arith))
+      (both-make (every-at 0 width (secondOk L n) (w .second) k (omega arith) (omega arith))
       (either-make (awaitsFrame n k) (both first second)
       (λ e.
       let a = awaited e in
@@ -113,16 +113,16 @@ module _ (L : Limits) (n : Node) (board : boardOk L n ≡ true) (k : ℕ) where
         agreed 2 (λ f. either-use (secondPast (spotOf L n) k) (allHold (clauses L n 2 k)) (both-held l f .1) p)
 
 pub steps-whole : (L : Limits) → Fits L → (n : Node) → boardOk L n ≡ true → positionOk n ≡ true → talliesOk L n ≡ true
-    → totalOk L n ≡ true → busyOk n ≡ true → ((k : ℕ) → k < 8 → stepAt L n k ≡ true) → Whole L n
+    → totalOk L n ≡ true → busyOk n ≡ true → ((k : ℕ) → k < width → stepAt L n k ≡ true) → Whole L n
 steps-whole L fit n board position tallies total busy steps =
-    let low : (k : ℕ) → k < dims n → k < 8 = λ k l. omega (arith, few L fit n board) in
+    let low : (k : ℕ) → k < dims n → k < width = λ k l. omega (arith, few L fit n board) in
     record {
       board = board;
       position = position;
       tallies = tallies;
       total = total;
-      first = every-make 0 8 (firstOk L n) (λ k a b. step-first L n board k (steps k (omega arith)));
-      second = every-make 0 8 (secondOk L n) (λ k a b. step-second L n board k (steps k (omega arith)));
+      first = every-make 0 width (firstOk L n) (λ k a b. step-first L n board k (steps k (omega arith)));
+      second = every-make 0 width (secondOk L n) (λ k a b. step-second L n board k (steps k (omega arith)));
       passed =
           all-passed L n position (λ k l p. step-agrees-first L n board k (steps k (low k l)) l p)
           (λ k l p. step-agrees-second L n board k (steps k (low k l)) l p);
