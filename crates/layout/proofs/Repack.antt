@@ -113,7 +113,8 @@ module _ (ws : List ℕ) (L : Limits) (w : Whole L ws) (low : dimsOf ws ≤ widt
       let b = bit-write (word ws atBusy) (w .busy) in
       let f = bit-write (word ws atFlag) (w .flag) in
       (λ i. word ws atNodes ∷ word ws atNumber ∷ word ws atPhase ∷ b i ∷ word ws atPass ∷ word ws atDim ∷ f i ∷ word ws atAgreed ∷ [])
-      ∙ listed ws 0 headWords 0 headWords (word ws) refl (omega (arith, first-above p p)) (λ i j l m q. ap (word ws) (omega arith))
+      ∙ listed ws 0 headWords 0 headWords (word ws) refl (omega (arith, first-above p p))
+      (λ i j l m q. ap (word ws) (omega arith))
 
   -- the tallies, those sent or those taken
   tallies-kept : (a : ℕ) (f : ℕ → ℕ) → a + p ≤ stateWords p
@@ -128,7 +129,8 @@ module _ (ws : List ℕ) (L : Limits) (w : Whole L ws) (low : dimsOf ws ≤ widt
   state-kept =
       let above = first-above p p in
       joins ws 0 headWords (stateWords p) (omega arith) (omega arith) head-kept
-      (joins ws headWords (headWords + p) (stateWords p) (omega arith) (omega arith) (tallies-kept headWords _ (omega arith) (sent-word ws))
+      (joins ws headWords (headWords + p) (stateWords p) (omega arith) (omega arith)
+      (tallies-kept headWords _ (omega arith) (sent-word ws))
       (joins ws (headWords + p) (headWords + p + p) (stateWords p) (omega arith) (omega arith)
       (tallies-kept (headWords + p) _ (omega arith) (taken-word ws)) rows-kept))
 

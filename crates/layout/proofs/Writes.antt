@@ -181,7 +181,8 @@ module _ (L : Limits) (ws : List ℕ) (e : isWhole L ws ≡ true) where
 
   -- ---- A write in the head
 
-  module _ (after : List ℕ) (from n : ℕ) (w : Written ws after from n) (apart : atBusy ≤ from) (inside : from + n ≤ headWords) where
+  module _ (after : List ℕ) (from n : ℕ) (w : Written ws after from n) (apart : atBusy ≤ from)
+      (inside : from + n ≤ headWords) where
     head-put : (busy : Bool) (pass dim : ℕ) (flag : Bool) (agreed : ℕ) → word after atBusy ≡ bit busy
         → word after atPass ≡ pass → word after atDim ≡ dim → word after atFlag ≡ bit flag → word after atAgreed ≡ agreed
         → Becomes L ws after (at (withBusy (unpacked ws) busy) pass dim flag agreed)
@@ -190,8 +191,8 @@ module _ (L : Limits) (ws : List ℕ) (e : isWhole L ws ≡ true) where
         becomes after from n w apart (at (withBusy (unpacked ws) busy) pass dim flag agreed) (rw eb (bit-low busy))
         (rw ef (bit-low flag))
         (marks-stay after from n w (omega arith)) (omega (arith, first-above (dimsOf ws) (dimsOf ws)))
-        (node-same (unpacked after) (at (withBusy (unpacked ws) busy) pass dim flag agreed) board (w .low atNumber (omega arith))
-        (w .low atPhase (omega arith)) (ap (λ x. eqb x 1) eb ∙ bit-read busy)
+        (node-same (unpacked after) (at (withBusy (unpacked ws) busy) pass dim flag agreed) board
+        (w .low atNumber (omega arith)) (w .low atPhase (omega arith)) (ap (λ x. eqb x 1) eb ∙ bit-read busy)
         (sent-same ws after board (λ j h. w .high (atSent j) (omega arith)))
         (taken-same ws after board (λ j h. w .high (atTaken (dimsOf ws) j) (omega arith))) ep ed
         (ap (λ x. eqb x 1) ef ∙ bit-read flag)
@@ -228,8 +229,8 @@ module _ (L : Limits) (ws : List ℕ) (e : isWhole L ws ≡ true) where
   unfolding unpacked
   put-flag b =
       let w = written-set ws atFlag (bit b) in
-      head-put (set ws atFlag (bit b)) atFlag 1 w (omega arith) (omega arith) (unpacked ws .busy) (unpacked ws .pass) (unpacked ws .dim)
-      b (unpacked ws .agreed) (w .low atBusy (omega arith) ∙ busy-held)
+      head-put (set ws atFlag (bit b)) atFlag 1 w (omega arith) (omega arith) (unpacked ws .busy)
+      (unpacked ws .pass) (unpacked ws .dim) b (unpacked ws .agreed) (w .low atBusy (omega arith) ∙ busy-held)
       (w .low atPass (omega arith)) (w .low atDim (omega arith)) (getD-set-same ws atFlag (bit b) 0 (omega (arith, head-room)))
       (w .high atAgreed (omega arith))
 
@@ -296,7 +297,8 @@ module _ (L : Limits) (ws : List ℕ) (e : isWhole L ws ≡ true) where
         (ap (λ x. eqb x 1) (w .low atFlag (omega arith))) ef eg (w .low atAgreed (omega arith)))
 
   -- a tally
-  module _ (after : List ℕ) (i : ℕ) (w : Written ws after i 1) (apart : headWords ≤ i) (below : i < headWords + 2 * dimsOf ws) where
+  module _ (after : List ℕ) (i : ℕ) (w : Written ws after i 1) (apart : headWords ≤ i)
+      (below : i < headWords + 2 * dimsOf ws) where
     tally-put : (s : List Sent) (t : List Taken) → unpacked after .sent ≡ s → unpacked after .taken ≡ t
         → Becomes L ws after (withTaken (withSent (unpacked ws) s) t)
     tally-put s t es et =
