@@ -18,7 +18,7 @@ use Rattle.survey.specs.declared.Spot.{Spot}
 use Rattle.survey.specs.Pieces.{headTest}
 use Rattle.survey.specs.Spots.{spotAt}
 use Rattle.layout.specs.Places.{atNumber, atPass, atDim, atAgreed}
-use Rattle.layout.specs.Places.{atNodes, atPhase, atBusy, atFlag, stateWords}
+use Rattle.layout.specs.Places.{atNodes, atPhase, atBusy, atFlag, stateWords, headWords}
 use Rattle.layout.specs.Held.{word, dimsOf, unpacked}
 use Rattle.layout.proofs.Offsets.{first-above}
 use Rattle.head.specs.Head.{spotIn, headPasses, noHead, headed}
@@ -105,7 +105,7 @@ module _ (L : Limits) (ws : List ℕ) where
       go true q = absurd (f (head-known q))
       go false q = sym (choose-no _ _ q)
 
-  pub short : length ws < 8 → Passing L ws → ⊥
+  pub short : length ws < headWords → Passing L ws → ⊥
   short l p = omega (arith, p .long, first-above (dimsOf ws) (dimsOf ws))
 
 -- the pass is 1 or 2

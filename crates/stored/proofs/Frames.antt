@@ -2,20 +2,21 @@
 use mathlib.Core.Path.{_≡_, refl, sym, ap, _∙_}
 use mathlib.Core.Bool.{Bool, true, false, not}
 use mathlib.Core.List.{List}
-use Prim.Native.Nat.{ℕ, zero, suc, _+_, _-_, _*_, _≤_, _<_}
+use Prim.Native.Nat.{ℕ, zero, suc, _+_, _-_, _≤_, _<_}
 use native.Mathlib.Decide.{decLe, decLt, ℕ-discrete}
 use native.Mathlib.Omega.{arith}
 use lib.Dec.{eqb, leb, ltb}
 use borrow.Author.Tests.{le-leb, lt-leb, lt-ltb, le-ltb, eq-eqb, ne-eqb}
 use Rattle.base.specs.Choice.{choose, both, either, every}
-use Rattle.base.specs.Limits.{Limits, fieldLimit}
+use Rattle.base.specs.Limits.{Limits, fieldLimit, width}
 use Rattle.base.proofs.Laws.{choose-yes, choose-no, both-true, both-make, every-at, every-make, every-same}
 use Rattle.frame.specs.Frame.{hasShell}
 use Rattle.node.specs.Sums.{Field, sentIn, takenIn, allSent, allTaken, number}
 use Rattle.node.specs.declared.Stored.{Stored}
 use Rattle.node.specs.Sums.{Has}
 use Rattle.survey.specs.Pieces.{pairOk, shellOk, firstTest, secondTest}
-use Rattle.layout.specs.Places.{sentPlace, takenPlace, issuedPlace, receivedPlace}
+use Rattle.layout.specs.Places.{sentPlace, takenPlace, issuedPlace, receivedPlace, firstWords, secondWords, markWords}
+use Rattle.layout.specs.Places.{agreedPlace, confirmedPlace}
 use Rattle.layout.specs.Held.{word, firstFrom, secondFrom}
 use Rattle.layout.proofs.Reading.{number-sent, number-taken, number-outside}
 use Rattle.stored.specs.Held.{heldTest}
@@ -37,7 +38,7 @@ low-is (suc n) = lt-leb (suc n) 0 (omega arith) ∙ sym (ne-eqb (suc n) 0 (λ e.
 
 -- ---- pass 1
 
-module _ (ws : List ℕ) (p k at : ℕ) (low : k < p) (few : p ≤ 8) where
+module _ (ws : List ℕ) (p k at : ℕ) (low : k < p) (few : p ≤ width) where
   abbrev x : Stored
   x = firstFrom ws p k at
 
@@ -48,28 +49,28 @@ module _ (ws : List ℕ) (p k at : ℕ) (low : k < p) (few : p ≤ 8) where
   place allSent = issuedPlace p at k
   place allTaken = receivedPlace p at k
 
-  place-low : (f : Field) → Has p k f → (at < place f) × (place f < at + (2 * (p - k) + 3))
+  place-low : (f : Field) → Has p k f → (at < place f) × (place f < at + firstWords p k)
   place-low (sentIn m) h = (omega (arith, h .0, h .1), omega (arith, h .0, h .1))
   place-low (takenIn m) h = (omega (arith, h .0, h .1), omega (arith, h .0, h .1))
   place-low allSent h = (omega arith, omega arith)
   place-low allTaken h = (omega arith, omega arith)
 
-  by-field : (Q : ℕ → Type 0) → ((f : Field) → Has p k f → Q (place f)) → (i : ℕ) → at < i → i < at + (2 * (p - k) + 3) → Q i
+  by-field : (Q : ℕ → Type 0) → ((f : Field) → Has p k f → Q (place f)) → (i : ℕ) → at < i → i < at + firstWords p k → Q i
   by-field Q h i a b =
-      go (decLe (at + 1 + (p - k)) i) (decLe (at + 1 + 2 * (p - k)) i) (decLe (at + 2 + 2 * (p - k)) i)
+      go (decLe (at + markWords + (p - k)) i) (decLe (issuedPlace p at k) i) (decLe (receivedPlace p at k) i)
     where
       to : (j : ℕ) → j ≡ i → Q j → Q i
       to j e q = rw e at q
 
-      go : Dec (at + 1 + (p - k) ≤ i) → Dec (at + 1 + 2 * (p - k) ≤ i) → Dec (at + 2 + 2 * (p - k) ≤ i) → Q i
+      go : Dec (at + markWords + (p - k) ≤ i) → Dec (issuedPlace p at k ≤ i) → Dec (receivedPlace p at k ≤ i) → Q i
       go (no c) d e =
-          let m : ℕ = k + (i - (at + 1)) in
-          to (at + 1 + (m - k)) (omega arith) (h (sentIn m) (omega arith, omega arith))
+          let m : ℕ = k + (i - (at + markWords)) in
+          to (sentPlace at k m) (omega arith) (h (sentIn m) (omega arith, omega arith))
       go (yes c) (no d) e =
-          let m : ℕ = k + (i - (at + 1 + (p - k))) in
-          to (at + 1 + (p - k) + (m - k)) (omega arith) (h (takenIn m) (omega arith, omega arith))
-      go (yes c) (yes d) (no e) = to (at + 1 + 2 * (p - k)) (omega arith) (h allSent tt)
-      go (yes c) (yes d) (yes e) = to (at + 2 + 2 * (p - k)) (omega arith) (h allTaken tt)
+          let m : ℕ = k + (i - (at + markWords + (p - k))) in
+          to (takenPlace p at k m) (omega arith) (h (takenIn m) (omega arith, omega arith))
+      go (yes c) (yes d) (no e) = to (issuedPlace p at k) (omega arith) (h allSent tt)
+      go (yes c) (yes d) (yes e) = to (receivedPlace p at k) (omega arith) (h allTaken tt)
 
   number-word : (f : Field) → Has p k f → number x f ≡ word ws (place f)
   number-word (sentIn m) h = number-sent ws p k at m (h .0) (h .1) (omega (arith, h .1))
@@ -92,10 +93,10 @@ module _ (ws : List ℕ) (p k at : ℕ) (low : k < p) (few : p ≤ 8) where
   -- a test of each number that holds of 0
   module _ (g : ℕ → Bool) (zero-ok : g 0 ≡ true) where
     abbrev end : ℕ
-    end = at + (2 * (p - k) + 3)
+    end = at + firstWords p k
 
     abbrev run : Bool
-    run = every (at + 1) (end - (at + 1)) (λ i. g (word ws i))
+    run = every (at + markWords) (end - (at + markWords)) (λ i. g (word ws i))
 
     abbrev pair : ℕ → Bool
     pair m = both (g (number x (sentIn m))) (g (number x (takenIn m)))
@@ -103,17 +104,17 @@ module _ (ws : List ℕ) (p k at : ℕ) (low : k < p) (few : p ≤ 8) where
     abbrev totals : Bool
     totals = both (g (number x allSent)) (g (number x allTaken))
 
-    run-is : run ≡ both (every 0 8 pair) totals
+    run-is : run ≡ both (every 0 width pair) totals
     run-is = same-test _ _ to from
       where
-        to : run ≡ true → both (every 0 8 pair) totals ≡ true
+        to : run ≡ true → both (every 0 width pair) totals ≡ true
         to e =
             let one : (f : Field) → Has p k f → g (number x f) ≡ true =
             λ f h.
             ap g (number-word f h)
-            ∙ every-at (at + 1) (end - (at + 1)) (λ i. g (word ws i)) e (place f) (omega (arith, place-low f h .0))
-            (omega (arith, place-low f h .1)) in
-            both-make (every-make 0 8 pair (λ m a b. go m one (shell m))) (both-make (one allSent tt) (one allTaken tt))
+            ∙ every-at (at + markWords) (end - (at + markWords)) (λ i. g (word ws i)) e (place f)
+            (omega (arith, place-low f h .0)) (omega (arith, place-low f h .1)) in
+            both-make (every-make 0 width pair (λ m a b. go m one (shell m))) (both-make (one allSent tt) (one allTaken tt))
           where
             go : (m : ℕ) → ((f : Field) → Has p k f → g (number x f) ≡ true) → Shell m → pair m ≡ true
             go m one (in-it c d) = both-make (one (sentIn m) (c, d)) (one (takenIn m) (c, d))
@@ -121,23 +122,23 @@ module _ (ws : List ℕ) (p k at : ℕ) (low : k < p) (few : p ≤ 8) where
                 let z = number-outside ws p k at m c in
                 both-make (ap g (z .0) ∙ zero-ok) (ap g (z .1) ∙ zero-ok)
 
-        from : both (every 0 8 pair) totals ≡ true → run ≡ true
+        from : both (every 0 width pair) totals ≡ true → run ≡ true
         from e =
-            let q = both-true (every 0 8 pair) totals e in
+            let q = both-true (every 0 width pair) totals e in
             let t = both-true (g (number x allSent)) (g (number x allTaken)) (q .1) in
-            every-make (at + 1) (end - (at + 1)) (λ i. g (word ws i))
+            every-make (at + markWords) (end - (at + markWords)) (λ i. g (word ws i))
             (λ i a b.
             by-field (λ j. g (word ws j) ≡ true)
             (λ f h. ap g (sym (number-word f h)) ∙ each (q .0) (t .0) (t .1) f h) i (omega arith) (omega arith))
           where
-            each : every 0 8 pair ≡ true → g (number x allSent) ≡ true → g (number x allTaken) ≡ true → (f : Field)
+            each : every 0 width pair ≡ true → g (number x allSent) ≡ true → g (number x allTaken) ≡ true → (f : Field)
                 → Has p k f → g (number x f) ≡ true
             each e u v (sentIn m) h =
                 both-true (g (number x (sentIn m))) (g (number x (takenIn m)))
-                (every-at 0 8 pair e m (omega arith) (omega (arith, h .1))) .0
+                (every-at 0 width pair e m (omega arith) (omega (arith, h .1))) .0
             each e u v (takenIn m) h =
                 both-true (g (number x (sentIn m))) (g (number x (takenIn m)))
-                (every-at 0 8 pair e m (omega arith) (omega (arith, h .1))) .1
+                (every-at 0 width pair e m (omega arith) (omega (arith, h .1))) .1
             each e u v allSent h = u
             each e u v allTaken h = v
 
@@ -166,8 +167,8 @@ module _ (ws : List ℕ) (p k at : ℕ) (low : k < p) (few : p ≤ 8) where
     unfolding firstTest shellOk
     none awaits e =
         let gone : eqb (word ws at) 1 ≡ false = rw e in
-        let shells : every 0 8 (pair (λ n. leb n 0) refl) ≡ every 0 8 (pair (λ n. eqb n 0) refl) =
-        every-same 0 8 (pair (λ n. leb n 0) refl) (pair (λ n. eqb n 0) refl)
+        let shells : every 0 width (pair (λ n. leb n 0) refl) ≡ every 0 width (pair (λ n. eqb n 0) refl) =
+        every-same 0 width (pair (λ n. leb n 0) refl) (pair (λ n. eqb n 0) refl)
         (λ m a b i. both (low-is (number x (sentIn m)) i) (low-is (number x (takenIn m)) i)) in
         run-is (λ n. leb n 0) refl
         ∙ (λ i. both (shells i) (both (low-is (number x allSent) i) (low-is (number x allTaken) i)))
@@ -177,15 +178,15 @@ module _ (ws : List ℕ) (p k at : ℕ) (low : k < p) (few : p ≤ 8) where
     unfolding firstTest
     some true e =
         let here : eqb (word ws at) 1 ≡ true = rw e in
-        let shells : every 0 8 (shellOk L p k x) ≡ every 0 8 (pair within low-zero) =
-        every-same 0 8 (shellOk L p k x) (pair within low-zero) (λ m a b. shell-is m here) in
+        let shells : every 0 width (shellOk L p k x) ≡ every 0 width (pair within low-zero) =
+        every-same 0 width (shellOk L p k x) (pair within low-zero) (λ m a b. shell-is m here) in
         let sums : pairOk L (eqb (word ws at) 1) (number x allSent) (number x allTaken) ≡ totals within low-zero =
         ap (λ t. pairOk L t (number x allSent) (number x allTaken)) here in
         run-is within low-zero ∙ (λ i. both (sym shells i) (sym sums i))
     some false e = let here : eqb (word ws at) 1 ≡ true = rw e in rw here
 
     pub first-held : (awaits : Bool)
-        → heldTest (fieldLimit L) ws awaits at (at + (2 * (p - k) + 3))
+        → heldTest (fieldLimit L) ws awaits at (at + firstWords p k)
         ≡ both (ltb (word ws at) 2) (firstTest L awaits p k x)
     unfolding heldTest
     first-held awaits = go (ℕ-discrete (word ws at) 0) (ℕ-discrete (word ws at) 1)
@@ -214,7 +215,7 @@ module _ (ws : List ℕ) (p k at : ℕ) (low : k < p) (few : p ≤ 8) where
     first-low e low-number =
         both-make (lt-ltb (word ws at) 2 (omega arith))
         (sym (some true e)
-        ∙ every-make (at + 1) (end within low-zero - (at + 1)) (λ i. within (word ws i))
+        ∙ every-make (at + markWords) (end within low-zero - (at + markWords)) (λ i. within (word ws i))
         (λ i a b.
         by-field (λ j. within (word ws j) ≡ true)
         (λ f h. le-leb (word ws (place f)) (fieldLimit L) (omega (arith, number-word f h, low-number f h))) i
@@ -229,40 +230,40 @@ pairing true true = refl
 
 module _ (L : Limits) (ws : List ℕ) (at : ℕ) (awaits : Bool) where
   abbrev zero-pair : Bool
-  zero-pair = both (leb (word ws (at + 1)) 0) (both (leb (word ws (at + 2)) 0) true)
+  zero-pair = both (leb (word ws (agreedPlace at)) 0) (both (leb (word ws (confirmedPlace at)) 0) true)
 
   abbrev low-pair : Bool
-  low-pair = both (leb (word ws (at + 1)) (fieldLimit L)) (both (leb (word ws (at + 2)) (fieldLimit L)) true)
+  low-pair = both (leb (word ws (agreedPlace at)) (fieldLimit L)) (both (leb (word ws (confirmedPlace at)) (fieldLimit L)) true)
 
   abbrev test : Bool
   test =
       both (either awaits (not (eqb (word ws at) 1)))
-      (pairOk L (eqb (word ws at) 1) (word ws (at + 1)) (word ws (at + 2)))
+      (pairOk L (eqb (word ws at) 1) (word ws (agreedPlace at)) (word ws (confirmedPlace at)))
 
   by-mark : Dec (word ws at ≡ 0) → Dec (word ws at ≡ 1)
       → choose (eqb (word ws at) 0) zero-pair (both (eqb (word ws at) 1) (both awaits low-pair))
       ≡ both (ltb (word ws at) 2) test
   by-mark (yes e) d =
-      rw (e, either-open awaits, low-is (word ws (at + 1)), low-is (word ws (at + 2)))
-      (pairing (eqb (word ws (at + 1)) 0) (eqb (word ws (at + 2)) 0))
+      rw (e, either-open awaits, low-is (word ws (agreedPlace at)), low-is (word ws (confirmedPlace at)))
+      (pairing (eqb (word ws (agreedPlace at)) 0) (eqb (word ws (confirmedPlace at)) 0))
   by-mark (no e) (yes d) = rw d (by awaits)
     where
       by : (t : Bool)
-          → both t low-pair ≡ both (either t false) (pairOk L true (word ws (at + 1)) (word ws (at + 2)))
-      by true = pairing (leb (word ws (at + 1)) (fieldLimit L)) (leb (word ws (at + 2)) (fieldLimit L))
+          → both t low-pair ≡ both (either t false) (pairOk L true (word ws (agreedPlace at)) (word ws (confirmedPlace at)))
+      by true = pairing (leb (word ws (agreedPlace at)) (fieldLimit L)) (leb (word ws (confirmedPlace at)) (fieldLimit L))
       by false = refl
   by-mark (no e) (no d) = rw (ne-eqb _ 0 e, ne-eqb _ 1 d, le-ltb (word ws at) 2 (omega arith))
 
-  pub second-held : heldTest (fieldLimit L) ws awaits at (at + 3)
+  pub second-held : heldTest (fieldLimit L) ws awaits at (at + secondWords)
       ≡ both (ltb (word ws at) 2) (secondTest L awaits (secondFrom ws at))
   unfolding heldTest secondTest
   second-held =
-      let two : at + 3 - (at + 1) ≡ 2 = omega arith in
-      let next : suc (at + 1) ≡ at + 2 = omega arith in
+      let two : at + secondWords - (at + markWords) ≡ 2 = omega arith in
+      let next : suc (at + markWords) ≡ confirmedPlace at = omega arith in
       rw (two, next) (by-mark (ℕ-discrete (word ws at) 0) (ℕ-discrete (word ws at) 1))
 
   -- a frame that is awaited, with numbers within the limit
-  pub second-low : word ws at ≡ 1 → word ws (at + 1) ≤ fieldLimit L → word ws (at + 2) ≤ fieldLimit L
+  pub second-low : word ws at ≡ 1 → word ws (agreedPlace at) ≤ fieldLimit L → word ws (confirmedPlace at) ≤ fieldLimit L
       → both (ltb (word ws at) 2) (secondTest L true (secondFrom ws at)) ≡ true
   unfolding secondTest
   second-low e a b = rw (e, le-leb _ _ a, le-leb _ _ b)

@@ -6,7 +6,7 @@ use mathlib.Core.Path.{_≡_, sym, ap, _∙_}
 use mathlib.Core.Bool.{false}
 use mathlib.Core.List.{List}
 use Prim.Native.Nat.{ℕ, _≤_}
-use Rattle.base.specs.Limits.{Limits, Fits, limitsOf}
+use Rattle.base.specs.Limits.{Limits, Fits, limitsOf, width}
 use Rattle.base.proofs.Laws.{clash}
 use Rattle.base.proofs.Limits.{fits-of}
 use Rattle.tree.specs.Lookups.{badBoard, foundAnswer}
@@ -57,7 +57,7 @@ module _ (k : tie.After-known-told) where
   known : (badBoard (L s) (word (ws s) atNodes) ≡ false) × (p ≡ dimsOf (ws s))
   known = dimension-found (L s) _ _ (sym (d .dimension-for .ensures) ∙ ap foundAnswer (k .before .p .given .1))
 
-  low : p ≤ 8
+  low : p ≤ width
   low = omega (arith, known .1, few (L s) (fit s) (ws s) (known .0))
 
 cast-state-words : tie.Need-cast-state-words

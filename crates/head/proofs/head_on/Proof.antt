@@ -10,6 +10,7 @@ use Prim.Native.Nat.{ℕ, _≤_}
 use lib.ListN.{length}
 use Rattle.base.specs.Limits.{Limits, limitsOf}
 use Rattle.layout.proofs.Offsets.{first-above}
+use Rattle.layout.specs.Places.{headWords}
 use Rattle.head.specs.Pieces.{headTested}
 use Rattle.head.proofs.Heads.{no-head, head-fails, pass-small, some-head}
 use Rattle.head.proofs.head_on.Statement.{statement}
@@ -26,7 +27,7 @@ module _ (s : tie.Start) where
   abbrev p : ℕ
   p = s .args .p
 
-  long : 8 ≤ length ws
+  long : headWords ≤ length ws
   long = omega (arith, s .pre .long, first-above p p)
 
 head-ok-requires : tie.Need-head-ok-requires
