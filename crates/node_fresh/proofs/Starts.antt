@@ -8,14 +8,14 @@ use lib.Dec.{leb}
 use lib.ListN.{length, drop}
 use borrow.Author.Tests.{le-leb, lt-leb}
 use Rattle.base.specs.Choice.{choose, list}
-use Rattle.base.specs.Limits.{Limits}
+use Rattle.base.specs.Limits.{Limits, width}
 use Rattle.base.proofs.Laws.{choose-yes}
 use Rattle.tree.specs.Tree.{dimension}
 use Rattle.node.specs.Change.{freshIn, noNode}
 use Rattle.node.specs.Answers.{give, Outcome, done, refused}
 use Rattle.node.specs.Calls.{refusal, fresh}
 use Rattle.node.specs.declared.Node.{Node}
-use Rattle.layout.specs.Places.{stateWords}
+use Rattle.layout.specs.Places.{stateWords, headWords}
 use Rattle.layout.proofs.Repack.{fresh-packed}
 use Rattle.node_fresh.specs.Fresh.{withRoom, putState, freshOn, freshWords}
 
@@ -44,22 +44,22 @@ module _ (L : Limits) (P a : ℕ) (ws : List ℕ) where
         let o = answered (freshIn P a 0) done e ∙ ap (λ t. withRoom t done) (lt-leb _ _ h) in
         (sym o, sym (left (freshIn P a 0) done (refused 13) e o))
 
-    pub fresh-put : (p : ℕ) → p ≡ dimension P → stateWords p ≤ length ws → p ≤ 8
+    pub fresh-put : (p : ℕ) → p ≡ dimension P → stateWords p ≤ length ws → p ≤ width
         → (done ≡ freshOn L P a ws)
         × (choose (leb (stateWords p) (length ws))
         ((P ∷ a ∷ 0 ∷ 1 ∷ 1 ∷ 0 ∷ 1 ∷ 0 ∷ [])
-        ++ (list 0 (stateWords p - 8) (λ i. 0) ++ drop (stateWords p) ws))
+        ++ (list 0 (stateWords p - headWords) (λ i. 0) ++ drop (stateWords p) ws))
         ws
         ≡ freshWords L P a ws)
     fresh-put p q h l =
         let b : stateWords (dimension P) ≤ length ws = rw q at h in
-        let w : dimension P ≤ 8 = rw q at l in
+        let w : dimension P ≤ width = rw q at l in
         let o = answered (freshIn P a 0) done e ∙ ap (λ t. withRoom t done) (le-leb _ _ b) in
         let head : List ℕ = P ∷ a ∷ 0 ∷ 1 ∷ 1 ∷ 0 ∷ 1 ∷ 0 ∷ [] in
         let r : List ℕ = drop (stateWords (dimension P)) ws in (
           sym o,
           choose-yes _ _ (le-leb _ _ h)
-              ∙ rw q (sym (append-assoc head (list 0 (stateWords (dimension P) - 8) (λ i. 0)) r)
+              ∙ rw q (sym (append-assoc head (list 0 (stateWords (dimension P) - headWords) (λ i. 0)) r)
               ∙ ap (λ x. x ++ r) (sym (fresh-packed P a 0 w))
               ∙ sym (left (freshIn P a 0) done done e o)),
         )

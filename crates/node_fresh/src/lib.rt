@@ -18,7 +18,7 @@ fn put_head(state: &mut [u32], nodes: u32, number: u32, phase: u8)
     requires { ⌜ headWords ≤ length (now state) ⌝ }
     ensures { λ r.
         ⌜ now (state .exit)
-        ≡ (nodes ∷ number ∷ phase ∷ 1 ∷ 1 ∷ 0 ∷ 1 ∷ 0 ∷ []) ++ drop 8 (now (state .entry)) ⌝ }
+        ≡ (nodes ∷ number ∷ phase ∷ 1 ∷ 1 ∷ 0 ∷ 1 ∷ 0 ∷ []) ++ drop headWords (now (state .entry)) ⌝ }
 {
     state[layout::NODES] = nodes;
     state[layout::NUMBER] = number;
@@ -48,7 +48,7 @@ pub fn put_fresh(state: &mut [u32], p: u8, nodes: u32, number: u32, phase: u8)
         ⌜ now (state .exit)
         ≡ choose (leb (stateWords p) (length (now (state .entry))))
         ((nodes ∷ number ∷ phase ∷ 1 ∷ 1 ∷ 0 ∷ 1 ∷ 0 ∷ [])
-        ++ (list 0 (stateWords p - 8) (λ i. 0) ++ drop (stateWords p) (now (state .entry))))
+        ++ (list 0 (stateWords p - headWords) (λ i. 0) ++ drop (stateWords p) (now (state .entry))))
         (now (state .entry)) ⌝ }
 {
     let words = layout::state_words(p);

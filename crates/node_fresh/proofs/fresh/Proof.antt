@@ -7,7 +7,7 @@ use mathlib.Core.Path.{_≡_, sym, ap, _∙_}
 use mathlib.Core.Bool.{false}
 use mathlib.Core.List.{[], _∷_}
 use Prim.Native.Nat.{ℕ, _-_, _≤_}
-use Rattle.base.specs.Limits.{limitsOf}
+use Rattle.base.specs.Limits.{limitsOf, width}
 use Rattle.base.proofs.Limits.{fits-of}
 use Rattle.base.proofs.Laws.{here, later}
 use Rattle.tree.specs.Tree.{dimension}
@@ -44,7 +44,7 @@ module _ (c : tie.After-known-told) where
       let d = c .before .before .before .dimension-for in
       dimension-found _ _ _ (sym (d .ensures) ∙ ap foundAnswer (c .before .p .given .1))
 
-  narrow : dimension nodes ≤ 8
+  narrow : dimension nodes ≤ width
   narrow =
       let b = start .args .b in
       let g = start .good .0 in

@@ -7,7 +7,7 @@ use mathlib.Core.List.{[], _∷_, _++_}
 use Prim.Native.Nat.{_≤_}
 use lib.ListN.{length, drop}
 use Rattle.base.proofs.Laws.{choose-yes, choose-no}
-use Rattle.layout.specs.Places.{stateWords}
+use Rattle.layout.specs.Places.{stateWords, headWords}
 use Rattle.layout.proofs.Offsets.{first-above}
 use Rattle.node_fresh.proofs.Zeros.{cleared, cleared-after}
 use Rattle.node_fresh.proofs.put_fresh.Statement.{statement}
@@ -41,9 +41,9 @@ returns-2 c =
     let a = e .before .before .before .args in
     let head = a .nodes ∷ a .number ∷ a .phase ∷ 1 ∷ 1 ∷ 0 ∷ 1 ∷ 0 ∷ [] in
     z .put-zeros .ensures
-    ∙ ap (λ l. cleared l 8 (e .before .state-words .result)) (h .put-head .ensures)
-    ∙ ap (λ n. cleared (head ++ drop 8 (a .state .now)) 8 n) (e .before .state-words .ensures)
-    ∙ cleared-after (a .state .now) head 8 (stateWords (a .p)) refl (omega (arith, first-above (a .p) (a .p)))
+    ∙ ap (λ l. cleared l headWords (e .before .state-words .result)) (h .put-head .ensures)
+    ∙ ap (λ n. cleared (head ++ drop headWords (a .state .now)) headWords n) (e .before .state-words .ensures)
+    ∙ cleared-after (a .state .now) head headWords (stateWords (a .p)) refl (omega (arith, first-above (a .p) (a .p)))
     ∙ sym (choose-yes _ _ (le-leb _ _ (room e)))
 
 pub put-fresh-spec : {M : Type 1} → statement M

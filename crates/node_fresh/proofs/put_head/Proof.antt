@@ -1,4 +1,4 @@
--- `put_head` writes the eight words of the head: a run of stores.
+-- `put_head` writes the words of the head: a run of stores.
 use borrow.Author.Needs.{needs}
 use mathlib.Core.List.{[], _∷_}
 use lib.ListN.{length-set}
