@@ -42,7 +42,7 @@ module _ (buf head : List ℕ) (four : length head ≡ 4) where
 
 -- how many numbers a frame of pass 1 has
 pub length-first : (sums : List ℕ) (p k : ℕ) → k ≤ p → sumWords p ≤ length sums
-    → length (firstNumbers sums p k) ≡ 2 * (p - k) + 2
+    → length (firstNumbers sums p k) ≡ sumWords (p - k)
 length-first sums p k a b =
     omega (
       arith,

@@ -5,6 +5,7 @@ ghost use Prim.Native.Nat.{_+_, _-_, _*_, _%_, _≤_};
 ghost use lib.ListN.{length};
 ghost use Rattle.base.specs.Choice.{choose};
 ghost use Rattle.frame.specs.Numbers.{bytesOf};
+ghost use Rattle.layout.specs.Places.{sumWords};
 ghost use Rattle.wire.specs.Wire.{putNumbers};
 ghost use Rattle.due_frame.specs.Frames.{sentPart, takenPart, firstNumbers, hasSums, putLength, putBytes};
 use frame::Sent;
@@ -21,7 +22,7 @@ fn has_sums(p: u8, k: u32, words: usize) -> bool
 
 // Puts the numbers of the frame of pass 1, dimension k, after its head.
 fn put_sums(buf: &mut [u8], p: u8, k: u8, sums: &[u32])
-    requires { ⌜ (k ≤ p) × (2 * p + 2 ≤ length (now sums)) ⌝ }
+    requires { ⌜ (k ≤ p) × (sumWords p ≤ length (now sums)) ⌝ }
     ensures { λ r.
         ⌜ now (buf .exit)
         ≡ putNumbers (putNumbers (now (buf .entry)) 4 (sentPart (now (sums .entry)) p k)) (4 + 4 * (p - k))
@@ -39,7 +40,7 @@ fn put_sums(buf: &mut [u8], p: u8, k: u8, sums: &[u32])
 
 // Puts the frame of pass 1, dimension k. Its length; 0 where there is no room.
 fn put_pass_1(phase: u8, k: u8, sender: u8, p: u8, sums: &[u32], buf: &mut [u8]) -> u32
-    requires { ⌜ (k ≤ p) × (2 * p + 2 ≤ length (now sums)) ⌝ }
+    requires { ⌜ (k ≤ p) × (sumWords p ≤ length (now sums)) ⌝ }
     ensures answer { λ r.
         ⌜ r
         ≡ putLength (1 ∷ phase ∷ k ∷ sender ∷ bytesOf (firstNumbers (now (sums .entry)) p k))

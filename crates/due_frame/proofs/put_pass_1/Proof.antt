@@ -6,6 +6,7 @@ use mathlib.Core.List.{List, [], _∷_}
 use Prim.Native.Nat.{ℕ, _+_, _-_, _*_}
 use denote.Ref.{now}
 use lib.ListN.{length, length-append}
+use Rattle.layout.specs.Places.{sumWords}
 use Rattle.wire.specs.Wire.{putNumbers}
 use Rattle.due_frame.specs.Frames.{sentPart, takenPart, firstNumbers}
 use Rattle.wire.proofs.Putting.{length-part}
@@ -27,7 +28,7 @@ module _ (s : tie.Start) where
   abbrev head : List ℕ
   head = 1 ∷ s .args .phase ∷ k ∷ s .args .sender ∷ []
 
-  count : length (firstNumbers sums p k) ≡ 2 * (p - k) + 2
+  count : length (firstNumbers sums p k) ≡ sumWords (p - k)
   count = length-first sums p k (s .pre .0) (s .pre .1)
 
   sent : length (sentPart sums p k) ≡ p - k
