@@ -13,7 +13,7 @@ use Rattle.base.specs.Limits.{Limits, limitsOf}
 use Rattle.base.proofs.Laws.{choose-yes, choose-no}
 use Rattle.base.proofs.Limits.{fits-of}
 use Rattle.tree.specs.Lookups.{placedAnswer}
-use Rattle.layout.specs.Places.{atNodes, atDim, atNumber, atFlag}
+use Rattle.layout.specs.Places.{atNodes, atDim, atNumber, atFlag, headWords}
 use Rattle.layout.specs.Held.{word}
 use Rattle.due.specs.Due.{toWhom, isLone, lookedUp, dueTo, canSend, dueBytes, Due, nobody, sending, dueOn}
 use Rattle.due.specs.Pieces.{whomList}
@@ -50,7 +50,7 @@ module _ (p : tie.After-place-of) where
       (length (now (a .buf)))
       → d ≡ dueOn L ws (now (a .sums)) (a .p) (a .issued .0) (length (now (a .buf)))
   unfolding dueOn
-  on d e = e ∙ sym (choose-no _ _ (le-ltb (length ws) 8 (else .if1 .left)))
+  on d e = e ∙ sym (choose-no _ _ (le-ltb (length ws) headWords (else .if1 .left)))
 
 whom-due-requires : tie.Need-whom-due-requires
 whom-due-requires c κs b m =
