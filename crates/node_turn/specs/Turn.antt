@@ -9,7 +9,7 @@ use Rattle.node.specs.Change.{at, freshIn}
 use Rattle.node.specs.declared.Node.{Node}
 use Rattle.node.specs.declared.BarrierAnswer.{BarrierAnswer}
 use Rattle.node.specs.declared.BarrierAnswer.the-variants.{Sends, Waits, Moved, Left, Refused}
-use Rattle.layout.specs.Places.{atNodes, atNumber, atPhase, atPass, atDim, atFlag, atAgreed, stateWords}
+use Rattle.layout.specs.Places.{atNodes, atNumber, atPhase, atPass, atDim, atFlag, atAgreed, stateWords, headWords}
 use Rattle.layout.specs.Held.{word}
 use Rattle.node_turn.specs.declared.Turn.{Turn}
 use Rattle.node_turn.specs.declared.Turn.the-variants.{
@@ -52,7 +52,7 @@ abbrev pub freshened : List ℕ → ℕ → List ℕ
 freshened ws p =
     choose (leb (stateWords p) (length ws))
     ((word ws atNodes ∷ word ws atNumber ∷ ((word ws atPhase + 1) % 256) ∷ 1 ∷ 1 ∷ 0 ∷ 1 ∷ 0 ∷ [])
-    ++ (list 0 (stateWords p - 8) (λ i. 0) ++ drop (stateWords p) ws))
+    ++ (list 0 (stateWords p - headWords) (λ i. 0) ++ drop (stateWords p) ws))
     ws
 
 abbrev pub wordsAfter : List ℕ → ℕ → Turn → List ℕ

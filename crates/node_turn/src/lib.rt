@@ -116,10 +116,10 @@ fn write(state: &mut [u32], p: u8, t: Turn) -> BarrierAnswer
 // Makes the words of a state of p dimensions what they are after a turn, and answers. Refuses 13.
 pub fn act(state: &mut [u32], p: u8, t: Turn) -> BarrierAnswer
     ensures answer { λ r.
-        ⌜ r ≡ choose (ltb (length (now (state .entry))) 8) (BarrierAnswer.Refused 13) (answerOf t) ⌝ }
+        ⌜ r ≡ choose (ltb (length (now (state .entry))) headWords) (BarrierAnswer.Refused 13) (answerOf t) ⌝ }
     ensures memory { λ r.
         ⌜ now (state .exit)
-        ≡ choose (ltb (length (now (state .entry))) 8) (now (state .entry)) (wordsAfter (now (state .entry)) p t) ⌝ }
+        ≡ choose (ltb (length (now (state .entry))) headWords) (now (state .entry)) (wordsAfter (now (state .entry)) p t) ⌝ }
 {
     if state.len() < layout::HEAD as usize {
         return BarrierAnswer::Refused(13);

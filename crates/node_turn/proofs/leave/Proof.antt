@@ -7,7 +7,7 @@ use lib.Dec.{leb}
 use lib.ListN.{length, drop}
 use denote.Ref.{now}
 use Rattle.base.specs.Choice.{choose, list}
-use Rattle.layout.specs.Places.{atNodes, atNumber, stateWords}
+use Rattle.layout.specs.Places.{atNodes, atNumber, stateWords, headWords}
 use Rattle.layout.specs.Held.{word}
 use Rattle.node_turn.proofs.leave.Statement.{statement}
 use Rattle.node_turn.proofs.leave.Tie as tie
@@ -17,7 +17,7 @@ inPhase : List ℕ → ℕ → ℕ → List ℕ
 inPhase ws p phase =
     choose (leb (stateWords p) (length ws))
     ((word ws atNodes ∷ word ws atNumber ∷ phase ∷ 1 ∷ 1 ∷ 0 ∷ 1 ∷ 0 ∷ [])
-    ++ (list 0 (stateWords p - 8) (λ i. 0) ++ drop (stateWords p) ws))
+    ++ (list 0 (stateWords p - headWords) (λ i. 0) ++ drop (stateWords p) ws))
     ws
 
 returns : tie.Need-returns
