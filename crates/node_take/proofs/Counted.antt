@@ -7,7 +7,7 @@ use Prim.Native.Nat.{ℕ, _+_, _≤_, _<_}
 use native.Mathlib.Omega.{arith}
 use lib.ListN.{length, set}
 use borrow.Author.Tests.{lt-ltb}
-use Rattle.base.specs.Limits.{Limits, Fits}
+use Rattle.base.specs.Limits.{Limits, Fits, width}
 use Rattle.base.proofs.Laws.{choose-yes}
 use Rattle.frame.specs.Frame.{sentNumber, takenNumber, sentAt, takenAt}
 use Rattle.node.specs.Sums.{allSent, allTaken, tally}
@@ -17,7 +17,7 @@ use Rattle.node.specs.Answers.{Given, Outcome, refused}
 use Rattle.node.specs.Calls.{refusal, oneSent, oneTaken, woken}
 use Rattle.node.specs.declared.Node.{Node}
 use Rattle.survey.proofs.Lists.{total-has}
-use Rattle.layout.specs.Places.{atSent, atTaken}
+use Rattle.layout.specs.Places.{atSent, atTaken, headWords}
 use Rattle.layout.specs.Held.{word, dimsOf, unpacked, isWhole, answerOn, wordsOn}
 use Rattle.layout.proofs.Offsets.{first-above}
 use Rattle.layout.proofs.Whole.{whole}
@@ -43,10 +43,10 @@ becomes-is {L} {ws} {after} e b = rw e at b
 
 module _ (L : Limits) (ws : List ℕ) (e : isWhole L ws ≡ true) where
   -- the head and the tallies are there
-  pub tallies-room : 8 + (dimsOf ws + dimsOf ws) ≤ length ws
+  pub tallies-room : headWords + (dimsOf ws + dimsOf ws) ≤ length ws
   tallies-room = omega (arith, first-above (dimsOf ws) (dimsOf ws), whole L ws e .long)
 
-  module _ (m : ℕ) (h : m < dimsOf ws) (l : m < 8) where
+  module _ (m : ℕ) (h : m < dimsOf ws) (l : m < width) where
     sent-is : sentAt (unpacked ws .sent) m ≡ word ws (atSent m)
     sent-is = sent-word ws m l ∙ choose-yes _ _ (lt-ltb _ _ h)
 

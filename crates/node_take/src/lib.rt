@@ -11,6 +11,7 @@ ghost use Rattle.node.specs.Answers.{outcomeOf};
 ghost use Rattle.node.specs.Calls.{take};
 ghost use Rattle.layout.specs.Held.{unpacked, answerOn, wordsOn};
 ghost use Rattle.layout.specs.Pieces.{Passed, Answers};
+ghost use Rattle.layout.specs.Places.{headWords};
 ghost use Rattle.node_take.specs.Shell.{shellOf};
 ghost use Rattle.node_take.specs.Pieces.{wokenWords};
 use base::Bounds;
@@ -30,7 +31,7 @@ pub fn shell_of(b: Bounds, nodes: u32, number: u32, other: u32) -> u32
 
 // Counts a message in the taken tally at a place, and makes the node busy, at (1, 0, 1) and with T 0.
 fn wake(state: &mut [u32], at: u32)
-    requires { ⌜ (8 ≤ at) × (at < length (now state)) × (getD (now state) at 0 < 4294967295) ⌝ }
+    requires { ⌜ (headWords ≤ at) × (at < length (now state)) × (getD (now state) at 0 < 4294967295) ⌝ }
     ensures { λ r. ⌜ now (state .exit) ≡ wokenWords (now (state .entry)) at ⌝ }
 {
     let taken = Taken(state[at as usize]);

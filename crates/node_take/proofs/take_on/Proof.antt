@@ -8,7 +8,7 @@ use mathlib.Core.Bool.{not}
 use mathlib.Core.List.{List}
 use Prim.Native.Nat.{ℕ, _+_, _≤_, _<_}
 use lib.ListN.{length}
-use Rattle.base.specs.Limits.{Limits, Fits, limitsOf, takenLimit}
+use Rattle.base.specs.Limits.{Limits, Fits, limitsOf, takenLimit, width}
 use Rattle.base.specs.Refusal.{Check}
 use Rattle.base.proofs.Limits.{fits-of, taken-low}
 use Rattle.base.proofs.Laws.{Passes, Stops, later, order-passes}
@@ -21,7 +21,7 @@ use Rattle.node.specs.declared.Node.{Node}
 use Rattle.node.proofs.Valid.{Valid, valid-known}
 use Rattle.node.proofs.Ways.{takeChecks, take-refuses}
 use Rattle.layout.specs.Places.{atNodes, atNumber, atPhase}
-use Rattle.layout.specs.Places.{atTaken}
+use Rattle.layout.specs.Places.{atTaken, headWords}
 use Rattle.layout.specs.Held.{unpacked, dimsOf, word}
 use Rattle.layout.specs.Pieces.{Passed}
 use Rattle.layout.proofs.Whole.{whole, few}
@@ -61,10 +61,10 @@ module _ (s : tie.Start) where
   good : Valid L n
   good = valid-known L n (passed .valid)
 
-  long : 8 + (dimsOf ws + dimsOf ws) ≤ length ws
+  long : headWords + (dimsOf ws + dimsOf ws) ≤ length ws
   long = tallies-room L ws (passed .whole)
 
-  narrow : dimsOf ws ≤ 8
+  narrow : dimsOf ws ≤ width
   narrow = few L fit ws (whole L ws (passed .whole) .board)
 
   dims-is : s .args .p ≡ dimsOf ws
@@ -133,8 +133,8 @@ module _ (c : tie.After-shell-of) where
   abbrev shell : ℕ
   shell = c .shell-of .result
 
-  known : let P = word (ws mine) 0 in
-      (shell ≡ distance P (word (ws mine) 1) (from mine)) × (shell < dimension P) × (shell < 8)
+  known : let P = word (ws mine) atNodes in
+      (shell ≡ distance P (word (ws mine) atNumber) (from mine)) × (shell < dimension P) × (shell < width)
   unfolding unpacked
   known =
       let v = good mine in
@@ -146,10 +146,10 @@ module _ (c : tie.After-shell-of) where
   shell-in = known .1
 
   abbrev place : ℕ
-  place = 8 + mine .args .p + shell
+  place = atTaken (mine .args .p) shell
 
   place-is : place ≡ atTaken (dimsOf (ws mine)) shell
-  place-is = ap (λ p. 8 + p + shell) (dims-is mine)
+  place-is = ap (λ p. atTaken p shell) (dims-is mine)
 
   -- the tally has room for one more
   more : word (ws mine) place < 16711425
