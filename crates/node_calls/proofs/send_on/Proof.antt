@@ -8,7 +8,7 @@ use mathlib.Core.Bool.{not}
 use mathlib.Core.List.{List}
 use Prim.Native.Nat.{ℕ, _+_, _≤_, _<_}
 use lib.ListN.{length}
-use Rattle.base.specs.Limits.{Limits, Fits, limitsOf}
+use Rattle.base.specs.Limits.{Limits, Fits, limitsOf, width}
 use Rattle.base.specs.Refusal.{Check}
 use Rattle.base.proofs.Limits.{fits-of}
 use Rattle.base.proofs.Laws.{Passes, Stops, later, order-passes}
@@ -25,7 +25,7 @@ use Rattle.layout.specs.Pieces.{Passed}
 use Rattle.layout.proofs.Answers.{gives, stays}
 use Rattle.refusals.specs.Tests.{sendTests}
 use Rattle.refusals.proofs.First.{met-some, met-none}
-use Rattle.layout.specs.Places.{atNodes, atNumber, atBusy}
+use Rattle.layout.specs.Places.{atNodes, atNumber, atBusy, headWords, atSent}
 use Rattle.node_take.proofs.Counted.{tallies-room, sent-within, put-one-sent}
 use Rattle.node_take.proofs.Shells.{shell-known}
 use Rattle.node_calls.proofs.send_on.Statement.{statement}
@@ -54,7 +54,7 @@ module _ (s : tie.Start) where
   good : Valid L n
   good = valid-known L n (passed .valid)
 
-  long : 8 + (dimsOf ws + dimsOf ws) ≤ length ws
+  long : headWords + (dimsOf ws + dimsOf ws) ≤ length ws
   long = tallies-room L ws (passed .whole)
 
   -- the tests of the words, then those of the state
@@ -100,8 +100,8 @@ module _ (c : tie.After-shell-of) where
   abbrev shell : ℕ
   shell = c .shell-of .result
 
-  known : let P = word (ws sender) 0 in
-      (shell ≡ distance P (word (ws sender) 1) (to sender)) × (shell < dimension P) × (shell < 8)
+  known : let P = word (ws sender) atNodes in
+      (shell ≡ distance P (word (ws sender) atNumber) (to sender)) × (shell < dimension P) × (shell < width)
   unfolding unpacked
   known =
       let v = good sender in
@@ -113,7 +113,7 @@ module _ (c : tie.After-shell-of) where
   shell-in = known .1
 
   -- the tally has room for one more
-  more : word (ws sender) (8 + shell) < 65535
+  more : word (ws sender) (atSent shell) < 65535
   more =
       omega (
         arith,
