@@ -1,3 +1,3 @@
-pub mod Runs
 pub mod Room
-pub mod Starting
+mod Copying
+mod Starting

@@ -7,26 +7,25 @@ use native.Mathlib.Omega.{arith}
 use lib.Dec.{leb}
 use lib.ListN.{length}
 use borrow.Author.Tests.{leb-true, leb-false, le-leb}
-use Rattle.base.specs.Choice.{choose}
-use Rattle.base.specs.Limits.{Limits, takenLimit}
+use Rattle.base.specs.Choice.{choose, both}
+use Rattle.base.specs.Limits.{Limits, takenLimit, width}
 use Rattle.base.proofs.Laws.{clash, choose-yes, choose-no, cases, both-true, both-make}
-use Rattle.frame.specs.Frame.{sentNumber, takenNumber}
-use Rattle.gather.specs.Gather.{hasRoom, sentTotal, takenTotal, tallied, noTallies, talliesOf}
-use Rattle.gather.specs.Pieces.{capped}
+use Rattle.layout.specs.Places.{headWords, sumWords}
+use Rattle.gather.specs.Gather.{hasRoom, sentTotal, takenTotal, tallied, theTallies, noTallies, talliesOf}
 use Rattle.gather.specs.declared.Tallies.{Tallies}
 
 -- ---- the words of the tallies
 
 pub record Room (p words room : ℕ) : Type 0 where
-  pub few : p ≤ 8
-  pub long : 8 + 2 * p ≤ words
-  pub wide : 2 * p + 2 ≤ room
+  pub few : p ≤ width
+  pub long : headWords + 2 * p ≤ words
+  pub wide : sumWords p ≤ room
 
 pub room-known : (p words room : ℕ) → hasRoom p words room ≡ true → Room p words room
 room-known p words room e =
-    let a = both-true (leb p 8) _ e in
-    let b = both-true (leb (8 + 2 * p) words) (leb (2 * p + 2) room) (a .1) in
-    record { few = leb-true p 8 (a .0); long = leb-true _ words (b .0); wide = leb-true _ room (b .1) }
+    let a = both-true (leb p width) _ e in
+    let b = both-true (leb (headWords + 2 * p) words) (leb (sumWords p) room) (a .1) in
+    record { few = leb-true p width (a .0); long = leb-true _ words (b .0); wide = leb-true _ room (b .1) }
 
 pub room-made : (p words room : ℕ) → Room p words room → hasRoom p words room ≡ true
 room-made p words room r =
@@ -71,16 +70,17 @@ module _ (L : Limits) (p : ℕ) (ws : List ℕ) (room : ℕ) where
   unfolding talliesOf
   none-told e = sym (choose-no _ _ e)
 
-  pub all-told : test ≡ true → (x y : ℕ) → x ≡ sentTotal p ws → y ≡ takenTotal p ws
-      → record { ok = true; sends = sentNumber x; takes = takenNumber y } ≡ talliesOf L p ws room
-  unfolding talliesOf
-  all-told e x y a b =
-      (λ i. record { ok = true; sends = sentNumber (a i); takes = takenNumber (b i) }) ∙ sym (choose-yes _ _ e)
+  -- where there is room the totals decide
+  pub told : hasRoom p (length ws) room ≡ true
+      → choose (both (leb (sentTotal p ws) (L .sends)) (leb (takenTotal p ws) (takenLimit L))) (theTallies p ws) noTallies
+      ≡ talliesOf L p ws room
+  unfolding talliesOf tallied
+  told e = rw e
 
 -- ---- what an answer says
 
 module _ (L : Limits) (p : ℕ) (ws : List ℕ) (room : ℕ) (r : Tallies) (e : r ≡ talliesOf L p ws room) where
-  ok-is : r .ok ≡ tallied L p ws room
+  pub ok-is : r .ok ≡ tallied L p ws room
   unfolding talliesOf
   ok-is =
       ap (λ (t : Tallies). t .ok) e
@@ -97,22 +97,3 @@ module _ (L : Limits) (p : ℕ) (ws : List ℕ) (room : ℕ) (r : Tallies) (e : 
   totals-known q =
       let z = e ∙ choose-yes _ _ (passes q) in
       (ap (λ (t : Tallies). t .sends .0) z, ap (λ (t : Tallies). t .takes .0) z)
-
--- ---- a total that is cut off above its limit
-
-module _ (limit x r : ℕ) (e : r ≡ capped limit x) where
-  pub capped-over : limit < r → limit < x
-  unfolding capped
-  capped-over h = go (leb x limit) refl (omega (arith, e))
-    where
-      go : (t : Bool) → leb x limit ≡ t → limit < choose t x (suc limit) → limit < x
-      go true q h = h
-      go false q h = leb-false x limit q
-
-  pub capped-under : r ≤ limit → r ≡ x
-  unfolding capped
-  capped-under h = e ∙ go (leb x limit) (omega (arith, e))
-    where
-      go : (t : Bool) → choose t x (suc limit) ≤ limit → choose t x (suc limit) ≡ x
-      go true h = refl
-      go false h = absurd (omega arith)

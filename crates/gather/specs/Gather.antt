@@ -33,11 +33,11 @@ tallied L p ws room =
 abbrev pub noTallies : Tallies
 noTallies = record { ok = false; sends = sentNumber 0; takes = takenNumber 0 }
 
+abbrev pub theTallies : ℕ → List ℕ → Tallies
+theTallies p ws = record { ok = true; sends = sentNumber (sentTotal p ws); takes = takenNumber (takenTotal p ws) }
+
 unfoldable pub talliesOf : Limits → ℕ → List ℕ → ℕ → Tallies
-talliesOf L p ws room =
-    choose (tallied L p ws room)
-    (record { ok = true; sends = sentNumber (sentTotal p ws); takes = takenNumber (takenTotal p ws) })
-    noTallies
+talliesOf L p ws room = choose (tallied L p ws room) (theTallies p ws) noTallies
 
 -- the sums before any frame is added
 pub record Started (p : ℕ) (ws after : List ℕ) : Type 0 where

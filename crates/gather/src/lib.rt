@@ -1,7 +1,6 @@
 // The own sums of a state before any frame is added, in the words that the caller lends.
 ghost use mathlib.Core.Path.{_≡_};
 ghost use mathlib.Core.Bool.{true};
-ghost use Prim.Native.Nat.{_+_, _*_, _-_, _≤_, _<_};
 ghost use lib.ListN.{length};
 ghost use Rattle.base.specs.Limits.{limitsOf};
 ghost use Rattle.gather.specs.Gather.{hasRoom, tallied, noTallies, talliesOf, Started};
@@ -27,25 +26,32 @@ fn no_tallies() -> Tallies
     }
 }
 
-// Copies a run of words and answers its total; one more than the limit where the total is above that.
-fn copy_run(sums: &mut [u32], to: u32, s: &[u32], from: u32, count: u32, limit: u32) -> u32
-    requires { ⌜ (to + count ≤ length (now sums))
-        × (to + count ≤ 200)
-        × (from + count ≤ length (now s))
-        × (from + count ≤ 200)
-        × (limit < 4294967295) ⌝ }
-    ensures { λ r. ⌜ Copied (now (sums .exit)) (now (sums .entry)) (now (s .entry)) to from count limit r ⌝ }
+// Makes the tallies of p shells the first sums and answers their totals, up to the first that comes above the most.
+fn copy_tallies(s: &[u32], sums: &mut [u32], p: u32, sends: Sent, takes: Taken) -> Tallies
+    requires { ⌜ hasRoom p (length (now s)) (length (now sums)) ≡ true ⌝ }
+    ensures { λ r. ⌜ Copied p (now (s .entry)) (sends .0) (takes .0) (now (sums .entry)) (now (sums .exit)) r ⌝ }
 {
-    let mut sum: u32 = 0;
-    for m in 0..count {
-        let x = s[(from + m) as usize];
-        if limit - sum < x {
-            return limit + 1;
+    let mut sends_left = sends;
+    let mut takes_left = takes;
+    for m in 0..p {
+        let sent = Sent(s[(layout::HEAD + m) as usize]);
+        if sends_left.0 < sent.0 {
+            return no_tallies();
         }
-        sums[(to + m) as usize] = x;
-        sum = sum + x;
+        let taken = Taken(s[(layout::HEAD + p + m) as usize]);
+        if takes_left.0 < taken.0 {
+            return no_tallies();
+        }
+        sums[m as usize] = sent.0;
+        sums[(p + m) as usize] = taken.0;
+        sends_left = Sent(sends_left.0 - sent.0);
+        takes_left = Taken(takes_left.0 - taken.0);
     }
-    sum
+    Tallies {
+        ok: true,
+        sends: Sent(sends.0 - sends_left.0),
+        takes: Taken(takes.0 - takes_left.0),
+    }
 }
 
 fn has_room(p: u32, words: usize, room: usize) -> bool
@@ -71,21 +77,17 @@ pub fn start(b: Bounds, s: &[u32], sums: &mut [u32], p: u32) -> Tallies
     if !has_room(p, s.len(), sums.len()) {
         return no_tallies();
     }
-    let most = b.sends as u32;
-    let sends = copy_run(sums, 0, s, layout::HEAD, p, most);
-    if most < sends {
-        return no_tallies();
+    let own = copy_tallies(
+        s,
+        &mut *sums,
+        p,
+        Sent(b.sends as u32),
+        Taken(base::taken_limit(b)),
+    );
+    if !own.ok {
+        return own;
     }
-    let most = base::taken_limit(b);
-    let takes = copy_run(sums, p, s, layout::HEAD + p, p, most);
-    if most < takes {
-        return no_tallies();
-    }
-    sums[(2 * p) as usize] = sends;
-    sums[(2 * p + 1) as usize] = takes;
-    Tallies {
-        ok: true,
-        sends: Sent(sends),
-        takes: Taken(takes),
-    }
+    sums[(2 * p) as usize] = own.sends.0;
+    sums[(2 * p + 1) as usize] = own.takes.0;
+    own
 }

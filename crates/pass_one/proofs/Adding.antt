@@ -1,149 +1,238 @@
--- Two runs of numbers added to the sums: they are the numbers of a frame above shell k, and clause 3 holds for those exactly
+-- The numbers of a frame above shell k, added to the sums shell by shell, then the totals: clause 3 holds for them exactly
 -- where no sum comes above the limit.
-use mathlib.Core.Path.{_≡_, sym, ap, _∙_}
+use mathlib.Core.Path.{_≡_, refl, sym, ap, _∙_}
 use mathlib.Core.Bool.{Bool, true, false}
 use mathlib.Core.List.{List}
 use Prim.Native.Nat.{ℕ, suc, _+_, _-_, _*_, _≤_, _<_}
-use native.Mathlib.Decide.{decLe}
+use native.Mathlib.Decide.{ℕ-discrete}
 use native.Mathlib.Omega.{arith}
+use lib.Dec.{leb}
+use lib.ListN.{length}
+use borrow.Author.Tests.{le-leb, leb-true}
+use Rattle.base.proofs.Laws.{clash, both-true, both-make}
 use Rattle.node.specs.Sums.{Field, Has, sentIn, takenIn, allSent, allTaken, number}
 use Rattle.node.specs.declared.Stored.{Stored}
+use Rattle.layout.specs.Places.{sentPlace, takenPlace, issuedPlace, receivedPlace, sumTaken, sumIssued, sumReceived}
 use Rattle.layout.specs.Held.{word, firstFrom, sumOf}
 use Rattle.layout.proofs.Reading.{number-sent, number-taken}
 use Rattle.pass_one.specs.Tried.{Added}
-use Rattle.pass_one.specs.Pieces.{AddedRun}
+use Rattle.pass_one.specs.Pieces.{FirstAt, pairFits, pairAdded, InShells, AddedShells}
+use Rattle.pass_one.specs.declared.Pair.{Pair}
+use Rattle.pass_one.proofs.Pairs.{pair-length, pair-sent, pair-taken, pair-other}
 
-module _ (ws before : List ℕ) (p k at limit : ℕ) (low : k < p) (few : p ≤ 8) where
+module _ (ws before : List ℕ) (p k at limit : ℕ) where
   abbrev x : Stored
   x = firstFrom ws p k at
 
-  abbrev n : ℕ
-  n = p - k
+  -- the sum of a number with the frame's is within the limit, or is among the sums
+  abbrev Fine : Field → Type 0
+  Fine f = sumOf p before f + number x f ≤ limit
 
-  -- the sums with the frame's numbers, and whether they are within the limit
+  abbrev New : List ℕ → Field → Type 0
+  New sums f = sumOf p sums f ≡ sumOf p before f + number x f
+
+  -- no sum that the next dimension has comes above the limit
   abbrev pub Within : Type 0
-  Within = (f : Field) → Has p (suc k) f → sumOf p before f + number x f ≤ limit
+  Within = (f : Field) → Has p (suc k) f → Fine f
 
-  -- the tallies of shell k
-  pub sent-first : number x (sentIn k) ≡ word ws (at + 1)
-  sent-first =
-      let z : at + 1 + (k - k) ≡ at + 1 = omega arith in
-      number-sent ws p k at k (omega arith) low (omega arith) ∙ ap (word ws) z
+  -- the places of shell m in the sums and in the frame, and those of the totals
+  abbrev pub shellTo : ℕ → Pair
+  shellTo m = record { sent = m; taken = sumTaken p m }
 
-  pub taken-first : number x (takenIn k) ≡ word ws (at + 1 + n)
-  taken-first =
-      let z : at + 1 + (p - k) + (k - k) ≡ at + 1 + n = omega arith in
-      number-taken ws p k at k (omega arith) low (omega arith) ∙ ap (word ws) z
+  abbrev pub shellFrom : ℕ → Pair
+  shellFrom m = record { sent = sentPlace at k m; taken = takenPlace p at k m }
 
-  -- a number of the frame by its index in a run
-  sent-at : (i : ℕ) → i < n - 1 → number x (sentIn (k + 1 + i)) ≡ word ws (at + 1 + 1 + i)
-  sent-at i h =
-      let z : at + 1 + (k + 1 + i - k) ≡ at + 1 + 1 + i = omega arith in
-      number-sent ws p k at (k + 1 + i) (omega arith) (omega arith) (omega arith) ∙ ap (word ws) z
+  abbrev pub totalsTo : Pair
+  totalsTo = record { sent = sumIssued p; taken = sumReceived p }
 
-  taken-at : (i : ℕ) → i < n - 1 → number x (takenIn (k + 1 + i)) ≡ word ws (at + 1 + 1 + n + i)
-  taken-at i h =
-      let z : at + 1 + (p - k) + (k + 1 + i - k) ≡ at + 1 + 1 + n + i = omega arith in
-      number-taken ws p k at (k + 1 + i) (omega arith) (omega arith) (omega arith) ∙ ap (word ws) z
+  abbrev pub totalsFrom : Pair
+  totalsFrom = record { sent = issuedPlace p at k; taken = issuedPlace p at k + 1 }
 
-  issued-at : number x allSent ≡ word ws (at + 1 + 1 + n + (n - 1))
-  issued-at = let z : at + 1 + 2 * (p - k) ≡ at + 1 + 1 + n + (n - 1) = omega arith in ap (word ws) z
+  -- the shells below m are done, and the other sums are as they were
+  pub record Upto (m : ℕ) (sums : List ℕ) : Type 0 where
+    pub low : k < m
+    pub high : m ≤ p
+    pub long : length sums ≡ length before
+    pub done : (f : Field) → InShells k m f → Fine f × New sums f
+    pub sent : (j : ℕ) → m ≤ j → j < p → word sums j ≡ word before j
+    pub taken : (j : ℕ) → p + m ≤ j → word sums j ≡ word before j
 
-  received-at : number x allTaken ≡ word ws (at + 1 + 1 + n + n)
-  received-at = let z : at + 2 + 2 * (p - k) ≡ at + 1 + 1 + n + n = omega arith in ap (word ws) z
+  module _ (here : FirstAt ws before p k at) where
+    pub none-done : Upto (k + 1) before
+    none-done =
+        record {
+          low = omega arith;
+          high = omega (arith, here .low);
+          long = refl;
+          done = none;
+          sent = λ j a b. refl;
+          taken = λ j a. refl;
+        }
+      where
+        none : (f : Field) → InShells k (k + 1) f → Fine f × New before f
+        none (sentIn j) h = absurd (omega arith)
+        none (takenIn j) h = absurd (omega arith)
 
-  -- ---- the shells' numbers sent
+    module _ (m : ℕ) (sums : List ℕ) (u : Upto m sums) (next : m < p) where
+      sent-is : number x (sentIn m) ≡ word ws (sentPlace at k m)
+      sent-is = number-sent ws p k at m (omega (arith, u .low)) next (omega (arith, here .few))
 
-  module _ (mid : List ℕ) (r : Bool) (one : AddedRun mid before ws (k + 1) (at + 1 + 1) (n - 1) limit r) where
-    pub first-over : r ≡ false → Within → ⊥
-    first-over e w =
-        one .over e
-        (λ i h. omega (arith, w (sentIn (k + 1 + i)) (omega arith), sent-at i h))
+      taken-is : number x (takenIn m) ≡ word ws (takenPlace p at k m)
+      taken-is = number-taken ws p k at m (omega (arith, u .low)) next (omega (arith, here .few))
 
-    module _ (good : r ≡ true) where
-      -- the words from p on are as they were
-      same : (j : ℕ) → p ≤ j → word mid j ≡ word before j
-      same j h = one .above j (omega arith)
+      -- the sums of shell m are still the own ones
+      sent-sum : word sums m + word ws (sentPlace at k m) ≡ sumOf p before (sentIn m) + number x (sentIn m)
+      sent-sum = λ i. u .sent m (omega arith) next i + sym sent-is i
 
-      -- ---- the numbers taken, and the totals
+      taken-sum : word sums (p + m) + word ws (takenPlace p at k m) ≡ sumOf p before (takenIn m) + number x (takenIn m)
+      taken-sum = λ i. u .taken (p + m) (omega arith) i + sym taken-is i
 
-      module _ (after : List ℕ) (t : Bool)
-          (two : AddedRun after mid ws (p + k + 1) (at + 1 + 1 + n) (n - 1 + 2) limit t) where
-        -- a word of the second run: a shell's number taken, or a total
-        taken-word : (i : ℕ) → i < n - 1 → word mid (p + k + 1 + i) ≡ sumOf p before (takenIn (k + 1 + i))
-        taken-word i h =
-            let z : p + k + 1 + i ≡ p + (k + 1 + i) = omega arith in
-            same (p + k + 1 + i) (omega arith) ∙ ap (word before) z
+      pub shell-over : pairFits sums (shellTo m) ws (shellFrom m) limit ≡ false → ((f : Field) → InShells k p f → Fine f) → ⊥
+      shell-over e w =
+          clash
+          (sym
+          (both-make
+          (le-leb (word sums m + word ws (sentPlace at k m)) limit (omega (arith, sent-sum, w (sentIn m) (u .low, next))))
+          (le-leb (word sums (p + m) + word ws (takenPlace p at k m)) limit
+          (omega (arith, taken-sum, w (takenIn m) (u .low, next)))))
+          ∙ e)
 
-        issued-word : word mid (p + k + 1 + (n - 1)) ≡ sumOf p before allSent
-        issued-word =
-            let z : p + k + 1 + (n - 1) ≡ 2 * p = omega arith in
-            same (p + k + 1 + (n - 1)) (omega arith) ∙ ap (word before) z
+      module _ (e : pairFits sums (shellTo m) ws (shellFrom m) limit ≡ true) where
+        abbrev then : List ℕ
+        then = pairAdded sums (shellTo m) ws (shellFrom m)
 
-        received-word : word mid (p + k + 1 + n) ≡ sumOf p before allTaken
-        received-word =
-            let z : p + k + 1 + n ≡ 2 * p + 1 = omega arith in
-            same (p + k + 1 + n) (omega arith) ∙ ap (word before) z
+        inside : p + m < length sums
+        inside = omega (arith, u .long, here .wide)
 
-        pub second-over : t ≡ false → Within → ⊥
-        second-over e w = two .over e (λ i h. go i h (decLe (n - 1) i) (decLe n i))
+        other : (j : ℕ) → (j ≡ m → ⊥) → (j ≡ p + m → ⊥) → word then j ≡ word sums j
+        other = pair-other sums (shellTo m) ws (shellFrom m) (omega arith) inside
+
+        fits : (leb (word sums m + word ws (sentPlace at k m)) limit ≡ true)
+            × (leb (word sums (p + m) + word ws (takenPlace p at k m)) limit ≡ true)
+        fits = both-true _ _ e
+
+        sent-new : Fine (sentIn m) × New then (sentIn m)
+        sent-new = (
+          omega (arith, leb-true (word sums m + word ws (sentPlace at k m)) limit (fits .0), sent-sum),
+          pair-sent sums (shellTo m) ws (shellFrom m) (omega arith) inside ∙ sent-sum,
+        )
+
+        taken-new : Fine (takenIn m) × New then (takenIn m)
+        taken-new = (
+          omega (arith, leb-true (word sums (p + m) + word ws (takenPlace p at k m)) limit (fits .1), taken-sum),
+          pair-taken sums (shellTo m) ws (shellFrom m) (omega arith) inside ∙ taken-sum,
+        )
+
+        done-more : (f : Field) → InShells k (m + 1) f → Fine f × New then f
+        done-more (sentIn j) h = go (ℕ-discrete j m)
           where
-            go : (i : ℕ) → i < n - 1 + 2 → Dec (n - 1 ≤ i) → Dec (n ≤ i)
-                → word mid (p + k + 1 + i) + word ws (at + 1 + 1 + n + i) ≤ limit
-            go i h (no a) b =
-                omega (
-                  arith,
-                  w (takenIn (k + 1 + i)) (omega arith),
-                  taken-word i (omega arith),
-                  taken-at i (omega arith),
-                )
-            go i h (yes a) (no b) =
-                let z : i ≡ n - 1 = omega arith in
-                rw z (omega (arith, w allSent tt, issued-word, issued-at))
-            go i h (yes a) (yes b) =
-                let z : i ≡ n = omega arith in
-                rw z (omega (arith, w allTaken tt, received-word, received-at))
+            go : Dec (j ≡ m) → Fine (sentIn j) × New then (sentIn j)
+            go (yes z) = rw z sent-new
+            go (no z) =
+                let d = u .done (sentIn j) (h .0, omega arith) in
+                (d .0, other j z (λ q. omega (arith, next)) ∙ d .1)
+        done-more (takenIn j) h = go (ℕ-discrete j m)
+          where
+            go : Dec (j ≡ m) → Fine (takenIn j) × New then (takenIn j)
+            go (yes z) = rw z taken-new
+            go (no z) =
+                let d = u .done (takenIn j) (h .0, omega arith) in
+                (d .0, other (p + j) (λ q. omega (arith, next)) (λ q. z (omega arith)) ∙ d .1)
 
-        module _ (well : t ≡ true) where
-          pub within : Within
-          within (sentIn m) h =
-              let i = m - (k + 1) in
-              let z : k + 1 + i ≡ m = omega arith in
-              let w : word before (k + 1 + i) + number x (sentIn (k + 1 + i)) ≤ limit =
-              omega (arith, one .within good i (omega arith), sent-at i (omega arith)) in
-              rw z at w
-          within (takenIn m) h =
-              let i = m - (k + 1) in
-              let z : k + 1 + i ≡ m = omega arith in
-              let w : word before (p + (k + 1 + i)) + number x (takenIn (k + 1 + i)) ≤ limit =
-              omega (arith, two .within well i (omega arith), taken-word i (omega arith), taken-at i (omega arith)) in
-              rw z at w
-          within allSent h = omega (arith, two .within well (n - 1) (omega arith), issued-word, issued-at)
-          within allTaken h = omega (arith, two .within well n (omega arith), received-word, received-at)
+        pub shell-done : Upto (m + 1) then
+        shell-done =
+            record {
+              low = omega (arith, u .low);
+              high = omega arith;
+              long = pair-length sums (shellTo m) ws (shellFrom m) (omega arith) inside ∙ u .long;
+              done = done-more;
+              sent = λ j a b. other j (λ q. omega arith) (λ q. omega arith) ∙ u .sent j (omega arith) b;
+              taken = λ j a. other j (λ q. omega (arith, next)) (λ q. omega arith) ∙ u .taken j (omega arith);
+            }
 
-          pub added : Added p k x before after
-          added (sentIn m) h =
-              let i = m - (k + 1) in
-              let z : k + 1 + i ≡ m = omega arith in
-              let w : word after (k + 1 + i) ≡ word before (k + 1 + i) + number x (sentIn (k + 1 + i)) =
-              two .below (k + 1 + i) (omega arith)
-              ∙ one .inside good i (omega arith)
-              ∙ ap (λ y. word before (k + 1 + i) + y) (sym (sent-at i (omega arith))) in
-              rw z at w
-          added (takenIn m) h =
-              let i = m - (k + 1) in
-              let z : k + 1 + i ≡ m = omega arith in
-              let y : p + (k + 1 + i) ≡ p + k + 1 + i = omega arith in
-              let w : word after (p + (k + 1 + i)) ≡ word before (p + (k + 1 + i)) + number x (takenIn (k + 1 + i)) =
-              ap (word after) y
-              ∙ two .inside well i (omega arith)
-              ∙ (λ j. taken-word i (omega arith) j + sym (taken-at i (omega arith)) j) in
-              rw z at w
-          added allSent h =
-              let y : 2 * p ≡ p + k + 1 + (n - 1) = omega arith in
-              ap (word after) y
-              ∙ two .inside well (n - 1) (omega arith)
-              ∙ (λ j. issued-word j + sym issued-at j)
-          added allTaken h =
-              let y : 2 * p + 1 ≡ p + k + 1 + n = omega arith in
-              ap (word after) y ∙ two .inside well n (omega arith) ∙ (λ j. received-word j + sym received-at j)
+    -- the last shell is done
+    pub shells-added : (m : ℕ) (sums : List ℕ) → Upto m sums → p ≤ m → AddedShells p k x limit before sums true
+    shells-added m sums u last =
+        let z : m ≡ p = omega (arith, u .high) in
+        let d : (f : Field) → InShells k p f → Fine f × New sums f = rw z at (u .done) in
+        record {
+          within = λ q f h. d f h .0;
+          over = λ q. clash q;
+          added = λ q f h. d f h .1;
+          others = λ q j h. u .taken j (omega (arith, z));
+          length = u .long;
+        }
+
+    -- a shell comes above the limit
+    pub shells-stopped : (m : ℕ) (sums : List ℕ) → Upto m sums → m < p
+        → pairFits sums (shellTo m) ws (shellFrom m) limit ≡ false
+        → AddedShells p k x limit before sums false
+    shells-stopped m sums u next e =
+        record {
+          within = λ q. clash (sym q);
+          over = λ q. shell-over m sums u next e;
+          added = λ q. clash (sym q);
+          others = λ q. clash (sym q);
+          length = u .long;
+        }
+
+    -- ---- The totals
+
+    pub shells-over : (mid : List ℕ) → AddedShells p k x limit before mid false → Within → ⊥
+    shells-over mid s w = s .over refl go
+      where
+        go : (f : Field) → InShells k p f → Fine f
+        go (sentIn j) h = w (sentIn j) h
+        go (takenIn j) h = w (takenIn j) h
+
+    module _ (mid : List ℕ) (s : AddedShells p k x limit before mid true) where
+      issued-sum : word mid (sumIssued p) + number x allSent ≡ sumOf p before allSent + number x allSent
+      issued-sum = ap (λ y. y + number x allSent) (s .others refl (sumIssued p) (omega arith))
+
+      abbrev next : ℕ
+      next = word ws (issuedPlace p at k + 1)
+
+      received-is : next ≡ number x allTaken
+      received-is = let z : issuedPlace p at k + 1 ≡ receivedPlace p at k = omega arith in ap (word ws) z
+
+      received-sum : word mid (sumReceived p) + next ≡ sumOf p before allTaken + number x allTaken
+      received-sum = λ i. s .others refl (sumReceived p) (omega arith) i + received-is i
+
+      pub totals-over : pairFits mid totalsTo ws totalsFrom limit ≡ false → Within → ⊥
+      totals-over e w =
+          clash
+          (sym
+          (both-make (le-leb (word mid (sumIssued p) + number x allSent) limit (omega (arith, issued-sum, w allSent tt)))
+          (le-leb (word mid (sumReceived p) + next) limit (omega (arith, received-sum, w allTaken tt))))
+          ∙ e)
+
+      module _ (e : pairFits mid totalsTo ws totalsFrom limit ≡ true) where
+        abbrev pub after : List ℕ
+        after = pairAdded mid totalsTo ws totalsFrom
+
+        room : sumReceived p < length mid
+        room = omega (arith, s .length, here .wide)
+
+        limits : (leb (word mid (sumIssued p) + number x allSent) limit ≡ true)
+            × (leb (word mid (sumReceived p) + next) limit ≡ true)
+        limits = both-true _ _ e
+
+        pub within : Within
+        within (sentIn j) h = s .within refl (sentIn j) h
+        within (takenIn j) h = s .within refl (takenIn j) h
+        within allSent h = omega (arith, leb-true (word mid (sumIssued p) + number x allSent) limit (limits .0), issued-sum)
+        within allTaken h =
+            omega (arith, leb-true (word mid (sumReceived p) + next) limit (limits .1), received-sum)
+
+        below : (j : ℕ) → j < sumIssued p → word after j ≡ word mid j
+        below j h =
+            pair-other mid totalsTo ws totalsFrom (omega arith) room j (λ q. omega arith) (λ q. omega arith)
+
+        pub added : Added p k x before after
+        added (sentIn j) h = below j (omega arith) ∙ s .added refl (sentIn j) h
+        added (takenIn j) h = below (p + j) (omega arith) ∙ s .added refl (takenIn j) h
+        added allSent h = pair-sent mid totalsTo ws totalsFrom (omega arith) room ∙ issued-sum
+        added allTaken h = pair-taken mid totalsTo ws totalsFrom (omega arith) room ∙ received-sum
+
+        pub added-length : length after ≡ length before
+        added-length = pair-length mid totalsTo ws totalsFrom (omega arith) room ∙ s .length

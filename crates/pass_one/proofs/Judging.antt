@@ -2,13 +2,14 @@
 use mathlib.Core.Path.{_≡_, refl, sym, ap, _∙_}
 use mathlib.Core.Bool.{Bool, true, false, not}
 use mathlib.Core.List.{List, []}
-use Prim.Native.Nat.{ℕ, suc, _+_, _*_}
+use Prim.Native.Nat.{ℕ, suc, _+_}
+use native.Mathlib.Numerals.{add-one}
 use native.Mathlib.Omega.{arith}
 use lib.Dec.{eqb, ltb, leb}
 use lib.ListN.{length}
 use borrow.Author.Tests.{eqb-true, eq-eqb, ltb-true, leb-true, not-true}
 use Rattle.base.specs.Choice.{both}
-use Rattle.base.specs.Limits.{Limits, fieldLimit}
+use Rattle.base.specs.Limits.{Limits, width, fieldLimit}
 use Rattle.base.proofs.Laws.{clash, cases, both-true}
 use Rattle.node.specs.Sums.{Field, allSent, allTaken}
 use Rattle.node.specs.Agree.{firstClauses, mayName}
@@ -17,10 +18,12 @@ use Rattle.node.proofs.Clauses.{first-good}
 use Rattle.survey.specs.Verdict.{isAgreed}
 use Rattle.survey.specs.declared.Verdict.the-variants.{Agrees, Fails}
 use Rattle.survey.proofs.Clauses.{first-3, first-4}
+use Rattle.layout.specs.Places.{sumIssued, sumReceived}
 use Rattle.layout.specs.Held.{word, firstFrom, sumOf}
 use Rattle.layout.proofs.Offsets.{most-words}
-use Rattle.pass_one.specs.Tried.{isFitting, Added}
-use Rattle.pass_one.specs.Pieces.{FirstAt, Opened, Judged, lastVerdict}
+use Rattle.walk_tests.specs.Tests.{firstFits, lastVerdict}
+use Rattle.pass_one.specs.Tried.{Added}
+use Rattle.pass_one.specs.Pieces.{FirstAt, Opened, Judged}
 use Rattle.pass_one.proofs.Adding.{Within}
 
 -- a clause that fails is no agreement
@@ -28,16 +31,16 @@ pub no-agreement : (c : ℕ) → Fails c ≡ Agrees → ⊥
 no-agreement c e = clash (sym (ap isAgreed e))
 
 -- what the tests of the lengths say
-pub fitting-known : (p k at : ℕ) (ws sums : List ℕ) → isFitting p k at (length ws) (length sums) ≡ true
+pub fitting-known : (p k at : ℕ) (ws sums : List ℕ) → firstFits p k at (length ws) (length sums) ≡ true
     → FirstAt ws sums p k at
 fitting-known p k at ws sums e =
     let a = both-true (ltb k p) _ e in
-    let b = both-true (leb p 8) _ (a .1) in
+    let b = both-true (leb p width) _ (a .1) in
     let c = both-true (leb at _) _ (b .1) in
     let d = both-true (leb _ (length ws)) (leb _ (length sums)) (c .1) in
     record {
       low = ltb-true k p (a .0);
-      few = leb-true p 8 (b .0);
+      few = leb-true p width (b .0);
       near = omega (arith, leb-true at _ (c .0), most-words);
       long = leb-true _ (length ws) (d .0);
       wide = leb-true _ (length sums) (d .1);
@@ -57,52 +60,55 @@ module _ (L : Limits) (ws before : List ℕ) (p k at limit : ℕ) (h : FirstAt w
   abbrev x : Stored
   x = firstFrom ws p k at
 
-  pub over : (Within ws before p k at limit (h .low) (h .few) → ⊥) → (after : List ℕ) → length after ≡ length before
+  pub over : (Within ws before p k at limit → ⊥) → (after : List ℕ) → length after ≡ length before
       → Judged L p k x before after (Fails 3)
   over none = fails L p k x before 3 (first-3 L p k (sumOf p before) x (o .stored) (λ w. none (λ f g. rw e (w f g))))
 
-  module _ (w : Within ws before p k at limit (h .low) (h .few)) (after : List ℕ) (add : Added p k x before after)
+  module _ (w : Within ws before p k at limit) (after : List ℕ) (add : Added p k x before after)
       (l : length after ≡ length before) where
-    pub ended : Judged L p k x before after (lastVerdict p k after)
-    ended =
-        cases (Judged L p k x before after)
-        (both (eqb (suc k) p) (not (eqb (word after (2 * p)) (word after (2 * p + 1))))) (Fails 4) Agrees apart agree
+    -- the totals with the frame's
+    abbrev issued : ℕ
+    issued = word after (sumIssued p)
+
+    abbrev received : ℕ
+    received = word after (sumReceived p)
+
+    apart : both (eqb (suc k) p) (not (eqb issued received)) ≡ true → Judged L p k x before after (Fails 4)
+    apart q =
+        let t = both-true (eqb (suc k) p) (not (eqb issued received)) q in
+        fails L p k x before 4
+        (first-4 L p k (sumOf p before) x (o .stored) (eqb-true (suc k) p (t .0))
+        (λ z.
+        clash
+        (sym (eq-eqb issued received (add allSent tt ∙ z ∙ sym (add allTaken tt)))
+        ∙ not-true _ (t .1))))
+        after l
+
+    -- in the last dimension the totals are the same
+    same : both (eqb (suc k) p) (not (eqb issued received)) ≡ false → suc k ≡ p → issued ≡ received
+    same q z = go (eqb issued received) refl
       where
-        apart : both (eqb (suc k) p) (not (eqb (word after (2 * p)) (word after (2 * p + 1)))) ≡ true
-            → Judged L p k x before after (Fails 4)
-        apart q =
-            let t = both-true (eqb (suc k) p) (not (eqb (word after (2 * p)) (word after (2 * p + 1)))) q in
-            fails L p k x before 4
-            (first-4 L p k (sumOf p before) x (o .stored) (eqb-true (suc k) p (t .0))
-            (λ z.
-            clash
-            (sym (eq-eqb (word after (2 * p)) (word after (2 * p + 1)) (add allSent tt ∙ z ∙ sym (add allTaken tt)))
-            ∙ not-true _ (t .1))))
-            after l
+        go : (t : Bool) → eqb issued received ≡ t → issued ≡ received
+        go true r = eqb-true _ _ r
+        go false r = clash (rw (eq-eqb (suc k) p z, r) at q)
 
-        -- in the last dimension the totals are the same
-        same : both (eqb (suc k) p) (not (eqb (word after (2 * p)) (word after (2 * p + 1)))) ≡ false → suc k ≡ p
-            → word after (2 * p) ≡ word after (2 * p + 1)
-        same q z = go (eqb (word after (2 * p)) (word after (2 * p + 1))) refl
-          where
-            go : (t : Bool) → eqb (word after (2 * p)) (word after (2 * p + 1)) ≡ t
-                → word after (2 * p) ≡ word after (2 * p + 1)
-            go true r = eqb-true _ _ r
-            go false r = clash (rw (eq-eqb (suc k) p z, r) at q)
+    agree : both (eqb (suc k) p) (not (eqb issued received)) ≡ false → Judged L p k x before after Agrees
+    agree q =
+        record {
+          verdict =
+              first-good L p k (sumOf p before) x
+              (record {
+                stored = o .stored;
+                sent = o .sent;
+                taken = o .taken;
+                within = λ f g. rw (sym e) (w f g);
+                last = λ z. sym (add allSent tt) ∙ same q z ∙ add allTaken tt;
+              });
+          sums = λ r. add;
+          length = l;
+        }
 
-        agree : both (eqb (suc k) p) (not (eqb (word after (2 * p)) (word after (2 * p + 1)))) ≡ false
-            → Judged L p k x before after Agrees
-        agree q =
-            record {
-              verdict =
-                  first-good L p k (sumOf p before) x
-                  (record {
-                    stored = o .stored;
-                    sent = o .sent;
-                    taken = o .taken;
-                    within = λ f g. rw (sym e) (w f g);
-                    last = λ z. sym (add allSent tt) ∙ same q z ∙ add allTaken tt;
-                  });
-              sums = λ r. add;
-              length = l;
-            }
+    pub ended : Judged L p k x before after (lastVerdict (eqb (k + 1) p) issued received)
+    ended =
+        rw (add-one k)
+        (cases (Judged L p k x before after) (both (eqb (suc k) p) (not (eqb issued received))) (Fails 4) Agrees apart agree)

@@ -1,2 +1,3 @@
+mod Pairs
 pub mod Adding
 pub mod Judging

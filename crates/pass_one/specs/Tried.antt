@@ -3,27 +3,19 @@ use mathlib.Core.Path.{_≡_}
 use mathlib.Core.Bool.{Bool, false}
 use mathlib.Core.List.{List, [], _∷_}
 use Prim.Native.Nat.{ℕ, suc, _+_}
-use lib.Dec.{ltb, leb}
 use lib.ListN.{length}
-use Rattle.base.specs.Choice.{choose, both}
-use Rattle.base.specs.Limits.{Limits, width}
+use Rattle.base.specs.Choice.{choose}
+use Rattle.base.specs.Limits.{Limits}
 use Rattle.node.specs.Sums.{Field, Has, number}
 use Rattle.node.specs.Agree.{firstClauses}
 use Rattle.node.specs.declared.Stored.{Stored}
-use Rattle.layout.specs.Places.{firstWords, stateWords, sumWords}
 use Rattle.layout.specs.Held.{firstFrom, sumOf}
+use Rattle.walk_tests.specs.Tests.{firstFits}
 
--- so many words have a frame of dimension k on a board of p dimensions at a place, which is one of a state, and so many its
--- sums
-abbrev pub isFitting : ℕ → ℕ → ℕ → ℕ → ℕ → Bool
-isFitting p k at words room =
-    both (ltb k p)
-    (both (leb p width) (both (leb at (stateWords width)) (both (leb (at + firstWords p k) words) (leb (sumWords p) room))))
-
--- where there is no such frame, none is stored
+-- where the words have no such frame, none is stored
 abbrev pub firstTried : Limits → List ℕ → List ℕ → ℕ → ℕ → ℕ → List Bool
 firstTried L ws sums p k at =
-    choose (isFitting p k at (length ws) (length sums)) (firstClauses L p k (sumOf p sums) (firstFrom ws p k at)) (false ∷ [])
+    choose (firstFits p k at (length ws) (length sums)) (firstClauses L p k (sumOf p sums) (firstFrom ws p k at)) (false ∷ [])
 
 -- the sums with the numbers of a frame of dimension k: those that the next dimension has
 abbrev pub Added : ℕ → ℕ → Stored → List ℕ → List ℕ → Type 0

@@ -2,54 +2,71 @@
 // they are tested, so that each is read once.
 ghost use mathlib.Core.Path.{_≡_};
 ghost use mathlib.Core.Bool.{true};
-ghost use Prim.Native.Nat.{_+_, _*_, _≤_, _<_};
+ghost use Prim.Native.Nat.{_<_};
 ghost use lib.ListN.{length};
+ghost use Rattle.base.specs.Choice.{choose};
 ghost use Rattle.base.specs.Limits.{limitsOf};
 ghost use Rattle.survey.specs.Verdict.{isVerdict};
 ghost use Rattle.layout.specs.Held.{firstFrom, sumOf};
-ghost use Rattle.pass_one.specs.Tried.{isFitting, firstTried, Added};
-ghost use Rattle.pass_one.specs.Pieces.{FirstAt, Opened, AddedRun, Judged, lastVerdict};
+ghost use Rattle.pass_one.specs.Tried.{firstTried, Added};
+ghost use Rattle.pass_one.specs.Pieces.{FirstAt, Opened, pairFits, pairAdded, AddedShells, Judged};
 use base::Bounds;
 use frame::Sent;
 use frame::Taken;
 use survey::Verdict;
 
-// Adds a run of numbers to a run of sums, up to the first sum that would come above the limit. Whether there is none.
-fn add_run(sums: &mut [u32], to: u32, s: &[u32], from: u32, count: u32, limit: u32) -> bool
-    requires { ⌜ (to + count ≤ length (now sums))
-        × (to + count ≤ 200)
-        × (from + count ≤ length (now s))
-        × (from + count ≤ 200) ⌝ }
-    ensures { λ r. ⌜ AddedRun (now (sums .exit)) (now (sums .entry)) (now (s .entry)) to from count limit r ⌝ }
+// The places of a number sent and of a number taken.
+pub struct Pair {
+    pub sent: u32,
+    pub taken: u32,
+}
+
+// Adds a number sent and a number taken of a frame to the own sums, where neither sum comes above the limit.
+fn add_pair(sums: &mut [u32], to: Pair, s: &[u32], from: Pair, limit: u32) -> bool
+    requires { ⌜ (to .sent < to .taken)
+        × (to .taken < length (now sums))
+        × (from .sent < length (now s))
+        × (from .taken < length (now s)) ⌝ }
+    ensures { λ r.
+        ⌜ (r ≡ pairFits (now (sums .entry)) to (now (s .entry)) from limit)
+        × (now (sums .exit) ≡ choose r (pairAdded (now (sums .entry)) to (now (s .entry)) from) (now (sums .entry))) ⌝ }
 {
-    for i in 0..count {
-        let own = sums[(to + i) as usize];
-        let x = s[(from + i) as usize];
-        if limit < own {
-            return false;
-        }
-        if limit - own < x {
-            return false;
-        }
-        sums[(to + i) as usize] = own + x;
+    let own_sent = Sent(sums[to.sent as usize]);
+    let sent = Sent(s[from.sent as usize]);
+    if !walk_tests::sent_fits(own_sent, sent, limit) {
+        return false;
     }
+    let own_taken = Taken(sums[to.taken as usize]);
+    let taken = Taken(s[from.taken as usize]);
+    if !walk_tests::taken_fits(own_taken, taken, limit) {
+        return false;
+    }
+    sums[to.sent as usize] = own_sent.0 + sent.0;
+    sums[to.taken as usize] = own_taken.0 + taken.0;
     true
 }
 
-// Clause 4: in the last dimension total sent is total taken, the frame's being added to both.
-fn totals_verdict(sums: &[u32], p: u32, k: u32) -> Verdict
-    requires { ⌜ (k < p) × (p ≤ 8) × (2 * p + 2 ≤ length (now sums)) ⌝ }
-    ensures { λ r. ⌜ r ≡ lastVerdict p k (now (sums .entry)) ⌝ }
+// The numbers of the shells above k. Whether no sum comes above the limit.
+fn add_shells(sums: &mut [u32], s: &[u32], p: u32, k: u32, at: u32, limit: u32) -> bool
+    requires { ⌜ FirstAt (now s) (now sums) p k at ⌝ }
+    ensures { λ r.
+        ⌜ AddedShells p k (firstFrom (now (s .entry)) p k at) limit (now (sums .entry)) (now (sums .exit)) r ⌝ }
 {
-    if k + 1 != p {
-        return Verdict::Agrees;
+    let shells = at + layout::MARK;
+    for m in k + 1..p {
+        let to = Pair {
+            sent: m,
+            taken: p + m,
+        };
+        let from = Pair {
+            sent: shells + (m - k),
+            taken: shells + (p - k) + (m - k),
+        };
+        if !add_pair(&mut *sums, to, s, from, limit) {
+            return false;
+        }
     }
-    let issued = Sent(sums[(2 * p) as usize]);
-    let received = Taken(sums[(2 * p + 1) as usize]);
-    if issued.0 != received.0 {
-        return Verdict::Fails(4);
-    }
-    Verdict::Agrees
+    true
 }
 
 // Clauses 3 and 4, where those before them hold: the shells above k and the totals.
@@ -59,22 +76,24 @@ fn add_frame(b: Bounds, s: &[u32], sums: &mut [u32], p: u32, k: u32, at: u32) ->
         ⌜ Judged (limitsOf b) p k (firstFrom (now (s .entry)) p k at) (now (sums .entry)) (now (sums .exit)) r ⌝ }
 {
     let limit = base::field_limit(b);
-    let n = p - k;
-    let shells = at + layout::MARK + 1;
-    if !add_run(&mut *sums, k + 1, s, shells, n - 1, limit) {
+    if !add_shells(&mut *sums, s, p, k, at, limit) {
         return Verdict::Fails(3);
     }
-    if !add_run(
-        &mut *sums,
-        p + k + 1,
-        s,
-        shells + n,
-        n - 1 + layout::TOTALS,
-        limit,
-    ) {
+    let to = Pair {
+        sent: 2 * p,
+        taken: 2 * p + 1,
+    };
+    let totals = at + layout::MARK + 2 * (p - k);
+    let from = Pair {
+        sent: totals,
+        taken: totals + 1,
+    };
+    if !add_pair(&mut *sums, to, s, from, limit) {
         return Verdict::Fails(3);
     }
-    totals_verdict(&*sums, p, k)
+    let issued = Sent(sums[(2 * p) as usize]);
+    let received = Taken(sums[(2 * p + 1) as usize]);
+    walk_tests::last_verdict(k + 1 == p, issued, received)
 }
 
 // The clauses of dimension k, whose words begin at a place.
@@ -99,25 +118,6 @@ fn tried(b: Bounds, s: &[u32], sums: &mut [u32], p: u32, k: u32, at: u32) -> Ver
     add_frame(b, s, &mut *sums, p, k, at)
 }
 
-// Whether so many words have a frame of dimension k on a board of p dimensions at a place, and so many its sums.
-fn is_fitting(p: u32, k: u32, at: u32, words: usize, room: usize) -> bool
-    ensures { λ r. ⌜ r ≡ isFitting p k at words room ⌝ }
-{
-    if p <= k {
-        return false;
-    }
-    if layout::SHELLS < p {
-        return false;
-    }
-    if layout::MOST < at {
-        return false;
-    }
-    if words < (at + layout::MARK + (2 * (p - k) + layout::TOTALS)) as usize {
-        return false;
-    }
-    (2 * p + layout::TOTALS) as usize <= room
-}
-
 // The verdict on dimension k on a board of p dimensions, whose words begin at a place. Where it agrees, the numbers of the
 // frame are added to the sums.
 pub fn verdict(b: Bounds, s: &[u32], sums: &mut [u32], p: u32, k: u32, at: u32) -> Verdict
@@ -127,7 +127,7 @@ pub fn verdict(b: Bounds, s: &[u32], sums: &mut [u32], p: u32, k: u32, at: u32) 
         ⌜ (r ≡ Verdict.Agrees → Added p k (firstFrom (now (s .entry)) p k at) (now (sums .entry)) (now (sums .exit)))
         × (length (now (sums .exit)) ≡ length (now (sums .entry))) ⌝ }
 {
-    if !is_fitting(p, k, at, s.len(), sums.len()) {
+    if !walk_tests::first_fits(p, k, at, s.len(), sums.len()) {
         return Verdict::Fails(0);
     }
     tried(b, s, &mut *sums, p, k, at)

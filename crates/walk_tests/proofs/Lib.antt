@@ -1,1 +1,2 @@
 pub mod Agreed
+mod Within

@@ -1,11 +1,12 @@
 // Small tests of the walk over the stored frames of a state.
 ghost use mathlib.Core.Path.{_≡_};
 ghost use mathlib.Core.Bool.{not};
-ghost use Prim.Native.Nat.{ℕ};
+ghost use Prim.Native.Nat.{ℕ, _+_};
 ghost use lib.Dec.{ltb, leb, eqb};
 ghost use Rattle.base.specs.Choice.{choose, both};
 ghost use Rattle.survey.specs.Verdict.{isAgreed};
-ghost use Rattle.walk_tests.specs.Tests.{totalTested};
+ghost use Rattle.walk_tests.specs.Tests.{totalTested, firstFits, lastVerdict};
+use frame::Sent;
 use frame::Taken;
 use survey::Verdict;
 
@@ -67,4 +68,58 @@ pub fn total_ok(pass: u8, agreed: u32, received: Taken) -> bool
         return agreed == 0;
     }
     agreed == received.0
+}
+
+// ---- A step that is tried
+
+// A sum of numbers sent is within a limit.
+pub fn sent_fits(sent: Sent, more: Sent, limit: u32) -> bool
+    ensures { λ r. ⌜ r ≡ leb (sent .0 + more .0) limit ⌝ }
+{
+    if limit < sent.0 {
+        return false;
+    }
+    more.0 <= limit - sent.0
+}
+
+// A sum of numbers taken is within a limit.
+pub fn taken_fits(taken: Taken, more: Taken, limit: u32) -> bool
+    ensures { λ r. ⌜ r ≡ leb (taken .0 + more .0) limit ⌝ }
+{
+    if limit < taken.0 {
+        return false;
+    }
+    more.0 <= limit - taken.0
+}
+
+// So many words have a pass 1 frame of dimension k on a board of p dimensions at a place, and so many its sums.
+pub fn first_fits(p: u32, k: u32, at: u32, words: usize, room: usize) -> bool
+    ensures { λ r. ⌜ r ≡ firstFits p k at words room ⌝ }
+{
+    if p <= k {
+        return false;
+    }
+    if layout::SHELLS < p {
+        return false;
+    }
+    if layout::MOST < at {
+        return false;
+    }
+    if words < (at + layout::MARK + (2 * (p - k) + layout::TOTALS)) as usize {
+        return false;
+    }
+    (2 * p + layout::TOTALS) as usize <= room
+}
+
+// Clause 4: in the last dimension total sent is total taken, the frame's being added to both.
+pub fn last_verdict(last: bool, issued: Sent, received: Taken) -> Verdict
+    ensures { λ r. ⌜ r ≡ lastVerdict last (issued .0) (received .0) ⌝ }
+{
+    if !last {
+        return Verdict::Agrees;
+    }
+    if issued.0 != received.0 {
+        return Verdict::Fails(4);
+    }
+    Verdict::Agrees
 }

@@ -2,7 +2,8 @@
 use borrow.Author.Needs.{needs}
 use borrow.Author.Tests.{eq-eqb, ne-eqb}
 use denote.Ref.{now}
-use mathlib.Core.Path.{_≡_, refl, sym, _∙_}
+use native.Mathlib.Omega.{arith}
+use mathlib.Core.Path.{_≡_, refl, sym, ap, _∙_}
 use mathlib.Core.Bool.{true}
 use mathlib.Core.List.{List}
 use Prim.Native.Nat.{ℕ, _+_, _-_}
@@ -12,9 +13,10 @@ use Rattle.node.specs.Agree.{firstClauses, mayName}
 use Rattle.node.specs.declared.Stored.{Stored}
 use Rattle.survey.specs.declared.Verdict.the-variants.{Fails}
 use Rattle.survey.proofs.Clauses.{first-0, first-1, first-2}
+use Rattle.layout.specs.Places.{markWords, sentPlace, takenPlace}
 use Rattle.layout.specs.Held.{word, firstFrom, sumOf}
+use Rattle.layout.proofs.Reading.{number-sent, number-taken}
 use Rattle.pass_one.specs.Pieces.{Judged}
-use Rattle.pass_one.proofs.Adding.{sent-first, taken-first}
 use Rattle.pass_one.proofs.Judging.{fails}
 use Rattle.pass_one.proofs.tried.Statement.{statement}
 use Rattle.pass_one.proofs.tried.Tie as tie
@@ -39,14 +41,22 @@ module _ (s : tie.Start) where
   abbrev own : Field → ℕ
   own = sumOf p before
 
+  abbrev at : ℕ
+  at = s .args .at
+
   abbrev frame : Stored
-  frame = firstFrom ws p k (s .args .at)
+  frame = firstFrom ws p k at
 
-  sent : number frame (sentIn k) ≡ word ws (s .args .at + 1)
-  sent = sent-first ws before p k (s .args .at) 0 (s .pre .low) (s .pre .few)
+  -- the tallies of shell k are the first of their kind
+  sent : number frame (sentIn k) ≡ word ws (at + markWords)
+  sent =
+      let z : sentPlace at k k ≡ at + markWords = omega arith in
+      number-sent ws p k at k (omega arith) (s .pre .low) (omega (arith, s .pre .low, s .pre .few)) ∙ ap (word ws) z
 
-  taken : number frame (takenIn k) ≡ word ws (s .args .at + 1 + (p - k))
-  taken = taken-first ws before p k (s .args .at) 0 (s .pre .low) (s .pre .few)
+  taken : number frame (takenIn k) ≡ word ws (at + markWords + (p - k))
+  taken =
+      let z : takenPlace p at k k ≡ at + markWords + (p - k) = omega arith in
+      number-taken ws p k at k (omega arith) (s .pre .low) (omega (arith, s .pre .low, s .pre .few)) ∙ ap (word ws) z
 
   stops : (c : ℕ) → mayName (firstClauses L p k own frame) c ≡ true → Judged L p k frame before before (Fails c)
   stops c m = fails L p k frame before c m before refl

@@ -10,7 +10,7 @@ use Rattle.base.specs.Choice.{choose}
 use Rattle.base.proofs.Laws.{choose-yes}
 use Rattle.node.specs.Agree.{mayName}
 use Rattle.survey.specs.Verdict.{isVerdict}
-use Rattle.pass_one.specs.Tried.{isFitting}
+use Rattle.walk_tests.specs.Tests.{firstFits}
 use Rattle.pass_one.proofs.Judging.{no-agreement, fitting-known}
 use Rattle.pass_one.proofs.verdict.Statement.{statement}
 use Rattle.pass_one.proofs.verdict.Tie as tie
@@ -22,14 +22,14 @@ none-tried t cs e = rw e
 
 returns : tie.Need-returns
 returns c =
-    let f = c .before .is-fitting in
+    let f = c .before .first-fits in
     (none-tried _ _ (sym (f .ensures) ∙ not-true (f .result) (c .if1 .taken)), ((λ q. absurd (no-agreement 0 q)), refl))
 
 -- there is a place
 fits : (e : tie.Else1)
     → let a = e .before .before .before .before .args in
-    isFitting (a .p) (a .k) (a .at) (length (now (a .s))) (length (now (a .sums))) ≡ true
-fits e = let f = e .before .is-fitting in sym (f .ensures) ∙ not-false (f .result) (e .if1 .left)
+    firstFits (a .p) (a .k) (a .at) (length (now (a .s))) (length (now (a .sums))) ≡ true
+fits e = let f = e .before .first-fits in sym (f .ensures) ∙ not-false (f .result) (e .if1 .left)
 
 tried-requires : tie.Need-tried-requires
 tried-requires c κs =

@@ -1,12 +1,12 @@
--- `is_fitting`: the tests joined.
+-- `first_fits`: the tests joined.
 use borrow.Author.Needs.{needs}
 use borrow.Author.Tests.{lt-ltb, le-ltb, le-leb, lt-leb}
 use mathlib.Core.Path.{_≡_, sym}
 use native.Mathlib.Omega.{arith}
 use Prim.Native.Nat.{_+_, _-_, _*_}
 use Rattle.layout.proofs.Offsets.{most-words}
-use Rattle.pass_one.proofs.is_fitting.Statement.{statement}
-use Rattle.pass_one.proofs.is_fitting.Tie as tie
+use Rattle.walk_tests.proofs.first_fits.Statement.{statement}
+use Rattle.walk_tests.proofs.first_fits.Tie as tie
 
 returns : tie.Need-returns
 returns c = rw (le-ltb _ _ (c .if1 .taken))
@@ -51,8 +51,8 @@ returns-5 c =
       le-leb _ _ (c .if4 .left),
     )
 
-pub is-fitting-spec : {M : Type 1} → statement M
-is-fitting-spec =
+pub first-fits-spec : {M : Type 1} → statement M
+first-fits-spec =
     tie.close
     (tie.spec returns returns-2 returns-3 (λ c. search needs) (λ c. search needs) (λ c. search needs)
     (λ c. search needs) (λ c. search needs) (λ c. search needs) returns-4 (λ c. search needs) (λ c. search needs)
