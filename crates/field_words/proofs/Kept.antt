@@ -9,7 +9,7 @@ use Rattle.base.specs.Limits.{width}
 use Rattle.base.proofs.Laws.{list-whole}
 use Rattle.frame.specs.Frame.{sentNumber, takenNumber}
 use Rattle.frame.specs.declared.Frame.{Frame}
-use Rattle.field_words.specs.Words.{fieldWords, frameFrom}
+use Rattle.field_words.specs.Words.{fieldsEnd, fieldWords, frameFrom}
 
 listed : {A : Type 0} (l : List A) (d : A) (n : ℕ) → length l ≡ n → list 0 n (λ m. getD l m d) ≡ l
 listed l d n e = list-whole l d 0 n (λ m. getD l m d) e (λ i b. ap (λ j. getD l j d) (zero-add i))
@@ -30,6 +30,6 @@ frame-back f s t =
       agreed = f .agreed;
     }
 
-pub words-back : (ws : List ℕ) → length ws ≡ 23 → fieldWords (frameFrom ws) ≡ ws
+pub words-back : (ws : List ℕ) → length ws ≡ fieldsEnd → fieldWords (frameFrom ws) ≡ ws
 unfolding frameFrom fieldWords
-words-back ws e = listed ws 0 23 e
+words-back ws e = listed ws 0 fieldsEnd e

@@ -41,6 +41,10 @@ atSent m = 7 + m
 abbrev pub atTaken : ℕ → ℕ
 atTaken m = 15 + m
 
+-- one after the last, and so how many words there are
+abbrev pub fieldsEnd : ℕ
+fieldsEnd = atTaken width
+
 -- ---- Fields and words
 
 abbrev pub scalarWords : Frame → List ℕ

@@ -53,7 +53,7 @@ fn has_tallies(p: u32, pass: u32, k: u32, m: u32) -> bool
 
 // The tallies of a shell are within the limit, and 0 where the frame does not have them.
 fn shell_low(limit: u32, p: u32, fields: &[u32; 23], m: usize) -> bool
-    requires { ⌜ m < 8 ⌝ }
+    requires { ⌜ m < width ⌝ }
     ensures { λ r. ⌜ r ≡ shellLow limit p (now (fields .entry)) m ⌝ }
 {
     let has = has_tallies(p, fields[PASS], fields[DIM], m as u32);

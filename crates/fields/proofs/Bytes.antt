@@ -9,7 +9,7 @@ use native.Mathlib.Omega.{arith}
 use lib.ListN.{length, getD, length-append}
 use borrow.Author.Tests.{le-leb, lt-leb, lt-ltb, le-ltb, eq-eqb, ne-eqb}
 use Rattle.base.specs.Choice.{list}
-use Rattle.base.specs.Limits.{Limits}
+use Rattle.base.specs.Limits.{Limits, width}
 use Rattle.base.specs.Refusal.{Answered, refused, found}
 use Rattle.base.proofs.Laws.{choose-yes, choose-no}
 use Rattle.tree.specs.Tree.{dimension}
@@ -24,14 +24,14 @@ use Rattle.frame.proofs.Answers.{write-step, write-numbers, write-stranger, wri
 use Rattle.wire.specs.Wire.{part}
 use Rattle.wire.proofs.Putting.{length-pieces, whole-put, length-part, part-is}
 use Rattle.field_words.specs.Words.{atPass, atPhase, atDim, atSender, atIssued, atReceived, atAgreed, atSent, atTaken}
-use Rattle.field_words.specs.Words.{frameFrom}
+use Rattle.field_words.specs.Words.{fieldsEnd, frameFrom}
 use Rattle.fields.specs.Fields.{writeOn, writtenOn}
 use Rattle.fields.specs.Pieces.{between, headWith, firstNumbers, secondNumbers, bytesWith, bytesFrom, putAnswer}
 use Rattle.field_words.proofs.Numbers.{sent-held, taken-held}
 
 -- ---- the bytes
 
-module _ (p : ℕ) (ws : List ℕ) (count : length ws ≡ 23) where
+module _ (p : ℕ) (ws : List ℕ) (count : length ws ≡ fieldsEnd) where
   abbrev k : ℕ
   k = getD ws atDim 0
 
@@ -39,27 +39,27 @@ module _ (p : ℕ) (ws : List ℕ) (count : length ws ≡ 23) where
   f = frameFrom ws
 
   -- words from a place on
-  words : (at n : ℕ) → at + n ≤ 23 → part ws at n ≡ list at n (λ i. getD ws i 0)
+  words : (at n : ℕ) → at + n ≤ fieldsEnd → part ws at n ≡ list at n (λ i. getD ws i 0)
   words at n h = part-is ws at n at (λ i. getD ws i 0) (omega (arith, count)) (λ i b. refl)
 
   -- the tallies of shells k to p − 1
-  module _ (few : p ≤ 8) (below : k ≤ p) where
+  module _ (few : p ≤ width) (below : k ≤ p) where
     sents : between ws (atSent k) (atSent p) ≡ list k (p - k) (sentAt (f .sent))
     sents =
-        let n : 7 + p - (7 + k) ≡ p - k = omega arith in
+        let n : atSent p - atSent k ≡ p - k = omega arith in
         rw n
         (part-is ws (atSent k) (p - k) k (sentAt (f .sent)) (omega (arith, count))
         (λ i b.
-        let z : 7 + k + i ≡ 7 + (k + i) = omega arith in
+        let z : atSent k + i ≡ atSent (k + i) = omega arith in
         ap (λ j. getD ws j 0) z ∙ sym (sent-held ws (k + i) (omega arith))))
 
     takens : between ws (atTaken k) (atTaken p) ≡ list k (p - k) (takenAt (f .taken))
     takens =
-        let n : 15 + p - (15 + k) ≡ p - k = omega arith in
+        let n : atTaken p - atTaken k ≡ p - k = omega arith in
         rw n
         (part-is ws (atTaken k) (p - k) k (takenAt (f .taken)) (omega (arith, count))
         (λ i b.
-        let z : 15 + k + i ≡ 15 + (k + i) = omega arith in
+        let z : atTaken k + i ≡ atTaken (k + i) = omega arith in
         ap (λ j. getD ws j 0) z ∙ sym (taken-held ws (k + i) (omega arith))))
 
     first-held : getD ws atPass 0 ≡ 1 → bytesWith 1 ws (firstNumbers p ws) ≡ frameBytes p f
@@ -79,7 +79,7 @@ module _ (p : ℕ) (ws : List ℕ) (count : length ws ≡ 23) where
       ∙ sym (second-row p f (λ q. omega arith)) in
       (λ i. sym two i ∷ getD ws atPhase 0 ∷ k ∷ getD ws atSender 0 ∷ bytesOf (row i))
 
-  pub bytes-held : p ≤ 8 → badStep p (getD ws atPass 0) k ≡ false → bytesFrom p ws ≡ frameBytes p f
+  pub bytes-held : p ≤ width → badStep p (getD ws atPass 0) k ≡ false → bytesFrom p ws ≡ frameBytes p f
   bytes-held few s = let q = step-known p (getD ws atPass 0) k s in go (q .0) (q .1)
     where
       go : (getD ws atPass 0 ≡ 1) ⊎ (getD ws atPass 0 ≡ 2) → k < p → bytesFrom p ws ≡ frameBytes p f
@@ -115,11 +115,11 @@ module _ (ws buf : List ℕ) (pass : ℕ) (xs : List ℕ) where
       (ap found m ∙ sym a, f ∙ whole-put buf head refl xs ∙ sym (ap (over frame buf) a))
 
 -- how many numbers there are
-module _ (ws : List ℕ) (count : length ws ≡ 23) where
-  pub length-between : (from end : ℕ) → from ≤ end → end ≤ 23 → length (between ws from end) ≡ end - from
+module _ (ws : List ℕ) (count : length ws ≡ fieldsEnd) where
+  pub length-between : (from end : ℕ) → from ≤ end → end ≤ fieldsEnd → length (between ws from end) ≡ end - from
   length-between from end h l = length-part ws from (end - from) (omega (arith, count))
 
-  pub length-first : (p : ℕ) → getD ws atDim 0 ≤ p → p ≤ 8
+  pub length-first : (p : ℕ) → getD ws atDim 0 ≤ p → p ≤ width
       → length (firstNumbers p ws) ≡ 2 * (p - getD ws atDim 0) + 2
   length-first p h few =
       let k : ℕ = getD ws atDim 0 in
@@ -204,7 +204,7 @@ module _ (L : Limits) (P : ℕ) (ws buf : List ℕ) where
                     ∙ ap found count
                     ∙ sym (write-found L P (frameFrom ws) room p g e s n h (omega (arith, count)))
 
-            pub wrote-frame : (a : Answered ℕ) (after : List ℕ) → length ws ≡ 23 → p ≤ 8
+            pub wrote-frame : (a : Answered ℕ) (after : List ℕ) → length ws ≡ fieldsEnd → p ≤ width
                 → a ≡ putAnswer (bytesFrom p ws) room
                 → after ≡ over (bytesFrom p ws) buf (putAnswer (bytesFrom p ws) room)
                 → Wrote L P ws buf a after

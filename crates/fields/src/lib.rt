@@ -4,11 +4,11 @@
 ghost use mathlib.Core.Path.{_≡_};
 ghost use Prim.Native.Nat.{_≤_, _<_};
 ghost use lib.ListN.{length, getD};
-ghost use Rattle.base.specs.Limits.{limitsOf};
+ghost use Rattle.base.specs.Limits.{limitsOf, width};
 ghost use Rattle.tree.specs.Lookups.{foundAnswer};
 ghost use Rattle.frame.specs.Frame.{over};
 ghost use Rattle.wire.specs.Wire.{putAt, putNumbers};
-ghost use Rattle.field_words.specs.Words.{atPhase, atDim, atSender};
+ghost use Rattle.field_words.specs.Words.{atPhase, atDim, atSender, fieldsEnd};
 ghost use Rattle.fields.specs.Fields.{writeOn, writtenOn};
 ghost use Rattle.fields.specs.Pieces.{between, headWith, firstNumbers, secondNumbers, bytesWith, bytesFrom, putAnswer};
 use base::Bounds;
@@ -25,8 +25,8 @@ use tree::Found;
 
 // Puts the head, of a pass.
 fn put_head(pass: u8, fields: &[u32], buf: &mut [u8])
-    requires { ⌜ (length (now fields) ≡ 23)
-        × (getD (now fields) atDim 0 ≤ 8)
+    requires { ⌜ (length (now fields) ≡ fieldsEnd)
+        × (getD (now fields) atDim 0 ≤ width)
         × (getD (now fields) atPhase 0 < 256)
         × (getD (now fields) atSender 0 < 256) ⌝ }
     ensures { λ r. ⌜ now (buf .exit) ≡ putAt (now (buf .entry)) 0 (headWith pass (now (fields .entry))) ⌝ }
@@ -50,9 +50,9 @@ fn put_between(fields: &[u32], from: usize, end: usize, buf: &mut [u8], at: u32)
 
 // Puts a frame of pass 1, where there is room.
 fn put_first(p: u32, fields: &[u32], buf: &mut [u8]) -> Found
-    requires { ⌜ (length (now fields) ≡ 23)
+    requires { ⌜ (length (now fields) ≡ fieldsEnd)
         × (getD (now fields) atDim 0 ≤ p)
-        × (p ≤ 8)
+        × (p ≤ width)
         × (getD (now fields) atPhase 0 < 256)
         × (getD (now fields) atSender 0 < 256) ⌝ }
     ensures answer { λ r.
@@ -82,8 +82,8 @@ fn put_first(p: u32, fields: &[u32], buf: &mut [u8]) -> Found
 
 // Puts a frame of pass 2, where there is room.
 fn put_second(fields: &[u32], buf: &mut [u8]) -> Found
-    requires { ⌜ (length (now fields) ≡ 23)
-        × (getD (now fields) atDim 0 ≤ 8)
+    requires { ⌜ (length (now fields) ≡ fieldsEnd)
+        × (getD (now fields) atDim 0 ≤ width)
         × (getD (now fields) atPhase 0 < 256)
         × (getD (now fields) atSender 0 < 256) ⌝ }
     ensures answer { λ r.
@@ -107,9 +107,9 @@ fn put_second(fields: &[u32], buf: &mut [u8]) -> Found
 
 // Puts a frame, by its pass.
 fn put_frame(p: u32, fields: &[u32], buf: &mut [u8]) -> Found
-    requires { ⌜ (length (now fields) ≡ 23)
+    requires { ⌜ (length (now fields) ≡ fieldsEnd)
         × (getD (now fields) atDim 0 ≤ p)
-        × (p ≤ 8)
+        × (p ≤ width)
         × (getD (now fields) atPhase 0 < 256)
         × (getD (now fields) atSender 0 < 256) ⌝ }
     ensures answer { λ r.

@@ -5,7 +5,7 @@ use mathlib.Core.List.{List}
 use Prim.Native.Nat.{ℕ, _-_, _≤_, _<_}
 use native.Mathlib.Omega.{arith}
 use lib.ListN.{length, getD}
-use Rattle.base.specs.Limits.{Limits, Fits}
+use Rattle.base.specs.Limits.{Limits, Fits, width}
 use Rattle.base.specs.Refusal.{Answered, found}
 use Rattle.tree.specs.Tree.{dimension}
 use Rattle.frame.specs.Frame.{frameLength, fieldsOf, readFrame, answerOf}
@@ -65,7 +65,7 @@ module _ (L : Limits) (P : ℕ) (bs : List ℕ) (good : answerOf (readFrame L P 
   pub frame-long : 12 ≤ length bs
   frame-long = sized pass .0
 
-  pub dims-low : Fits L → dimsBy bs ≤ 8
+  pub dims-low : Fits L → dimsBy bs ≤ width
   dims-low fit = omega (arith, sized pass .1, few L fit P p (read .accepted .board) refl)
 
   pub is-read : (ws after : List ℕ) → after ≡ fieldWords (fieldsOf (dimsBy bs) bs)

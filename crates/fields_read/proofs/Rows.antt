@@ -16,7 +16,7 @@ use Rattle.frame.proofs.Shells.{shell-there, shell-gone, shell-low, shell-high}
 use Rattle.wire.specs.Wire.{part}
 use Rattle.wire_read.specs.Read.{numbersFrom}
 use Rattle.wire_read.proofs.Copies.{part-copied}
-use Rattle.field_words.specs.Words.{fieldWords}
+use Rattle.field_words.specs.Words.{atIssued, atAgreed, atSent, atTaken, fieldsEnd, fieldWords}
 use Rattle.fields_read.specs.Pieces.{headWords}
 
 -- ---- values listed by a rule, in parts
@@ -48,12 +48,12 @@ none m = 0
 
 module _ (bs : List ℕ) (k n : ℕ) (room : k + n ≤ width) where
   abbrev after : ℕ
-  after = 8 - (k + n)
+  after = width - (k + n)
 
   -- the shells below those of the frame, its own, and those above
   row-cut : (f : ℕ → ℕ) → list 0 width f ≡ list 0 k f ++ (list k n f ++ list (k + n) after f)
   row-cut f =
-      let e : 8 ≡ k + (n + after) = omega arith in
+      let e : width ≡ k + (n + after) = omega arith in
       ap (λ c. list 0 c f) e
       ∙ list-cut 0 k (n + after) f
       ∙ ap (λ j. list 0 k f ++ list j (n + after) f) (zero-add k)
@@ -122,22 +122,30 @@ shell-after p k bs start m =
 -- ---- the words of a frame
 
 module _ (bs fs : List ℕ) (e : fs ≡ headWords bs) where
-  pub head-known : (length fs ≡ 23) × (part fs 7 8 ≡ list 0 width none)
+  pub head-known : (length fs ≡ fieldsEnd) × (part fs (atSent 0) width ≡ list 0 width none)
   head-known = rw e (refl, refl)
 
   -- pass 1: a row of tallies sent, one of tallies taken, both totals
   module _ (n : ℕ) (xs : List ℕ) (a : xs ≡ list 0 width (shellAt (getD bs 2 0 + n) (getD bs 2 0) bs 0)) where
-    pub row-known : (length (putMid 7 8 fs xs) ≡ 23) × (part (putMid 7 8 fs xs) 15 8 ≡ list 0 width none)
+    -- with the tallies sent
+    abbrev sents : List ℕ
+    sents = putMid (atSent 0) width fs xs
+
+    pub row-known : (length sents ≡ fieldsEnd) × (part sents (atTaken 0) width ≡ list 0 width none)
     row-known = rw (e, a) (refl, refl)
 
     module _ (ys : List ℕ)
         (b : ys ≡ list 0 width (shellAt (getD bs 2 0 + n) (getD bs 2 0) (rest bs (4 * n)) 0)) where
-      pub rows-known : length (putMid 15 8 (putMid 7 8 fs xs) ys) ≡ 23
+      -- and those taken
+      abbrev rows : List ℕ
+      rows = putMid (atTaken 0) width sents ys
+
+      pub rows-known : length rows ≡ fieldsEnd
       rows-known = rw (e, a, b)
 
       pub first-put : (zs : List ℕ) → 12 + 8 * n ≤ length bs
-          → zs ≡ numbersFrom (rest bs (8 * n)) (part (putMid 15 8 (putMid 7 8 fs xs) ys) 4 2)
-          → putMid 4 2 (putMid 15 8 (putMid 7 8 fs xs) ys) zs ≡ fieldWords (firstFields (getD bs 2 0 + n) bs)
+          → zs ≡ numbersFrom (rest bs (8 * n)) (part rows atIssued 2)
+          → putMid atIssued 2 rows zs ≡ fieldWords (firstFields (getD bs 2 0 + n) bs)
       unfolding fieldWords
       first-put zs h c =
           let k : ℕ = getD bs 2 0 in
@@ -146,26 +154,26 @@ module _ (bs fs : List ℕ) (e : fs ≡ headWords bs) where
           let u : ys ≡ list 0 width (shellAt (k + n) k bs n) =
           b ∙ list-same 0 width _ _ (λ m l r. shell-after (k + n) k bs n m) in
           let t : zs ≡ list 0 2 (numberAt (rest bs (8 * n))) =
-          part-copied (rest bs (8 * n)) (putMid 15 8 (putMid 7 8 fs xs) ys) zs 4 2 (omega (arith, rows-known))
+          part-copied (rest bs (8 * n)) rows zs atIssued 2 (omega (arith, rows-known))
           (rw (length-rest bs (8 * n)) (omega arith)) c in
           let v : zs ≡ numberAt bs (2 * n) ∷ numberAt bs (2 * n + 1) ∷ [] =
           t ∙ rw (z, number-after bs (2 * n) 0, number-after bs (2 * n) 1, add-zero (2 * n)) in
           rw (e, a, u, v, d)
 
   -- pass 2: T and total sent
-  module _ (long : 12 ≤ length bs) (xs : List ℕ) (a : xs ≡ numbersFrom bs (part fs 6 1)) where
+  module _ (long : 12 ≤ length bs) (xs : List ℕ) (a : xs ≡ numbersFrom bs (part fs atAgreed 1)) where
     agreed : xs ≡ list 0 1 (numberAt bs)
-    agreed = part-copied bs fs xs 6 1 (omega (arith, head-known .0)) (omega arith) a
+    agreed = part-copied bs fs xs atAgreed 1 (omega (arith, head-known .0)) (omega arith) a
 
-    pub agreed-known : length (putMid 6 1 fs xs) ≡ 23
+    pub agreed-known : length (putMid atAgreed 1 fs xs) ≡ fieldsEnd
     agreed-known = rw (e, agreed)
 
-    pub second-put : (ys : List ℕ) → ys ≡ numbersFrom (rest bs 4) (part (putMid 6 1 fs xs) 4 1)
-        → putMid 4 1 (putMid 6 1 fs xs) ys ≡ fieldWords (secondFields bs)
+    pub second-put : (ys : List ℕ) → ys ≡ numbersFrom (rest bs 4) (part (putMid atAgreed 1 fs xs) atIssued 1)
+        → putMid atIssued 1 (putMid atAgreed 1 fs xs) ys ≡ fieldWords (secondFields bs)
     unfolding fieldWords
     second-put ys b =
         let t : ys ≡ list 0 1 (numberAt (rest bs 4)) =
-        part-copied (rest bs 4) (putMid 6 1 fs xs) ys 4 1 (omega (arith, agreed-known))
+        part-copied (rest bs 4) (putMid atAgreed 1 fs xs) ys atIssued 1 (omega (arith, agreed-known))
         (rw (length-rest bs 4) (omega arith)) b in
         let v : ys ≡ numberAt bs 1 ∷ [] = t ∙ rw (number-after bs 1 0) in
         rw (e, agreed, v)

@@ -36,7 +36,7 @@ fn get_head(bytes: &[u8], fields: &mut [u32; 23])
 
 // Puts n numbers into a row of zeros, from shell k on.
 fn get_row(bytes: &[u8], row: &mut [u32], k: usize, n: usize)
-    requires { ⌜ (now row ≡ list 0 width (λ m. 0)) × (k + n ≤ 8) × (4 + 4 * n ≤ length (now bytes)) ⌝ }
+    requires { ⌜ (now row ≡ list 0 width (λ m. 0)) × (k + n ≤ width) × (4 + 4 * n ≤ length (now bytes)) ⌝ }
     ensures { λ r. ⌜ now (row .exit) ≡ list 0 width (shellAt (k + n) k (now (bytes .entry)) 0) ⌝ }
 {
     wire_read::copy_numbers(bytes, &mut row[k..k + n]);
@@ -44,7 +44,7 @@ fn get_row(bytes: &[u8], row: &mut [u32], k: usize, n: usize)
 
 // Puts the numbers of a frame of pass 1.
 fn get_first(bytes: &[u8], fields: &mut [u32])
-    requires { ⌜ (now fields ≡ headWords (now bytes)) × (12 ≤ length (now bytes)) × (dimsBy (now bytes) ≤ 8) ⌝ }
+    requires { ⌜ (now fields ≡ headWords (now bytes)) × (12 ≤ length (now bytes)) × (dimsBy (now bytes) ≤ width) ⌝ }
     ensures { λ r. ⌜ now (fields .exit) ≡ fieldWords (firstFields (dimsBy (now (bytes .entry))) (now (bytes .entry))) ⌝ }
 {
     let k = bytes[2] as usize;
@@ -65,7 +65,7 @@ fn get_second(bytes: &[u8], fields: &mut [u32])
 
 // Puts the numbers of a frame, by its pass.
 fn get_numbers(bytes: &[u8], fields: &mut [u32])
-    requires { ⌜ (now fields ≡ headWords (now bytes)) × (12 ≤ length (now bytes)) × (dimsBy (now bytes) ≤ 8) ⌝ }
+    requires { ⌜ (now fields ≡ headWords (now bytes)) × (12 ≤ length (now bytes)) × (dimsBy (now bytes) ≤ width) ⌝ }
     ensures { λ r. ⌜ now (fields .exit) ≡ fieldWords (fieldsOf (dimsBy (now (bytes .entry))) (now (bytes .entry))) ⌝ }
 {
     if bytes[0] == 1 {

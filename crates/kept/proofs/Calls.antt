@@ -5,7 +5,7 @@ use mathlib.Core.Bool.{true, false}
 use mathlib.Core.List.{List}
 use Prim.Native.Nat.{ℕ, suc, _+_, _%_, _<_}
 use native.Mathlib.Omega.{arith}
-use Rattle.base.specs.Limits.{Limits, Fits}
+use Rattle.base.specs.Limits.{Limits, Fits, width}
 use Rattle.tree.specs.Tree.{distance}
 use Rattle.tree.proofs.Distances.{distance-below}
 use Rattle.node.specs.Sums.{dims, allTaken, own}
@@ -39,7 +39,7 @@ module _ (L : Limits) (fit : Fits L) (ws : List ℕ) (e : isWhole L ws ≡ true)
 
   -- the shell of another node of the board
   shell-low : (b : ℕ) → valid L n ≡ true → b < n .nodes → b ≢ n .number
-      → (distance (n .nodes) (n .number) b < dimsOf ws) × (distance (n .nodes) (n .number) b < 8)
+      → (distance (n .nodes) (n .number) b < dimsOf ws) × (distance (n .nodes) (n .number) b < width)
   unfolding unpacked
   shell-low b ok h z =
       let d = distance-below (n .nodes) (n .number) b (valid-known L n ok .number) (λ q. z (sym q)) h in

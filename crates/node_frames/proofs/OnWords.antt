@@ -8,7 +8,7 @@ use Prim.Native.Nat.{ℕ, _+_, _≤_, _<_}
 use native.Mathlib.Omega.{arith}
 use lib.ListN.{length, getD}
 use borrow.Author.Tests.{eq-eqb, ne-eqb}
-use Rattle.base.specs.Limits.{Limits, Fits}
+use Rattle.base.specs.Limits.{Limits, Fits, width}
 use Rattle.base.proofs.Laws.{length-list}
 use Rattle.tree.specs.Tree.{awaited}
 use Rattle.tree.specs.Lookups.{badBoard}
@@ -21,11 +21,11 @@ use Rattle.frame.proofs.RoundTripAccepted.{Read}
 use Rattle.node.specs.Calls.{gotten, isAwaited, byTiming, frameIn}
 use Rattle.node.specs.declared.Answer.the-variants.{Refused as Refuses}
 use Rattle.node.proofs.Valid.{Valid, valid-known}
-use Rattle.layout.specs.Places.{atNodes, atNumber, atPhase, atDim}
+use Rattle.layout.specs.Places.{atNodes, atNumber, atPhase, atDim, headWords}
 use Rattle.layout.specs.Held.{word, dimsOf, unpacked}
 use Rattle.layout.specs.Pieces.{Passed}
 use Rattle.layout.proofs.Offsets.{first-above, first-inside}
-use Rattle.layout.proofs.Whole.{Whole, whole, few as eight}
+use Rattle.layout.proofs.Whole.{Whole, whole, few as narrow}
 use Rattle.layout.proofs.Becomes.{Becomes}
 use Rattle.node_frames.specs.Pieces.{Judged}
 use Rattle.node_frames.specs.Pieces.{framePlace, frameWords, storedWords, Storable}
@@ -40,7 +40,7 @@ module _ {L : Limits} {ws : List ℕ} (fit : Fits L) (bs : List ℕ) (k : Passed
   state = valid-known L (unpacked ws) (k .valid)
 
   -- the words of the head are there, and the phase is a byte
-  pub head-long : 8 ≤ length ws
+  pub head-long : headWords ≤ length ws
   head-long = omega (arith, first-above (dimsOf ws) (dimsOf ws), held .long)
 
   pub phase-low : word ws atPhase < 256
@@ -79,8 +79,8 @@ module _ {L : Limits} {ws : List ℕ} (fit : Fits L) (bs : List ℕ) (k : Passed
               (omega (arith, read-count L ws bs read, first-inside (dimsOf ws) (getD bs 2 0) dim-low, held .long)),
         )
 
-    few : dimsOf ws ≤ 8
-    few = eight L fit ws (held .board)
+    few : dimsOf ws ≤ width
+    few = narrow L fit ws (held .board)
 
     at-dim : word ws atDim < dimsOf ws
     unfolding unpacked

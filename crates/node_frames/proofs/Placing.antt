@@ -13,7 +13,7 @@ use Rattle.base.proofs.Laws.{length-list}
 use Rattle.frame.specs.Frame.{numberAt}
 use Rattle.frame.specs.Parts.{pasted}
 use Rattle.frame.proofs.Pasting.{paste-more}
-use Rattle.layout.specs.Places.{atPass, atDim, atFlag, atAgreed}
+use Rattle.layout.specs.Places.{atPass, atDim, atFlag, atAgreed, markWords}
 use Rattle.layout.specs.Held.{word}
 use Rattle.wire_read.specs.Read.{numbersFrom}
 use Rattle.wire_read.proofs.Copies.{part-copied}
@@ -31,7 +31,7 @@ unfolding pasted
 mark-pasted l at x h = set-split l at x h ∙ rw add-one (sym (append-snoc (take at l) x (drop (suc at) l)))
 
 -- the mark and the part with the numbers are the words of the frame
-pub frame-put : (ws bs ys : List ℕ) (at n from end : ℕ) → from ≡ at + 1 → end ≡ from + n → end ≤ length ws
+pub frame-put : (ws bs ys : List ℕ) (at n from end : ℕ) → from ≡ at + markWords → end ≡ from + n → end ≤ length ws
     → 4 + 4 * n ≤ length bs → ys ≡ numbersFrom bs (take (end - from) (drop from (set ws at 1)))
     → putMid from (end - from) (set ws at 1) ys ≡ pasted ws at (1 ∷ list 0 n (numberAt bs))
 frame-put ws bs ys at n from end f g h r e =

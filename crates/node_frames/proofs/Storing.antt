@@ -3,13 +3,13 @@ use mathlib.Core.Path.{_≡_, refl, sym, ap, _∙_, subst}
 use mathlib.Core.Logic.{_⊎_, inl, inr}
 use mathlib.Core.Bool.{Bool, true, false}
 use mathlib.Core.List.{List, _∷_}
-use Prim.Native.Nat.{ℕ, suc, _+_, _-_, _*_, _/_, _≤_, _<_}
+use Prim.Native.Nat.{ℕ, suc, _+_, _-_, _/_, _≤_, _<_}
 use native.Mathlib.Omega.{arith}
 use lib.Dec.{ltb, eqb}
 use lib.ListN.{length, getD}
 use borrow.Author.Tests.{eq-eqb, ne-eqb}
 use Rattle.base.specs.Choice.{choose, list}
-use Rattle.base.specs.Limits.{Limits, Fits}
+use Rattle.base.specs.Limits.{Limits, Fits, width}
 use Rattle.base.proofs.Laws.{cases, length-list, list-at, list-same}
 use Rattle.frame.specs.Frame.{badStep, frameLength, numberAt, hasShell, shellAt}
 use Rattle.frame.specs.Frame.{sentNumber, takenNumber, firstFields, fieldsOf}
@@ -22,7 +22,8 @@ use Rattle.wire_read.proofs.Within.{fields-first, fields-second}
 use Rattle.node.specs.Change.{at}
 use Rattle.node.specs.Calls.{stepNumber, firstOf, stored, gotten}
 use Rattle.node.specs.declared.Node.{Node}
-use Rattle.layout.specs.Places.{atNodes, atPass, atDim, atAgreed}
+use Rattle.layout.specs.Places.{atNodes, atPass, atDim, atAgreed, sentPlace, takenPlace, issuedPlace, receivedPlace}
+use Rattle.layout.specs.Places.{sumIssued, sumReceived, sumWords}
 use Rattle.layout.specs.Held.{word, dimsOf, firstFrom, unpacked, isWhole}
 use Rattle.layout.proofs.Whole.{few}
 use Rattle.layout.proofs.Becomes.{Becomes, becomes-then}
@@ -37,7 +38,7 @@ module _ (p : ℕ) (bs : List ℕ) (h : getD bs 2 0 < p) where
   k = getD bs 2 0
 
   abbrev count : ℕ
-  count = 2 * (p - k) + 2
+  count = sumWords (p - k)
 
   abbrev put : List ℕ
   put = 1 ∷ list 0 count (numberAt bs)
@@ -58,17 +59,17 @@ module _ (p : ℕ) (bs : List ℕ) (h : getD bs 2 0 < p) where
   first-put : firstFrom put p k 0 ≡ firstOf (firstFields p bs)
   first-put =
       rw (
-        list-same 0 8 _ (λ m. sentNumber (shellAt p k bs 0 m))
-            (λ m a b. ap sentNumber (shell 0 m (0 + 1 + (m - k)) (omega arith) (omega arith))),
-        list-same 0 8 _ (λ m. takenNumber (shellAt p k bs (p - k) m))
-            (λ m a b. ap takenNumber (shell (p - k) m (0 + 1 + (p - k) + (m - k)) (omega arith) (omega arith))),
-        after (2 * (p - k)) (0 + 1 + 2 * (p - k)) (omega arith) (omega arith),
-        after (2 * (p - k) + 1) (0 + 2 + 2 * (p - k)) (omega arith) (omega arith),
+        list-same 0 width _ (λ m. sentNumber (shellAt p k bs 0 m))
+            (λ m a b. ap sentNumber (shell 0 m (sentPlace 0 k m) (omega arith) (omega arith))),
+        list-same 0 width _ (λ m. takenNumber (shellAt p k bs (p - k) m))
+            (λ m a b. ap takenNumber (shell (p - k) m (takenPlace p 0 k m) (omega arith) (omega arith))),
+        after (sumIssued (p - k)) (issuedPlace p 0 k) (omega arith) (omega arith),
+        after (sumReceived (p - k)) (receivedPlace p 0 k) (omega arith) (omega arith),
       )
 
 -- ---- the frame in its place, and the position put back
 
-module _ (L : Limits) (ws bs : List ℕ) (e : isWhole L ws ≡ true) (eight : dimsOf ws ≤ 8)
+module _ (L : Limits) (ws bs : List ℕ) (e : isWhole L ws ≡ true) (narrow : dimsOf ws ≤ width)
     (s : badStep (dimsOf ws) (getD bs 0 0) (getD bs 2 0) ≡ false)
     (l : length bs ≡ frameLength (dimsOf ws) (getD bs 0 0) (getD bs 2 0)) where
   abbrev p : ℕ
@@ -89,9 +90,10 @@ module _ (L : Limits) (ws bs : List ℕ) (e : isWhole L ws ≡ true) (eight : di
     where
       go : (pass ≡ 1) ⊎ (pass ≡ 2) → dim < p → Becomes L ws (keptWords p ws bs) (stored (unpacked ws) got)
       go (inl one) h =
-          let n : (length bs - 4) / 4 ≡ 2 * (p - dim) + 2 = omega (arith, first-length p pass dim one) in
+          let n : (length bs - 4) / 4 ≡ sumWords (p - dim) = omega (arith, first-length p pass dim one) in
           rw (head-pass p bs, head-dim p bs, eq-eqb pass 1 one, n, fields-first p bs one, sym (first-put p bs h))
-          (put-first L ws e dim h (omega arith) (list 0 (2 * (p - dim) + 2) (numberAt bs)) (length-list 0 _ _))
+          (put-first L ws e dim h (omega arith) (list 0 (sumWords (p - dim)) (numberAt bs))
+          (omega (arith, length-list 0 (sumWords (p - dim)) (numberAt bs))))
       go (inr two) h =
           let n : (length bs - 4) / 4 ≡ 2 = omega (arith, second-length p pass dim (λ z. omega arith)) in
           rw (head-pass p bs, head-dim p bs, ne-eqb pass 1 (λ z. omega arith), n, fields-second p bs (λ z. omega arith))

@@ -6,7 +6,7 @@ use Prim.Native.Nat.{ℕ, _+_, _-_, _/_, _≤_, _<_}
 use lib.Dec.{ltb, eqb}
 use lib.ListN.{length, getD, set}
 use Rattle.base.specs.Choice.{choose, list}
-use Rattle.base.specs.Limits.{Limits}
+use Rattle.base.specs.Limits.{Limits, width}
 use Rattle.frame.specs.Frame.{numberAt, fieldsOf, readFrame, answerOf}
 use Rattle.frame.specs.Parts.{pasted}
 use Rattle.frame.specs.declared.Outcome.the-variants.{Done as Accepted}
@@ -14,7 +14,7 @@ use Rattle.node.specs.Calls.{stepNumber, refusal, gotten, frameIn}
 use Rattle.node.specs.Answers.{give, done, dropped}
 use Rattle.node.specs.declared.Answer.{Answer}
 use Rattle.node.specs.declared.Answer.the-variants.{Done, Dropped, Refused}
-use Rattle.layout.specs.Places.{atPass, atDim, atFlag, atAgreed, atFirst, atSecond, atNodes}
+use Rattle.layout.specs.Places.{atPass, atDim, atFlag, atAgreed, atFirst, atSecond, atNodes, headWords}
 use Rattle.layout.specs.Held.{word, dimsOf, unpacked}
 
 -- ---- A frame is judged
@@ -55,8 +55,8 @@ storedWords p ws bs =
 
 -- what a frame that is stored needs: a dimension of the board, and room for its words
 pub record Storable (p : ℕ) (ws bs : List ℕ) : Type 0 where
-  pub few : p ≤ 8
+  pub few : p ≤ width
   pub dim : getD bs 2 0 < p
   pub head : 4 ≤ length bs
-  pub position : (word ws atDim < 256) × (8 ≤ length ws)
+  pub position : (word ws atDim < 256) × (headWords ≤ length ws)
   pub room : framePlace p (getD bs 0 0) (getD bs 2 0) + length (frameWords bs) ≤ length ws

@@ -3,7 +3,7 @@ ghost use mathlib.Core.Path.{_≡_};
 ghost use mathlib.Core.Bool.{false};
 ghost use Prim.Native.Nat.{_+_, _≤_, _<_};
 ghost use lib.ListN.{length};
-ghost use Rattle.base.specs.Limits.{limitsOf};
+ghost use Rattle.base.specs.Limits.{limitsOf, width};
 ghost use Rattle.tree.specs.Tree.{dimension, awaited};
 ghost use Rattle.tree.specs.Lookups.{badBoard};
 ghost use Rattle.frame.specs.Parts.{pasted};
@@ -37,7 +37,7 @@ fn is_awaited(b: Bounds, nodes: u32, number: u32, dim: u32, sender: u32) -> bool
 
 // A step, counted through both passes.
 fn step_of(p: u32, pass: u32, dim: u32) -> u32
-    requires { ⌜ (p ≤ 8) × (dim < 256) ⌝ }
+    requires { ⌜ (p ≤ width) × (dim < 256) ⌝ }
     ensures { λ r. ⌜ r ≡ stepNumber p pass dim ⌝ }
 {
     if pass == 1 { dim } else { p + dim }
@@ -45,7 +45,7 @@ fn step_of(p: u32, pass: u32, dim: u32) -> u32
 
 // Where the words of a frame begin.
 fn place_of(p: u32, pass: u32, k: u32) -> u32
-    requires { ⌜ (k < p) × (p ≤ 8) ⌝ }
+    requires { ⌜ (k < p) × (p ≤ width) ⌝ }
     ensures { λ r. ⌜ r ≡ framePlace p pass k ⌝ }
 {
     let at = layout::first_at(p as u8, k as u8);

@@ -10,7 +10,7 @@ use lib.Dec.{leb, eqb}
 use lib.ListN.{getD}
 use borrow.Author.Tests.{leb-true, le-leb, eq-eqb, ne-eqb}
 use Rattle.base.specs.Choice.{both, every}
-use Rattle.base.specs.Limits.{Limits, Fits, fieldLimit}
+use Rattle.base.specs.Limits.{Limits, Fits, fieldLimit, width}
 use Rattle.base.proofs.Laws.{choose-yes, choose-no, cases, both-make, list-at, list-one, every-at, every-make}
 use Rattle.tree.specs.Tree.{dimension}
 use Rattle.tree.specs.Lookups.{badBoard}
@@ -24,9 +24,9 @@ use Rattle.frame.specs.declared.Taken.{Taken}
 use Rattle.frame.proofs.Shells.{shell-there, shell-gone}
 use Rattle.frame.proofs.RoundTripChecks.{Numbers, numbers-known, numbers-good, number-low, step-known, shell-known}
 
--- a board has at most 8 shells
-pub few : (L : Limits) → Fits L → (P p : ℕ) → badBoard L P ≡ false → p ≡ dimension P → p ≤ 8
-few L fit P p g e = rw e (smallest P 8 (let n = fit .nodes in omega (arith, board-good L P g .1)))
+-- a board has at most `width` shells
+pub few : (L : Limits) → Fits L → (P p : ℕ) → badBoard L P ≡ false → p ≡ dimension P → p ≤ width
+few L fit P p g e = rw e (smallest P width (let n = fit .nodes in omega (arith, board-good L P g .1)))
 
 -- tests that hold together are equal
 same-test : (s t : Bool) → (s ≡ true → t ≡ true) → (t ≡ true → s ≡ true) → s ≡ t
@@ -52,11 +52,11 @@ module _ (L : Limits) (p : ℕ) (bs : List ℕ) where
   abbrev low : ℕ → Bool
   low i = leb (numberAt bs i) (fieldLimit L)
 
-  sent-is : (m : ℕ) → m < 8 → sentAt (firstFields p bs .sent) m ≡ shellAt p k bs 0 m
-  sent-is m h = ap (λ (x : Sent). x .0) (list-at 8 (λ m. sentNumber (shellAt p k bs 0 m)) m (sentNumber 0) h)
+  sent-is : (m : ℕ) → m < width → sentAt (firstFields p bs .sent) m ≡ shellAt p k bs 0 m
+  sent-is m h = ap (λ (x : Sent). x .0) (list-at width (λ m. sentNumber (shellAt p k bs 0 m)) m (sentNumber 0) h)
 
-  taken-is : (m : ℕ) → m < 8 → takenAt (firstFields p bs .taken) m ≡ shellAt p k bs (p - k) m
-  taken-is m h = ap (λ (x : Taken). x .0) (list-at 8 (λ m. takenNumber (shellAt p k bs (p - k) m)) m (takenNumber 0) h)
+  taken-is : (m : ℕ) → m < width → takenAt (firstFields p bs .taken) m ≡ shellAt p k bs (p - k) m
+  taken-is m h = ap (λ (x : Taken). x .0) (list-at width (λ m. takenNumber (shellAt p k bs (p - k) m)) m (takenNumber 0) h)
 
   -- a tally is as it may be if its number is low where the frame has it
   shell-ok : (start m : ℕ) → ((i : ℕ) → i < p - k → low (start + i) ≡ true)
@@ -68,7 +68,7 @@ module _ (L : Limits) (p : ℕ) (bs : List ℕ) where
       rw (shell-there p k bs start m (r .0) (r .1)) (h (m - k) (omega arith)))
       (λ q. eq-eqb _ _ (shell-gone p k bs start m q))
 
-  module _ (eight : p ≤ 8) (below : k < p) where
+  module _ (narrow : p ≤ width) (below : k < p) where
     -- pass 1
     module _ (one : getD bs 0 0 ≡ 1) where
       abbrev count : ℕ
@@ -138,22 +138,22 @@ module _ (L : Limits) (p : ℕ) (bs : List ℕ) where
     second-good e =
         numbers-good L p (secondFields bs)
         (record {
-          sent = λ m h. rw (other, list-one 0 8 (sentNumber 0) m);
-          taken = λ m h. rw (other, list-one 0 8 (takenNumber 0) m);
+          sent = λ m h. rw (other, list-one 0 width (sentNumber 0) m);
+          taken = λ m h. rw (other, list-one 0 width (takenNumber 0) m);
           issued = leb-true _ _ (every-at 0 2 low e 1 (omega arith) (omega arith));
           received = rw other;
           agreed = rw (eq-eqb _ _ two) (every-at 0 2 low e 0 (omega arith) (omega arith));
         })
 
   -- so many numbers, all those of a frame of the pass and dimension that the bytes state
-  pub within : (c : ℕ) → p ≤ 8 → badStep p (getD bs 0 0) k ≡ false → 4 + 4 * c ≡ frameLength p (getD bs 0 0) k
+  pub within : (c : ℕ) → p ≤ width → badStep p (getD bs 0 0) k ≡ false → 4 + 4 * c ≡ frameLength p (getD bs 0 0) k
       → numbersOk L p (fieldsOf p bs) ≡ every 0 c low
-  within c eight s l = let q = step-known p (getD bs 0 0) k s in go (q .0) (q .1)
+  within c narrow s l = let q = step-known p (getD bs 0 0) k s in go (q .0) (q .1)
     where
       go : (getD bs 0 0 ≡ 1) ⊎ (getD bs 0 0 ≡ 2) → k < p → numbersOk L p (fieldsOf p bs) ≡ every 0 c low
       go (inl one) h =
           let z : c ≡ 2 * (p - k) + 2 = omega (arith, first-length p (getD bs 0 0) k one) in
-          rw (fields-first p bs one, z) (same-test _ _ (first-low eight h one) (first-good eight h one))
+          rw (fields-first p bs one, z) (same-test _ _ (first-low narrow h one) (first-good narrow h one))
       go (inr two) h =
           let z : c ≡ 2 = omega (arith, second-length p (getD bs 0 0) k (λ e. omega arith)) in
           rw (fields-second p bs (λ e. omega arith), z) (same-test _ _ (second-low two) (second-good two))

@@ -4,7 +4,12 @@ use Prim.Native.Nat.{ℕ, _+_, _*_}
 use lib.Dec.{leb}
 use lib.ListN.{length}
 use Rattle.base.specs.Choice.{choose, list}
+use Rattle.base.specs.Limits.{width}
 use Rattle.frame.specs.Frame.{numberAt}
+
+-- the most numbers that a frame has: sent and taken for each shell, and both totals
+abbrev pub mostNumbers : ℕ
+mostNumbers = 2 * width + 2
 
 -- as many numbers of a frame as there are words; the words stay where the bytes have fewer
 abbrev pub numbersFrom : List ℕ → List ℕ → List ℕ

@@ -4,10 +4,10 @@ ghost use Prim.Native.Nat.{_+_, _*_, _≤_, _<_};
 ghost use lib.Dec.{leb};
 ghost use lib.ListN.{length};
 ghost use Rattle.base.specs.Choice.{every};
-ghost use Rattle.base.specs.Limits.{limitsOf};
+ghost use Rattle.base.specs.Limits.{limitsOf, width};
 ghost use Rattle.frame.specs.Numbers.{wordAt};
 ghost use Rattle.frame.specs.Frame.{badStep, frameLength, numberAt, readFrame, answerOf};
-ghost use Rattle.wire_read.specs.Read.{numbersFrom};
+ghost use Rattle.wire_read.specs.Read.{mostNumbers, numbersFrom};
 use base::Bounds;
 use frame::Outcome;
 use tree::Found;
@@ -47,15 +47,15 @@ pub fn step_bad(p: u32, pass: u32, k: u32) -> bool
 
 // How many numbers a frame has.
 fn count_of(p: u32, pass: u32, k: u32) -> u32
-    requires { ⌜ (k ≤ p) × (p ≤ 8) ⌝ }
-    ensures { λ r. ⌜ (4 + 4 * r ≡ frameLength p pass k) × (r ≤ 18) ⌝ }
+    requires { ⌜ (k ≤ p) × (p ≤ width) ⌝ }
+    ensures { λ r. ⌜ (4 + 4 * r ≡ frameLength p pass k) × (r ≤ mostNumbers) ⌝ }
 {
     if pass == 1 { 2 * (p - k) + 2 } else { 2 }
 }
 
 // The first numbers, so many, are within a limit.
 fn numbers_within(limit: u32, bytes: &[u8], count: u32) -> bool
-    requires { ⌜ (4 + 4 * count ≤ length (now bytes)) × (count ≤ 18) ⌝ }
+    requires { ⌜ (4 + 4 * count ≤ length (now bytes)) × (count ≤ mostNumbers) ⌝ }
     ensures { λ r. ⌜ r ≡ every 0 count (λ i. leb (numberAt (now (bytes .entry)) i) limit) ⌝ }
 {
     let mut at: u32 = 4;

@@ -13,17 +13,17 @@ use Rattle.field_words.proofs.shells_low.Tie as tie
 
 abbrev Inv-loop : tie.InvT-loop
 Inv-loop limit p fields m₀ m =
-    (m ≤ 8) × (every 0 width (shellLow limit p fields) ≡ every m (8 - m) (shellLow limit p fields))
+    (m ≤ width) × (every 0 width (shellLow limit p fields) ≡ every m (width - m) (shellLow limit p fields))
 
 abbrev μ-loop : tie.MeasureT-loop
-μ-loop limit p fields m₀ m = 8 - m
+μ-loop limit p fields m₀ m = width - m
 
 -- the test at shell m, and at the shells after it
 turn : (c : tie.After-shell-low Inv-loop μ-loop)
     → let l = c .before .before in
     let x = l .before .args in
     let f = shellLow (x .limit) (x .p) (now (x .fields)) in
-    every 0 width f ≡ both (c .shell-low .result) (every (l .loop .m + 1) (8 - (l .loop .m + 1)) f)
+    every 0 width f ≡ both (c .shell-low .result) (every (l .loop .m + 1) (width - (l .loop .m + 1)) f)
 turn c =
     let l = c .before .before in
     l .loop .inv .1 ∙ every-here _ _ _ (c .before .loop-test .taken) ∙ rw (c .shell-low .ensures)

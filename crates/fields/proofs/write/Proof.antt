@@ -8,7 +8,7 @@ use mathlib.Core.List.{List}
 use Prim.Native.Nat.{ℕ, _≤_}
 use denote.Ref.{now}
 use lib.ListN.{getD}
-use Rattle.base.specs.Limits.{Limits, Fits, limitsOf}
+use Rattle.base.specs.Limits.{Limits, Fits, limitsOf, width}
 use Rattle.base.proofs.Limits.{fits-of}
 use Rattle.tree.specs.Tree.{dimension}
 use Rattle.tree.specs.Lookups.{badBoard, foundAnswer}
@@ -56,8 +56,8 @@ known k =
 fit : (k : tie.After-known-told) → Fits (limits k)
 fit k = fits-of (start k .args .b) (search needs) (search needs)
 
-eight : (k : tie.After-known-told) → dims k ≤ 8
-eight k = few (limits k) (fit k) (nodes k) (dims k) (known k .0) (known k .1)
+narrow : (k : tie.After-known-told) → dims k ≤ width
+narrow k = few (limits k) (fit k) (nodes k) (dims k) (known k .0) (known k .1)
 
 returns-2 : tie.Need-returns-2
 returns-2 c =
@@ -111,7 +111,7 @@ put-frame-requires c κs =
     let d = step-known (dims k) (getD (words k) atPass 0) (getD (words k) atDim 0) (step s) .1 in (
       search needs,
       omega (arith, d),
-      eight k,
+      narrow k,
       omega (arith, e .if1 .left),
       omega (arith, r .if4 .left, board-good (limits k) (nodes k) (known k .0), fit k .nodes),
     )
@@ -125,7 +125,7 @@ returns-6 c =
     let e = s .before .before .before .before in
     let k = e .before .before in
     wrote-frame (limits k) (nodes k) (words k) (buffer k) (dims k) (known k .0) (known k .1)
-    (omega (arith, e .if1 .left)) (step s) (numbers n) (omega (arith, r .if4 .left)) _ _ (search needs) (eight k)
+    (omega (arith, e .if1 .left)) (step s) (numbers n) (omega (arith, r .if4 .left)) _ _ (search needs) (narrow k)
     (p .put-frame .ensures .0) (p .put-frame .ensures .1)
 
 pub write-spec : {M : Type 1} → statement M

@@ -16,7 +16,7 @@ use Rattle.frame.specs.Frame.{fieldsOf, readFrame, answerOf}
 use Rattle.frame.specs.declared.Outcome.the-variants.{Done}
 use Rattle.frame.specs.declared.Timing.{Timing}
 use Rattle.node.specs.Calls.{isAwaited, byTiming, frameIn}
-use Rattle.layout.specs.Places.{atNodes, atNumber}
+use Rattle.layout.specs.Places.{atNodes, atNumber, headWords}
 use Rattle.layout.specs.Held.{word, dimsOf, unpacked}
 use Rattle.node_frames.proofs.OnWords.{head-long, phase-low, on-board, dim-low, storable}
 use Rattle.node_frames.proofs.OnWords.{says-refused, says-self, says-partner, says-timed}
@@ -37,7 +37,7 @@ module _ (s : tie.Start) where
   fit : Fits L
   fit = fits-of (s .args .b) (search needs) (search needs)
 
-  long : 8 ≤ length ws
+  long : headWords ≤ length ws
   long = head-long fit bs (s .pre)
 
 shared-slice-read-nodes : tie.Need-shared-slice-read-nodes

@@ -3,7 +3,6 @@ use borrow.Author.Needs.{needs}
 use borrow.Author.Tests.{eq-eqb, ne-eqb}
 use native.Mathlib.Omega.{arith}
 use mathlib.Core.Path.{_≡_, sym, _∙_}
-use Prim.Native.Nat.{_+_, _-_, _*_}
 use Rattle.base.proofs.Laws.{choose-yes, choose-no}
 use Rattle.layout.specs.Places.{atFirst, atSecond}
 use Rattle.layout.proofs.Offsets.{first-end, first-found}
@@ -30,9 +29,7 @@ returns c = begins (c .before) ∙ sym (choose-yes _ _ (eq-eqb _ _ (c .if1 .take
 returns-2 : tie.Need-returns-2
 returns-2 c =
     let x = c .before .before .args in
-    let b = begins (c .before) in
-    let e : c .before .first-at .result + 2 * (x .p - x .k) + 3 ≡ atSecond (x .p) (x .k) = omega arith in
-    e ∙ sym (choose-no _ _ (ne-eqb _ _ (c .if1 .left)))
+    sym (choose-no _ (atSecond (x .p) (x .k)) (ne-eqb _ _ (c .if1 .left)) ∙ omega (arith, begins (c .before)))
 
 pub place-of-spec : {M : Type 1} → statement M
 place-of-spec =

@@ -10,6 +10,7 @@ use Rattle.base.proofs.Laws.{length-list}
 use Rattle.frame.specs.Frame.{numberAt}
 use Rattle.frame.specs.Parts.{pasted}
 use Rattle.frame.proofs.Pasting.{length-pasted}
+use Rattle.layout.specs.Places.{markWords}
 use Rattle.node_frames.specs.Pieces.{frameWords}
 use Rattle.node_frames.proofs.Placing.{frame-put}
 use Rattle.node_frames.proofs.put_frame.Statement.{statement}
@@ -20,7 +21,7 @@ abbrev count : tie.Start → ℕ
 count c = (length (now (c .args .bytes)) - 4) / 4
 
 -- they have room
-room : (c : tie.Start) → c .args .at + 1 + count c ≤ length (now (c .args .state))
+room : (c : tie.Start) → c .args .at + markWords + count c ≤ length (now (c .args .state))
 room c = omega (arith, c .pre .1, length-list 0 (count c) (numberAt (now (c .args .bytes))))
 
 part-copy-numbers-end : tie.Need-part-copy-numbers-end
@@ -28,7 +29,7 @@ part-copy-numbers-end c = simp length-set (room (c .before .before))
 
 put : (c : tie.After-copy-numbers)
     → let x = c .before .before .before .before .args in
-    let from = x .at + 1 in
+    let from = x .at + markWords in
     let end = from + count (c .before .before .before .before) in
     putMid from (end - from) (set (now (x .state)) (x .at) 1) (c .copy-numbers .last .1 .0)
     ≡ pasted (now (x .state)) (x .at) (frameWords (now (x .bytes)))

@@ -10,7 +10,7 @@ use lib.Dec.{leb}
 use lib.ListN.{getD}
 use denote.Ref.{now}
 use Rattle.base.specs.Choice.{every}
-use Rattle.base.specs.Limits.{Limits, limitsOf}
+use Rattle.base.specs.Limits.{Limits, limitsOf, width}
 use Rattle.base.proofs.Limits.{fits-of}
 use Rattle.tree.specs.Tree.{dimension}
 use Rattle.tree.specs.Lookups.{badBoard, foundAnswer}
@@ -48,8 +48,8 @@ known k =
     let d = k .before .before .before .dimension-for in
     dimension-found (limits k) _ _ (sym (d .ensures) ∙ ap foundAnswer (k .before .p .given .1))
 
-eight : (k : tie.After-known-told) → dims k ≤ 8
-eight k =
+narrow : (k : tie.After-known-told) → dims k ≤ width
+narrow k =
     let f = fits-of (k .before .before .before .before .before .args .b) (search needs) (search needs) in
     few (limits k) f (nodes k) (dims k) (known k .0) (known k .1)
 
@@ -85,7 +85,7 @@ count-of-requires c κs =
     let k = c .before .before .before .before .before .before .before in
     let l = step-known (dims k) (getD (bytes k) 0 0) (getD (bytes k) 2 0) (step c) .1 in
     let w = c .before .before .wide2 .ensures .0 in
-    (omega arith, eight k)
+    (omega arith, narrow k)
 
 -- the length that the bytes state
 stated : (c : tie.After-count-of)
@@ -117,7 +117,7 @@ counted c =
     let n = q .count-of .result in
     c .numbers-within .ensures
     ∙ ap (λ x. every 0 n (λ i. leb (numberAt (bytes k) i) x)) (c .before .field-limit .ensures)
-    ∙ sym (within (limits k) (dims k) (bytes k) n (eight k) (step (q .before)) (stated q))
+    ∙ sym (within (limits k) (dims k) (bytes k) n (narrow k) (step (q .before)) (stated q))
 
 returns-5 : tie.Need-returns-5
 returns-5 c =
