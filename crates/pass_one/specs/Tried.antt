@@ -1,13 +1,13 @@
 -- The clauses of a step of pass 1 over lent words, and the own sums with a frame added.
 use mathlib.Core.Path.{_≡_}
-use mathlib.Core.Bool.{Bool, false}
+use mathlib.Core.Bool.{Bool, true, false}
 use mathlib.Core.List.{List, [], _∷_}
 use Prim.Native.Nat.{ℕ, suc, _+_}
 use lib.ListN.{length}
 use Rattle.base.specs.Choice.{choose}
 use Rattle.base.specs.Limits.{Limits}
 use Rattle.node.specs.Sums.{Field, Has, number}
-use Rattle.node.specs.Agree.{firstClauses}
+use Rattle.node.specs.Agree.{firstClauses, allHold}
 use Rattle.node.specs.declared.Stored.{Stored}
 use Rattle.layout.specs.Held.{firstFrom, sumOf}
 use Rattle.walk_tests.specs.Tests.{firstFits}
@@ -20,3 +20,9 @@ firstTried L ws sums p k at =
 -- the sums with the numbers of a frame of dimension k: those that the next dimension has
 abbrev pub Added : ℕ → ℕ → Stored → List ℕ → List ℕ → Type 0
 Added p k x before after = (f : Field) → Has p (suc k) f → sumOf p after f ≡ sumOf p before f + number x f
+
+-- a step that agrees is passed, and the numbers of its frame are then in the sums
+pub record PassedBy (L : Limits) (ws : List ℕ) (p k at : ℕ) (before after : List ℕ) (r : Bool) : Type 0 where
+  pub ok : r ≡ allHold (firstTried L ws before p k at)
+  pub sums : r ≡ true → Added p k (firstFrom ws p k at) before after
+  pub length : length after ≡ length before

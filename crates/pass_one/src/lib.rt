@@ -8,7 +8,7 @@ ghost use Rattle.base.specs.Choice.{choose};
 ghost use Rattle.base.specs.Limits.{limitsOf};
 ghost use Rattle.survey.specs.Verdict.{isVerdict};
 ghost use Rattle.layout.specs.Held.{firstFrom, sumOf};
-ghost use Rattle.pass_one.specs.Tried.{firstTried, Added};
+ghost use Rattle.pass_one.specs.Tried.{firstTried, Added, PassedBy};
 ghost use Rattle.pass_one.specs.Pieces.{FirstAt, Opened, pairFits, pairAdded, AddedShells, Judged};
 use base::Bounds;
 use frame::Sent;
@@ -131,4 +131,11 @@ pub fn verdict(b: Bounds, s: &[u32], sums: &mut [u32], p: u32, k: u32, at: u32) 
         return Verdict::Fails(0);
     }
     tried(b, s, &mut *sums, p, k, at)
+}
+
+// Passes dimension k on a board of p dimensions where it agrees: the numbers of its frame are then in the sums.
+pub fn pass_step(b: Bounds, s: &[u32], sums: &mut [u32], p: u32, k: u32, at: u32) -> bool
+    ensures { λ r. ⌜ PassedBy (limitsOf b) (now (s .entry)) p k at (now (sums .entry)) (now (sums .exit)) r ⌝ }
+{
+    walk_tests::is_agreed(verdict(b, s, sums, p, k, at))
 }

@@ -17,16 +17,13 @@ use Rattle.node.specs.declared.Stored.{Stored}
 use Rattle.node.specs.declared.Confirm.{Confirm}
 use Rattle.node.specs.Sums.{Has as InFrame}
 use Rattle.node.proofs.Clauses.{has-lower, first-known, second-known}
-use Rattle.survey.specs.Verdict.{isVerdict, isAgreed}
-use Rattle.survey.specs.declared.Verdict.{Verdict}
 use Rattle.layout.specs.Places.{atFirst, atSecond}
 use Rattle.layout.specs.Held.{word, firstFrom, secondFrom, sumOf}
 use Rattle.survey.specs.Pieces.{firstTest, secondTest, awaitsAt, firstPast, secondPast, firstHeld, secondHeld}
 use Rattle.survey.specs.declared.Spot.{Spot}
 use Rattle.survey.proofs.Stored.{Has, first-none, first-same, second-none, second-same}
 use Rattle.stored.specs.Held.{heldTest}
-use Rattle.walk_tests.proofs.Agreed.{agreed-is}
-use Rattle.pass_one.specs.Tried.{firstTried}
+use Rattle.pass_one.specs.Tried.{firstTried, PassedBy as FirstBy}
 use Rattle.pass_two.specs.Tried.{secondTried, PassedBy}
 use Rattle.scan.specs.Pieces.{Standing, Summed, FirstPassed, SecondPassed, firstWhole, secondWhole}
 use Rattle.scan.specs.Pieces.{FirstDone, SecondDone}
@@ -36,17 +33,19 @@ use Rattle.scan.proofs.Settled.{second-settled, second-open}
 
 -- ---- a step before the position
 
-module _ (L : Limits) (ws before : List ℕ) (p k at : ℕ) (s : Standing p k ws) (w : Summed L p k before)
-    (e : at ≡ atFirst p k) (v : Verdict) (told : isVerdict (firstTried L ws before p k at) v ≡ true) where
-  abbrev x : Stored
-  x = firstFrom ws p k at
-
-  pub first-is : isAgreed v ≡ allHold (firstClauses L p k (sumOf p before) x)
-  first-is =
-      agreed-is _ v told
-      ∙ ap (λ a. allHold (firstTried L ws before p k a)) e
-      ∙ ap allHold (first-tried p k ws s L before (w .wide))
-      ∙ ap (λ a. allHold (firstClauses L p k (sumOf p before) (firstFrom ws p k a))) (sym e)
+pub first-passed : (L : Limits) (ws before : List ℕ) (p k at : ℕ) (s : Standing p k ws) → Summed L p k before
+    → at ≡ atFirst p k → (after : List ℕ) (r : Bool) → FirstBy L ws p k at before after r
+    → FirstPassed L p k (firstFrom ws p k at) before after r
+first-passed L ws before p k at s w e after r d =
+    record {
+      ok =
+          d .ok
+          ∙ ap (λ a. allHold (firstTried L ws before p k a)) e
+          ∙ ap allHold (first-tried p k ws s L before (w .wide))
+          ∙ ap (λ a. allHold (firstClauses L p k (sumOf p before) (firstFrom ws p k a))) (sym e);
+      sums = d .sums;
+      length = d .length;
+    }
 
 pub second-passed : (L : Limits) (ws : List ℕ) (p k at issued agreed : ℕ) (s : Standing p k ws) → at ≡ atSecond p k
     → (r : Passed) → PassedBy L ws p k at issued agreed r → SecondPassed L p k issued agreed (secondFrom ws at) r

@@ -7,10 +7,10 @@ ghost use lib.ListN.{length};
 ghost use Rattle.base.specs.Choice.{every};
 ghost use Rattle.base.specs.Limits.{limitsOf, fieldLimit};
 ghost use Rattle.layout.specs.Places.{atFirst, atSecond};
-ghost use Rattle.layout.specs.Held.{firstFrom, unpacked};
+ghost use Rattle.layout.specs.Held.{unpacked};
 ghost use Rattle.stored.specs.Held.{isLow, heldTest};
 ghost use Rattle.scan.specs.Scan.{noScan, scanned, passes, reach, Gathered};
-ghost use Rattle.scan.specs.Pieces.{Standing, Summed, FirstPassed, FirstStep, SecondStep};
+ghost use Rattle.scan.specs.Pieces.{Standing, Summed, FirstStep, SecondStep};
 ghost use Rattle.scan.specs.Pieces.{Walking, WalkedAll, Ready, Scanned};
 use base::Bounds;
 use frame::Sent;
@@ -61,34 +61,14 @@ fn stored_ok(s: &[u32], limit: u32, awaits: bool, at: u32, end: u32) -> bool
     requires { ⌜ (at < end) × (end ≤ length (now s)) ⌝ }
     ensures { λ r. ⌜ r ≡ heldTest limit (now (s .entry)) awaits at end ⌝ }
 {
-    let mark = s[at as usize];
     let most = largest(s, at + layout::MARK, end);
-    if mark == 0 {
-        return most == 0;
-    }
-    if mark != 1 {
-        return false;
-    }
-    if !awaits {
-        return false;
-    }
-    most <= limit
-}
-
-// ---- A step before the position: its verdict decides, since a frame that agrees with sums within the limit is within it
-
-// Dimension k of pass 1 agrees; its numbers are then added to the sums.
-fn first_passed(b: Bounds, s: &[u32], sums: &mut [u32], p: u32, k: u32, at: u32) -> bool
-    requires { ⌜ Standing p k (now s) × Summed (limitsOf b) p k (now sums) × (at ≡ atFirst p k) ⌝ }
-    ensures { λ r.
-        ⌜ FirstPassed (limitsOf b) p k (firstFrom (now (s .entry)) p k at) (now (sums .entry)) (now (sums .exit)) r ⌝ }
-{
-    walk_tests::is_agreed(pass_one::verdict(b, s, sums, p, k, at))
+    walk_tests::may_stand(s[at as usize], most, awaits, limit)
 }
 
 // ---- A step
 
-// Dimension k of pass 1, whose words begin at a place.
+// Dimension k of pass 1, whose words begin at a place. Before the position its verdict decides, since a frame that agrees
+// with sums within the limit is within it.
 fn first_step(
     b: Bounds,
     s: &[u32],
@@ -108,7 +88,7 @@ fn first_step(
         ⌜ FirstStep (limitsOf b) (now (s .entry)) p k awaits tried (now (sums .entry)) (now (sums .exit)) r ⌝ }
 {
     if tried {
-        return first_passed(b, s, sums, p, k, at);
+        return pass_one::pass_step(b, s, sums, p, k, at);
     }
     let end = at + (2 * (p - k) + layout::FIRST);
     stored_ok(s, limit, awaits, at, end)

@@ -5,7 +5,7 @@ ghost use Prim.Native.Nat.{ℕ, _+_};
 ghost use lib.Dec.{ltb, leb, eqb};
 ghost use Rattle.base.specs.Choice.{choose, both};
 ghost use Rattle.survey.specs.Verdict.{isAgreed};
-ghost use Rattle.walk_tests.specs.Tests.{totalTested, firstFits, lastVerdict};
+ghost use Rattle.walk_tests.specs.Tests.{totalTested, mayStand, firstFits, lastVerdict};
 use frame::Sent;
 use frame::Taken;
 use survey::Verdict;
@@ -68,6 +68,24 @@ pub fn total_ok(pass: u8, agreed: u32, received: Taken) -> bool
         return agreed == 0;
     }
     agreed == received.0
+}
+
+// ---- What is stored for a step
+
+// What is stored may be there, by its mark and the largest of its numbers: nothing but 0, or a frame that is awaited.
+pub fn may_stand(mark: u32, most: u32, awaits: bool, limit: u32) -> bool
+    ensures { λ r. ⌜ r ≡ mayStand mark most awaits limit ⌝ }
+{
+    if mark == 0 {
+        return most == 0;
+    }
+    if mark != 1 {
+        return false;
+    }
+    if !awaits {
+        return false;
+    }
+    most <= limit
 }
 
 // ---- A step that is tried

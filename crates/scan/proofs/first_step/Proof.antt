@@ -9,7 +9,7 @@ use Rattle.base.specs.Limits.{Limits, limitsOf}
 use Rattle.base.proofs.Laws.{both-true}
 use Rattle.survey.specs.Pieces.{awaitsAt, firstPast}
 use Rattle.scan.proofs.Settled.{near, first-words}
-use Rattle.scan.proofs.Stepping.{first-open-done, first-passed-done}
+use Rattle.scan.proofs.Stepping.{first-passed, first-open-done, first-passed-done}
 use Rattle.scan.proofs.first_step.Statement.{statement}
 use Rattle.scan.proofs.first_step.Tie as tie
 
@@ -24,21 +24,19 @@ module _ (s : tie.Start) where
   abbrev before : List ℕ
   before = now (s .args .sums)
 
-first-passed-requires : tie.Need-first-passed-requires
-first-passed-requires c κs =
-    let s = c .before .before .before .before in
-    (s .pre .0, s .pre .1 (c .before .if1 .taken), s .pre .2)
-
 returns : tie.Need-returns
 returns c =
     let d = c .before .before in
     let i = d .before .before in
     let s = i .before .before .before in
+    let w = s .pre .1 (i .if1 .taken) in
+    let f = first-passed (L s) (ws s) (before s) (s .args .p) (s .args .k) (s .args .at) (s .pre .0) w (s .pre .2) _ _
+    (d .pass-step .ensures) in
     λ spot told.
     let q = both-true (awaitsAt spot (s .args .k)) (firstPast spot (s .args .k)) (told .tried ∙ i .if1 .taken) in
     first-passed-done (L s) (ws s) (before s) spot (s .args .k) (s .args .at) (rw (told .dims) (s .pre .0))
-    (rw (told .dims) (s .pre .2)) (rw (told .dims) (s .pre .1 (i .if1 .taken))) (q .0) (q .1)
-    (d .first-passed .last .1 .1 .0) (d .first-passed .result) (rw (told .dims) (d .first-passed .ensures))
+    (rw (told .dims) (s .pre .2)) (rw (told .dims) w) (q .0) (q .1) (d .pass-step .last .1 .1 .0) (d .pass-step .result)
+    (rw (told .dims) f)
 
 add-end-2 : tie.Need-add-end-2
 add-end-2 c =
@@ -63,5 +61,5 @@ returns-2 c =
 pub first-step-spec : {M : Type 1} → statement M
 first-step-spec =
     tie.close
-    (tie.spec first-passed-requires (λ c. search needs) returns (λ c. search needs) (λ c. search needs)
+    (tie.spec (λ c κs. search needs) (λ c. search needs) returns (λ c. search needs) (λ c. search needs)
     (λ c. search needs) add-end-2 stored-ok-requires returns-2)

@@ -1,57 +1,26 @@
 -- `stored_ok` is `heldTest`.
 use borrow.Author.Needs.{needs}
-use borrow.Author.Tests.{eq-eqb, ne-eqb, le-leb, lt-leb, not-true, not-false}
-use native.Mathlib.Decide.{decLe}
-use native.Mathlib.Omega.{arith}
+use denote.Ref.{now}
 use mathlib.Core.Path.{_≡_, _∙_}
-use Prim.Native.Nat.{ℕ, _≤_}
-use lib.Dec.{leb, eqb}
+use lib.Dec.{eqb}
+use Rattle.base.specs.Choice.{choose, both}
+use Rattle.layout.specs.Held.{word}
 use Rattle.stored.specs.Held.{heldTest}
 use Rattle.scan.proofs.stored_ok.Statement.{statement}
 use Rattle.scan.proofs.stored_ok.Tie as tie
 
--- none is above 0
-at-most-none : (x : ℕ) → eqb x 0 ≡ leb x 0
-at-most-none x = go (decLe x 0)
-  where
-    go : Dec (x ≤ 0) → eqb x 0 ≡ leb x 0
-    go (yes l) = rw (eq-eqb x 0 (omega arith), le-leb x 0 l)
-    go (no l) = rw (ne-eqb x 0 (λ e. omega arith), lt-leb x 0 (omega arith))
-
 returns : tie.Need-returns
 unfolding heldTest
 returns c =
-    at-most-none (c .before .largest .result) ∙ c .before .largest .ensures 0
-    ∙ rw (eq-eqb _ _ (c .if1 .taken))
-
-returns-2 : tie.Need-returns-2
-unfolding heldTest
-returns-2 c = rw (ne-eqb _ _ (c .before .if1 .left), ne-eqb _ _ (c .if2 .taken))
-
-returns-3 : tie.Need-returns-3
-unfolding heldTest
-returns-3 c =
-    let m = c .before in
-    rw (
-      ne-eqb _ _ (m .before .if1 .left),
-      eq-eqb _ _ (m .if2 .left),
-      not-true (m .before .before .before .before .before .args .awaits) (c .if3 .taken),
-    )
-
-returns-4 : tie.Need-returns-4
-unfolding heldTest
-returns-4 c =
-    let m = c .before in
-    let l = m .before .before in
-    rw (
-      ne-eqb _ _ (m .before .if1 .left),
-      eq-eqb _ _ (m .if2 .left),
-      not-false (l .before .before .before .args .awaits) (c .if3 .left),
-    )
-    (l .largest .ensures (l .before .before .before .args .limit))
+    let l = c .before .before in
+    let a = c .before .before .before .before .args in
+    let mark = word (now (a .s)) (a .at) in
+    c .may-stand .ensures
+    ∙ (λ i.
+    choose (eqb mark 0) (l .largest .ensures 0 i) (both (eqb mark 1) (both (a .awaits) (l .largest .ensures (a .limit) i))))
 
 pub stored-ok-spec : {M : Type 1} → statement M
 stored-ok-spec =
     tie.close
-    (tie.spec (λ c. search needs) (λ c. search needs) (λ c. search needs) (λ c κs. search needs) returns returns-2
-    returns-3 returns-4)
+    (tie.spec (λ c. search needs) (λ c κs. search needs) (λ c. search needs) (λ c. search needs) (λ c κs. search needs)
+    returns)
