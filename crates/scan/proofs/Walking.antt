@@ -13,7 +13,7 @@ use lib.ListN.{length}
 use borrow.Author.Count.{below-more}
 use borrow.Author.Tests.{lt-ltb, le-ltb, ltb-true, eqb-true, not-true}
 use Rattle.base.specs.Choice.{choose, both, either, every}
-use Rattle.base.specs.Limits.{Limits, fieldLimit, takenLimit, Fits}
+use Rattle.base.specs.Limits.{Limits, fieldLimit, takenLimit, Fits, width}
 use Rattle.base.proofs.Laws.{choose-yes, choose-no, both-true, every-at, every-make}
 use Rattle.base.proofs.Limits.{mul-low}
 use Rattle.tree.specs.Lookups.{badBoard}
@@ -36,7 +36,7 @@ use Rattle.survey.proofs.Valid.{fails, not-both}
 use Rattle.survey.proofs.Sums.{own-more, issued-more, sends-low, takes-low}
 use Rattle.survey.proofs.Steps.{few, clauses-same}
 use Rattle.survey.proofs.Tested.{stepAt, step-first, step-second}
-use Rattle.layout.specs.Places.{atFirst, atSecond}
+use Rattle.layout.specs.Places.{headWords, firstWords, secondWords, atFirst, atSecond}
 use Rattle.layout.specs.Held.{word, firstFrom, secondFrom, firstIn, secondIn, sumOf, unpacked, isMarked}
 use Rattle.layout.proofs.Offsets.{first-more}
 use Rattle.layout.proofs.Reading.{first-word, second-word, first-in, second-in}
@@ -44,13 +44,13 @@ use Rattle.head.specs.Head.{spotIn}
 use Rattle.head.proofs.Heads.{dims-is}
 use Rattle.scan.specs.Scan.{reach, confirmReach, Gathered}
 use Rattle.scan.specs.Pieces.{Standing, Summed, firstWhole, secondWhole, FirstDone, SecondDone, stepIn}
-use Rattle.scan.specs.Pieces.{Told, Walking, WalkedAll}
+use Rattle.scan.specs.Pieces.{Told, Stepped, Walking, WalkedAll}
 use Rattle.pass_two.specs.declared.Passed.{Passed}
 use Rattle.scan.proofs.Stepping.{has-room, sums-within, issued-within}
 
 -- ---- the frames of a dimension, by the walk's place
 
-module _ (ws : List ℕ) (k : ℕ) (low : k < dims (unpacked ws)) (bound : dims (unpacked ws) ≤ 8) where
+module _ (ws : List ℕ) (k : ℕ) (low : k < dims (unpacked ws)) (bound : dims (unpacked ws) ≤ width) where
   first-is : firstAt (unpacked ws) k ≡ firstFrom ws (dims (unpacked ws)) k (atFirst (dims (unpacked ws)) k)
   first-is =
       first-word ws k (omega arith)
@@ -252,14 +252,14 @@ pub record Held (L : Limits) (ws start : List ℕ) (k at : ℕ) (l : List ℕ) (
   pub steps : (j : ℕ) → j < k → stepIn L ws j ≡ true
 
 pub held-start : (L : Limits) (ws start : List ℕ) (here : Spot) (x : ℕ) → Walking L ws start here x
-    → Held L ws start 0 (8 + 2 * here .dims) start x
+    → Held L ws start 0 (headWords + 2 * here .dims) start x
 unfolding atFirst own ownIssued
 held-start L ws start here x w =
     let z : (r : ℕ) → 0 ≡ min 0 r = λ r. omega arith in
     let n = unpacked ws in
     record {
       low = omega arith;
-      place = ap (λ (s : Spot). 8 + 2 * s .dims) (w .spot);
+      place = ap (λ (s : Spot). headWords + 2 * s .dims) (w .spot);
       length = refl;
       sums = λ f h. w .sums f (rw (sym (z (reach n))) at h) ∙ ap (λ j. own n j f) (z (reach n));
       within = λ f h.
@@ -275,7 +275,7 @@ module _ (L : Limits) (fit : Fits L) (ws start : List ℕ) (here : Spot) (sends 
   abbrev n : Node
   n = unpacked ws
 
-  bound : dims n ≤ 8
+  bound : dims n ≤ width
   bound = few L fit n (w .board)
 
   module _ (l : k < dims n) where
@@ -336,9 +336,9 @@ module _ (L : Limits) (fit : Fits L) (ws start : List ℕ) (here : Spot) (sends 
           held .sums f (rw (sym u) at h) ∙ ap (λ j. own n j f) u)
           ∙ ap (firstWhole L (spotIn L ws) k (own n k) (word ws (atFirst (dims n) k))) (sym (first-is ws k l bound))
 
-      pub first-stops : t ≡ false → (x : Sent) → WalkedAll L ws start after (record { ok = false; issued = x })
-      first-stops e x =
-          stopped after _ (done .length) refl
+      first-stops : t ≡ false → (r : Passed) → r .ok ≡ false → WalkedAll L ws start after r
+      first-stops e r bad =
+          stopped after r (done .length) bad
           (sym (parts L ws k) ∙ ap (λ b. both b (secondPart L ws k)) (sym first-part ∙ e))
 
       -- ---- pass 2
@@ -362,7 +362,7 @@ module _ (L : Limits) (fit : Fits L) (ws start : List ℕ) (here : Spot) (sends 
         step : r .ok ≡ stepIn L ws k
         step = second-part ∙ ap (λ b. both b (secondPart L ws k)) (sym one ∙ first-part) ∙ parts L ws k
 
-        pub second-stops : r .ok ≡ false → WalkedAll L ws start after r
+        second-stops : r .ok ≡ false → WalkedAll L ws start after r
         second-stops e = stopped after r (done .length) e (sym step ∙ e)
 
         module _ (two : r .ok ≡ true) where
@@ -428,7 +428,7 @@ module _ (L : Limits) (fit : Fits L) (ws start : List ℕ) (here : Spot) (sends 
               issued-more L n k (step-second L n (w .board) k step-at)
               ∙ ap (λ (y : Confirm). ownIssued n k + y .issued .0) (second-is ws k l bound))
 
-          pub held-more : Held L ws start (k + 1) (at + (2 * (here .dims - k) + 3) + 3) after (r .issued .0)
+          held-more : Held L ws start (k + 1) (at + firstWords (here .dims) k + secondWords) after (r .issued .0)
           held-more =
               let same = ap (λ (s : Spot). s .dims) (w .spot) in
               let q : atFirst (dims n) (k + 1) ≡ atFirst (dims n) (suc k) = ap (atFirst (dims n)) (add-one k) in
@@ -444,6 +444,24 @@ module _ (L : Limits) (fit : Fits L) (ws start : List ℕ) (here : Spot) (sends 
                     (held .issued-low);
                 steps = below-more (λ j. stepIn L ws j ≡ true) k (held .steps) ok;
               }
+
+    -- ---- both passes
+
+    module _ (after : List ℕ) (r : Passed) (st : Stepped L ws here k issued sums after r) where
+      pub step-stops : r .ok ≡ false → WalkedAll L ws start after r
+      step-stops bad = go (st .ok) refl
+        where
+          go : (t : Bool) → st .ok ≡ t → WalkedAll L ws start after r
+          go true e = second-stops after (st .ok) (st .first) e r (st .second e) bad
+          go false e = first-stops after (st .ok) (st .first) e r bad
+
+      pub step-more : r .ok ≡ true → Held L ws start (k + 1) (at + firstWords (here .dims) k + secondWords) after (r .issued .0)
+      step-more good = go (st .ok) refl
+        where
+          go : (t : Bool) → st .ok ≡ t
+              → Held L ws start (k + 1) (at + firstWords (here .dims) k + secondWords) after (r .issued .0)
+          go true e = held-more after (st .ok) (st .first) e r (st .second e) good
+          go false e = not-both good (st .stops e)
 
   pub ended : dims n ≤ k → (r : Passed) → r .ok ≡ true → r .issued .0 ≡ issued → WalkedAll L ws start sums r
   ended l r e i =

@@ -1,7 +1,7 @@
 -- Definitions that only the contracts of private functions cite: the test of a step, and the sums that a walk over the
 -- stored frames gathers.
 use mathlib.Core.Path.{_≡_}
-use mathlib.Core.Bool.{Bool, true, not}
+use mathlib.Core.Bool.{Bool, true, false, not}
 use mathlib.Core.List.{List}
 use Prim.Native.Nat.{ℕ, suc, _+_, _≤_, _<_}
 use lib.Dec.{ltb}
@@ -91,6 +91,21 @@ abbrev pub SecondStep : Limits → List ℕ → ℕ → ℕ → Bool → Bool �
 SecondStep L ws p k awaits tried issued agreed r =
     (spot : Spot) → Told spot p k awaits (secondPast spot k) tried → spot .agreed ≡ agreed
     → SecondDone L ws spot k issued r
+
+-- what a step is handed
+pub record Steps (L : Limits) (ws sums : List ℕ) (spot : Spot) (k at sends : ℕ) : Type 0 where
+  pub standing : Standing (spot .dims) k ws
+  pub summed : firstPast spot k ≡ true → Summed L (spot .dims) k sums
+  pub place : at ≡ atFirst (spot .dims) k
+  pub issued : sends ≤ fieldLimit L
+  pub agreed : spot .agreed ≤ fieldLimit L
+
+-- and what it does: pass 1, and pass 2 where that passes
+pub record Stepped (L : Limits) (ws : List ℕ) (spot : Spot) (k issued : ℕ) (before after : List ℕ) (r : Passed) : Type 0 where
+  pub ok : Bool
+  pub first : FirstDone L ws spot k before after ok
+  pub stops : ok ≡ false → r .ok ≡ false
+  pub second : ok ≡ true → SecondDone L ws spot k issued r
 
 -- ---- The walk over the stored frames
 

@@ -10,7 +10,7 @@ ghost use Rattle.layout.specs.Places.{atFirst, atSecond};
 ghost use Rattle.layout.specs.Held.{unpacked};
 ghost use Rattle.stored.specs.Held.{isLow, heldTest};
 ghost use Rattle.scan.specs.Scan.{noScan, scanned, passes, reach, Gathered};
-ghost use Rattle.scan.specs.Pieces.{Standing, Summed, FirstStep, SecondStep};
+ghost use Rattle.scan.specs.Pieces.{Standing, Summed, FirstStep, SecondStep, Steps, Stepped};
 ghost use Rattle.scan.specs.Pieces.{Walking, WalkedAll, Ready, Scanned};
 use base::Bounds;
 use frame::Sent;
@@ -123,6 +123,28 @@ fn second_step(
     }
 }
 
+// Dimension k in both passes, whose words begin at a place, with the own sum of total sent in pass 2.
+fn step(b: Bounds, s: &[u32], sums: &mut [u32], spot: Spot, k: u32, at: u32, issued: Sent) -> Passed
+    requires { ⌜ Steps (limitsOf b) (now s) (now sums) spot k at (issued .0) ⌝ }
+    ensures { λ r. ⌜ Stepped (limitsOf b) (now (s .entry)) spot k (issued .0) (now (sums .entry)) (now (sums .exit)) r ⌝ }
+{
+    let p = spot.dims;
+    let limit = base::field_limit(b);
+    let awaits = walk_tests::awaits_at(spot.alone, k);
+    let firsts = walk_tests::before_position(spot.pass, spot.dim, p);
+    let one = walk_tests::is_tried(awaits, k, firsts);
+    if !first_step(b, s, sums, limit, p, k, at, awaits, one) {
+        return Passed {
+            ok: false,
+            issued: issued,
+        };
+    }
+    let after = at + (2 * (p - k) + layout::FIRST);
+    let seconds = walk_tests::before_position(spot.pass, 0, spot.dim);
+    let two = walk_tests::is_tried(awaits, k, seconds);
+    second_step(b, s, limit, p, k, after, awaits, two, issued, spot.agreed)
+}
+
 // ---- The walk over the stored frames
 
 // Tests all dimensions and gathers the sums, which are those before any frame is added.
@@ -131,41 +153,17 @@ fn walk(b: Bounds, s: &[u32], sums: &mut [u32], spot: Spot, sends: Sent) -> Pass
     ensures { λ r. ⌜ WalkedAll (limitsOf b) (now (s .entry)) (now (sums .entry)) (now (sums .exit)) r ⌝ }
 {
     let p = spot.dims;
-    let limit = base::field_limit(b);
-    let firsts = walk_tests::before_position(spot.pass, spot.dim, p);
-    let seconds = walk_tests::before_position(spot.pass, 0, spot.dim);
     let mut walked = Passed {
         ok: true,
         issued: sends,
     };
     let mut at = layout::HEAD + 2 * p;
     for k in 0..p {
-        let awaits = walk_tests::awaits_at(spot.alone, k);
-        let one = walk_tests::is_tried(awaits, k, firsts);
-        if !first_step(b, s, sums, limit, p, k, at, awaits, one) {
-            return Passed {
-                ok: false,
-                issued: sends,
-            };
-        }
-        at = at + (2 * (p - k) + layout::FIRST);
-        let two = walk_tests::is_tried(awaits, k, seconds);
-        walked = second_step(
-            b,
-            s,
-            limit,
-            p,
-            k,
-            at,
-            awaits,
-            two,
-            walked.issued,
-            spot.agreed,
-        );
+        walked = step(b, s, &mut *sums, spot, k, at, walked.issued);
         if !walked.ok {
             return walked;
         }
-        at = at + layout::SECOND;
+        at = at + (2 * (p - k) + layout::FIRST) + layout::SECOND;
     }
     walked
 }
