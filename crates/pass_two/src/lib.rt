@@ -6,6 +6,7 @@ ghost use lib.ListN.{length};
 ghost use Rattle.base.specs.Limits.{limitsOf};
 ghost use Rattle.node.specs.Agree.{secondClauses};
 ghost use Rattle.survey.specs.Verdict.{isVerdict};
+ghost use Rattle.layout.specs.Places.{secondWords, mostWords};
 ghost use Rattle.layout.specs.Held.{secondFrom};
 ghost use Rattle.pass_two.specs.Tried.{isFitting, secondTried, PassedBy};
 use base::Bounds;
@@ -14,7 +15,7 @@ use survey::Verdict;
 
 // The clauses of dimension k, whose words begin at a place, with the own sum of total sent and T.
 fn tried(b: Bounds, s: &[u32], p: u32, k: u32, at: u32, issued: Sent, agreed: u32) -> Verdict
-    requires { ⌜ (k < p) × (at ≤ 144) × (at + 3 ≤ length (now s)) ⌝ }
+    requires { ⌜ (k < p) × (at ≤ mostWords) × (at + secondWords ≤ length (now s)) ⌝ }
     ensures { λ r.
         ⌜ isVerdict (secondClauses (limitsOf b) p k (issued .0) agreed (secondFrom (now (s .entry)) at)) r ≡ true ⌝ }
 {

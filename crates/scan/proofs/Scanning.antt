@@ -10,7 +10,7 @@ use lib.Dec.{eqb, leb}
 use lib.ListN.{length}
 use borrow.Author.Tests.{lt-ltb, le-ltb, le-leb, eq-eqb, ltb-true, leb-true}
 use Rattle.base.specs.Choice.{choose, both}
-use Rattle.base.specs.Limits.{Limits, fieldLimit, takenLimit, Fits}
+use Rattle.base.specs.Limits.{Limits, fieldLimit, takenLimit, Fits, width}
 use Rattle.base.proofs.Laws.{choose-yes, choose-no, both-true, both-make, every-at, every-make}
 use Rattle.frame.specs.Frame.{sentNumber, takenNumber, sentAt, takenAt}
 use Rattle.node.specs.Sums.{dims, Field, Has, sentIn, takenIn, allSent, allTaken, tally, total, own, ownIssued}
@@ -24,7 +24,7 @@ use Rattle.survey.proofs.Valid as survey
 use Rattle.survey.proofs.Sums.{sends-low, takes-low}
 use Rattle.survey.proofs.Tested.{stepAt, whole-step, step-past}
 use Rattle.survey.proofs.Exits.{bad-total, good-total, found}
-use Rattle.layout.specs.Places.{atFirst, atSecond, stateWords, sumWords}
+use Rattle.layout.specs.Places.{headWords, atSent, atTaken, atFirst, atSecond, stateWords, sumReceived, sumWords}
 use Rattle.layout.specs.Held.{word, dimsOf, sumOf, unpacked, isMarked, isWhole, isReady}
 use Rattle.layout.proofs.Offsets.{first-above}
 use Rattle.layout.proofs.Whole.{whole, whole-made, few}
@@ -94,27 +94,27 @@ module _ (L : Limits) (fit : Fits L) (room : ℕ) (ws : List ℕ) (head : Passin
   same : p ≡ dimsOf ws
   same = equal ∙ dims-is ws
 
-  pub few-dims : p ≤ 8
+  pub few-dims : p ≤ width
   few-dims = omega (arith, same, few L fit ws (head .good))
 
-  sent-at : (m : ℕ) → m < p → sentAt (n .sent) m ≡ word ws (8 + m)
+  sent-at : (m : ℕ) → m < p → sentAt (n .sent) m ≡ word ws (atSent m)
   sent-at m l =
       sent-word ws m (omega (arith, few-dims)) ∙ choose-yes _ _ (lt-ltb m (dimsOf ws) (omega (arith, same)))
 
-  taken-at : (m : ℕ) → m < p → takenAt (n .taken) m ≡ word ws (8 + p + m)
+  taken-at : (m : ℕ) → m < p → takenAt (n .taken) m ≡ word ws (atTaken p m)
   taken-at m l =
       taken-word ws m (omega (arith, few-dims))
       ∙ choose-yes _ _ (lt-ltb m (dimsOf ws) (omega (arith, same)))
-      ∙ ap (λ q. word ws (8 + q + m)) (sym same)
+      ∙ ap (λ q. word ws (atTaken q m)) (sym same)
 
   sends-are : sentTotal p ws ≡ tally n allSent
   sends-are =
-      total-same (λ m. word ws (8 + m)) (sentAt (n .sent)) p (λ m l. sym (sent-at m l))
+      total-same (λ m. word ws (atSent m)) (sentAt (n .sent)) p (λ m l. sym (sent-at m l))
       ∙ ap (total (sentAt (n .sent))) equal
 
   takes-are : takenTotal p ws ≡ tally n allTaken
   takes-are =
-      total-same (λ m. word ws (8 + p + m)) (takenAt (n .taken)) p (λ m l. sym (taken-at m l))
+      total-same (λ m. word ws (atTaken p m)) (takenAt (n .taken)) p (λ m l. sym (taken-at m l))
       ∙ ap (total (takenAt (n .taken))) equal
 
   pub tallies-fail : (Tallied L p ws room → ⊥) → passes L room ws ≡ false
@@ -138,7 +138,7 @@ module _ (L : Limits) (fit : Fits L) (room : ℕ) (ws : List ℕ) (head : Passin
 
   module _ (t : Tallied L p ws room) where
     -- a shell that the board does not have
-    no-shell : (m : ℕ) → dims n ≤ m → m < 8 → (tally n (sentIn m) ≡ 0) × (tally n (takenIn m) ≡ 0)
+    no-shell : (m : ℕ) → dims n ≤ m → m < width → (tally n (sentIn m) ≡ 0) × (tally n (takenIn m) ≡ 0)
     no-shell m a c =
         let e = le-ltb m (dimsOf ws) (omega (arith, dims-is ws)) in
         (sent-word ws m c ∙ choose-no _ _ e, taken-word ws m c ∙ choose-no _ _ e)
@@ -149,7 +149,7 @@ module _ (L : Limits) (fit : Fits L) (room : ℕ) (ws : List ℕ) (head : Passin
         both-make
         (both-make (le-leb (tally n allSent) (L .sends) (omega (arith, t .sends, sends-are)))
         (le-leb (tally n allTaken) (takenLimit L) (omega (arith, t .takes, takes-are))))
-        (every-make (dims n) (8 - dims n) (λ m. both (eqb (tally n (sentIn m)) 0) (eqb (tally n (takenIn m)) 0))
+        (every-make (dims n) (width - dims n) (λ m. both (eqb (tally n (sentIn m)) 0) (eqb (tally n (takenIn m)) 0))
         (λ m a c.
         let z = no-shell m a (omega arith) in
         both-make (eq-eqb (tally n (sentIn m)) 0 (z .0)) (eq-eqb (tally n (takenIn m)) 0 (z .1))))
@@ -161,7 +161,7 @@ module _ (L : Limits) (fit : Fits L) (room : ℕ) (ws : List ℕ) (head : Passin
         go : (f : Field) → Has p 0 f → sumOf p after f ≡ own n 0 f
         go (sentIn m) h = s .tallies m (omega arith) ∙ sym (sent-at m (h .1))
         go (takenIn m) h =
-            let e : 8 + (p + m) ≡ 8 + p + m = omega arith in
+            let e : headWords + (p + m) ≡ atTaken p m = omega arith in
             s .tallies (p + m) (omega arith) ∙ ap (word ws) e ∙ sym (taken-at m (h .1))
         go allSent h = s .issued ∙ sends-are
         go allTaken h = s .received ∙ takes-are
@@ -191,7 +191,7 @@ module _ (L : Limits) (fit : Fits L) (room : ℕ) (ws : List ℕ) (head : Passin
         (both-make (lt-ltb _ _ (q .first k (omega (arith, dims-is ws))))
         (lt-ltb _ _ (q .second k (omega (arith, dims-is ws)))))
 
-    pub step-fails : (start after : List ℕ) (r : Passed) → WalkedAll L ws start after r → r .ok ≡ false
+    step-fails : (start after : List ℕ) (r : Passed) → WalkedAll L ws start after r → r .ok ≡ false
         → passes L room ws ≡ false
     unfolding stepIn
     step-fails start after r w e =
@@ -211,7 +211,7 @@ module _ (L : Limits) (fit : Fits L) (room : ℕ) (ws : List ℕ) (head : Passin
           both-true (isMarked ws (dims n) k) (stepAt L n k)
           (every-at 0 (dims n) (stepIn L ws) (sym (w .ok) ∙ ok) k (omega arith) (omega arith))
 
-      all-steps : (k : ℕ) → k < 8 → stepAt L n k ≡ true
+      all-steps : (k : ℕ) → k < width → stepAt L n k ≡ true
       all-steps k l = go (decLt k (dims n))
         where
           go : Dec (k < dims n) → stepAt L n k ≡ true
@@ -224,13 +224,13 @@ module _ (L : Limits) (fit : Fits L) (room : ℕ) (ws : List ℕ) (head : Passin
       -- ---- T
 
       abbrev test : Bool
-      test = totalTested (here .pass) (here .agreed) (word after (2 * p + 1))
+      test = totalTested (here .pass) (here .agreed) (word after (sumReceived p))
 
       total-is : both (leb (n .agreed) (fieldLimit L)) test ≡ totalTest L (n .pass) (n .agreed) (own n (dims n) allTaken)
       total-is =
           (λ i.
           both (leb (n .agreed) (fieldLimit L))
-          (totalTested (spot i .pass) (spot i .agreed) (word after (2 * spot i .dims + 1))))
+          (totalTested (spot i .pass) (spot i .agreed) (word after (sumReceived (spot i .dims)))))
           ∙ ap (λ x. both (leb (n .agreed) (fieldLimit L)) (totalTested (n .pass) (n .agreed) x)) (w .sums ok allTaken tt)
           ∙ go (eqb (n .pass) 1)
         where
@@ -244,7 +244,7 @@ module _ (L : Limits) (fit : Fits L) (room : ℕ) (ws : List ℕ) (head : Passin
       low-total : leb (n .agreed) (fieldLimit L) ≡ true
       low-total = le-leb _ _ (head .agreed)
 
-      pub total-fails : test ≡ false → passes L room ws ≡ false
+      total-fails : test ≡ false → passes L room ws ≡ false
       total-fails f =
           not-passing L room ws
           (λ u v s.
@@ -298,3 +298,13 @@ module _ (L : Limits) (fit : Fits L) (room : ℕ) (ws : List ℕ) (head : Passin
               ∙ sym (choose-yes _ _ (ap (λ m. passes L m ws) q ∙ passing)),
           ((λ u. w .sums ok), len),
         )
+
+    -- a step fails, or T does
+    pub settled-not : (start after : List ℕ) (r : Passed) → WalkedAll L ws start after r
+        → both (r .ok) (totalTested (here .pass) (here .agreed) (word after (sumReceived p))) ≡ false
+        → passes L room ws ≡ false
+    settled-not start after r w e = go (r .ok) refl
+      where
+        go : (t : Bool) → r .ok ≡ t → passes L room ws ≡ false
+        go true q = total-fails start after r w q (rw q at e)
+        go false q = step-fails start after r w q

@@ -10,7 +10,7 @@ use lib.Dec.{ltb}
 use lib.ListN.{length}
 use borrow.Author.Tests.{lt-ltb, le-leb, eqb-true}
 use Rattle.base.specs.Choice.{both, either}
-use Rattle.base.specs.Limits.{Limits, fieldLimit}
+use Rattle.base.specs.Limits.{Limits, fieldLimit, width}
 use Rattle.base.proofs.Laws.{clash, choose-yes, both-make}
 use Rattle.base.proofs.Limits.{mul-low}
 use Rattle.node.specs.Sums.{Field, sentIn, takenIn, allSent, allTaken, number}
@@ -18,7 +18,7 @@ use Rattle.node.specs.Agree.{firstClauses, secondClauses, allHold}
 use Rattle.node.specs.declared.Stored.{Stored}
 use Rattle.node.specs.Sums.{Has}
 use Rattle.node.proofs.Clauses.{FirstAgrees, first-known, second-known}
-use Rattle.layout.specs.Places.{atFirst, atSecond, firstWords, stateWords, sumWords}
+use Rattle.layout.specs.Places.{atFirst, atSecond, firstWords, secondWords, stepWords, stateWords, mostWords, sumWords}
 use Rattle.layout.specs.Held.{word, firstFrom, secondFrom, sumOf}
 use Rattle.layout.proofs.Offsets.{first-inside, words-closed, most-words}
 use Rattle.survey.specs.Pieces.{firstTest, secondTest, awaitsAt, firstPast, secondPast, firstHeld, secondHeld}
@@ -32,12 +32,12 @@ use Rattle.scan.specs.Pieces.{Standing, Summed, firstWhole, secondWhole}
 -- ---- the places of a step
 
 module _ (p k : ℕ) (ws : List ℕ) (s : Standing p k ws) where
-  pub inside : atFirst p k + (2 * (p - k) + 6) ≤ length ws
+  pub inside : atFirst p k + stepWords p k ≤ length ws
   inside = omega (arith, first-inside p k (s .low), s .long)
 
-  pub near : atFirst p k + (2 * (p - k) + 6) ≤ 144
+  pub near : atFirst p k + stepWords p k ≤ mostWords
   near =
-      omega (arith, first-inside p k (s .low), words-closed p, mul-low p 8 (p + 9) 17 (s .few) (let f = s .few in omega arith))
+      omega (arith, first-inside p k (s .low), words-closed p, mul-low p width (p + 9) 17 (s .few) (let f = s .few in omega arith))
 
   pub first-tried : (L : Limits) (sums : List ℕ) → sumWords p ≤ length sums
       → firstTried L ws sums p k (atFirst p k) ≡ firstClauses L p k (sumOf p sums) (firstFrom ws p k (atFirst p k))
@@ -45,7 +45,7 @@ module _ (p k : ℕ) (ws : List ℕ) (s : Standing p k ws) where
       choose-yes _ _
       (both-make (lt-ltb _ _ (s .low))
       (both-make (le-leb _ _ (s .few))
-      (both-make (le-leb (atFirst p k) (stateWords 8) (omega (arith, near, most-words)))
+      (both-make (le-leb (atFirst p k) (stateWords width) (omega (arith, near, most-words)))
       (both-make (le-leb (atFirst p k + firstWords p k) (length ws) (omega (arith, inside)))
       (le-leb (sumWords p) (length sums) wide)))))
 
@@ -55,18 +55,18 @@ module _ (p k : ℕ) (ws : List ℕ) (s : Standing p k ws) where
   second-tried L issued agreed =
       choose-yes _ _
       (both-make (lt-ltb _ _ (s .low))
-      (both-make (le-leb (atSecond p k) (stateWords 8) (omega (arith, near, most-words)))
-      (le-leb (atSecond p k + 3) (length ws) (omega (arith, inside)))))
+      (both-make (le-leb (atSecond p k) (stateWords width) (omega (arith, near, most-words)))
+      (le-leb (atSecond p k + secondWords) (length ws) (omega (arith, inside)))))
 
-  pub first-words : atFirst p k + (2 * (p - k) + 3) ≤ length ws
+  pub first-words : atFirst p k + firstWords p k ≤ length ws
   first-words = omega (arith, inside)
 
-  pub second-words : atSecond p k + 3 ≤ length ws
+  pub second-words : atSecond p k + secondWords ≤ length ws
   second-words = omega (arith, inside)
 
 -- ---- a frame that agrees is within the limit
 
-module _ (L : Limits) (ws sums : List ℕ) (p k at : ℕ) (low : k < p) (few : p ≤ 8) (w : Summed L p k sums)
+module _ (L : Limits) (ws sums : List ℕ) (p k at : ℕ) (low : k < p) (few : p ≤ width) (w : Summed L p k sums)
     (a : FirstAgrees L p k (sumOf p sums) (firstFrom ws p k at)) where
   abbrev x : Stored
   x = firstFrom ws p k at
@@ -137,7 +137,7 @@ module _ (L : Limits) (spot : Spot) (k : ℕ) (ws : List ℕ) (s : Standing (spo
 
   -- a step that is not tried: what is stored may be there
   pub first-open : (sums : List ℕ) → both (awaitsAt spot k) (firstPast spot k) ≡ false
-      → heldTest (fieldLimit L) ws (awaitsAt spot k) at (at + (2 * (p - k) + 3))
+      → heldTest (fieldLimit L) ws (awaitsAt spot k) at (at + firstWords p k)
       ≡ firstWhole L spot k (sumOf p sums) (word ws at) first
   unfolding firstWhole firstHeld
   first-open sums e =
@@ -161,7 +161,7 @@ module _ (L : Limits) (spot : Spot) (k : ℕ) (ws : List ℕ) (s : Standing (spo
       second-low L ws second true (eqb-true _ 1 (a .stored)) (omega (arith, a .same)) (omega (arith, a .within))))
 
   pub second-open : (issued : ℕ) → both (awaitsAt spot k) (secondPast spot k) ≡ false
-      → heldTest (fieldLimit L) ws (awaitsAt spot k) second (second + 3)
+      → heldTest (fieldLimit L) ws (awaitsAt spot k) second (second + secondWords)
       ≡ secondWhole L spot k issued (word ws second) (secondFrom ws second)
   unfolding secondWhole secondHeld
   second-open issued e =

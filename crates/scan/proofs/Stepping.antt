@@ -8,7 +8,7 @@ use native.Mathlib.Omega.{arith}
 use lib.Dec.{ltb}
 use lib.ListN.{length}
 use Rattle.base.specs.Choice.{choose, both}
-use Rattle.base.specs.Limits.{Limits, fieldLimit}
+use Rattle.base.specs.Limits.{Limits, fieldLimit, width}
 use Rattle.base.proofs.Laws.{both-true}
 use Rattle.frame.specs.declared.Sent.{Sent}
 use Rattle.node.specs.Sums.{Field, sentIn, takenIn, allSent, allTaken, number}
@@ -17,7 +17,7 @@ use Rattle.node.specs.declared.Stored.{Stored}
 use Rattle.node.specs.declared.Confirm.{Confirm}
 use Rattle.node.specs.Sums.{Has as InFrame}
 use Rattle.node.proofs.Clauses.{has-lower, first-known, second-known}
-use Rattle.layout.specs.Places.{atFirst, atSecond}
+use Rattle.layout.specs.Places.{firstWords, secondWords, atFirst, atSecond}
 use Rattle.layout.specs.Held.{word, firstFrom, secondFrom, sumOf}
 use Rattle.survey.specs.Pieces.{firstTest, secondTest, awaitsAt, firstPast, secondPast, firstHeld, secondHeld}
 use Rattle.survey.specs.declared.Spot.{Spot}
@@ -62,7 +62,7 @@ second-passed L ws p k at issued agreed s e r d =
 -- ---- any step
 
 -- the fields of a board have room in a state
-pub has-room : (p j : ℕ) → p ≤ 8 → (f : Field) → InFrame p j f → Has f
+pub has-room : (p j : ℕ) → p ≤ width → (f : Field) → InFrame p j f → Has f
 has-room p j l (sentIn m) h = omega arith
 has-room p j l (takenIn m) h = omega arith
 has-room p j l allSent h = tt
@@ -97,7 +97,7 @@ module _ (L : Limits) (ws before : List ℕ) (spot : Spot) (k at : ℕ) (s : Sta
   one = first (atFirst p k)
 
   abbrev held : ℕ → ℕ → Bool → Bool
-  held a limit awaits = heldTest limit ws awaits a (a + (2 * (p - k) + 3))
+  held a limit awaits = heldTest limit ws awaits a (a + firstWords p k)
 
   -- where nobody is awaited nothing is stored
   none-first : awaitsAt spot k ≡ false → firstWhole L spot k (sumOf p before) (word ws (atFirst p k)) one ≡ true
@@ -168,7 +168,7 @@ module _ (L : Limits) (ws : List ℕ) (spot : Spot) (k at issued : ℕ) (s : Sta
   two = secondFrom ws there
 
   abbrev kept : ℕ → ℕ → Bool → Bool
-  kept a limit awaits = heldTest limit ws awaits a (a + 3)
+  kept a limit awaits = heldTest limit ws awaits a (a + secondWords)
 
   none-second : awaitsAt spot k ≡ false → secondWhole L spot k issued (word ws there) two ≡ true → two .issued .0 ≡ 0
   unfolding secondWhole

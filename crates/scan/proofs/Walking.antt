@@ -36,7 +36,7 @@ use Rattle.survey.proofs.Valid.{fails, not-both}
 use Rattle.survey.proofs.Sums.{own-more, issued-more, sends-low, takes-low}
 use Rattle.survey.proofs.Steps.{few, clauses-same}
 use Rattle.survey.proofs.Tested.{stepAt, step-first, step-second}
-use Rattle.layout.specs.Places.{headWords, firstWords, secondWords, atFirst, atSecond}
+use Rattle.layout.specs.Places.{headWords, firstWords, secondWords, atFirst, atSecond, confirmedPlace}
 use Rattle.layout.specs.Held.{word, firstFrom, secondFrom, firstIn, secondIn, sumOf, unpacked, isMarked}
 use Rattle.layout.proofs.Offsets.{first-more}
 use Rattle.layout.proofs.Reading.{first-word, second-word, first-in, second-in}
@@ -422,7 +422,7 @@ module _ (L : Limits) (fit : Fits L) (ws start : List ℕ) (here : Spot) (sends 
           issued-more' : r .issued .0 ≡ ownIssued n (min (k + 1) (confirmReach n))
           issued-more' =
               second-done .more two
-              ∙ grown (ownIssued n) (confirmReach n) k issued (word ws (atSecond (dims n) k + 2))
+              ∙ grown (ownIssued n) (confirmReach n) k issued (word ws (confirmedPlace (atSecond (dims n) k)))
               (secondPast (spotIn L ws) k) (second-reach (spotIn L ws) k) (held .issued)
               (λ i.
               issued-more L n k (step-second L n (w .board) k step-at)

@@ -13,7 +13,7 @@ use Rattle.node.specs.Agree.{firstClauses, secondClauses, allHold}
 use Rattle.node.specs.State.{boardOk, positionOk, talliesOk}
 use Rattle.node.specs.declared.Stored.{Stored}
 use Rattle.node.specs.declared.Confirm.{Confirm}
-use Rattle.layout.specs.Places.{atFirst, atSecond, stateWords, sumWords}
+use Rattle.layout.specs.Places.{atFirst, atSecond, confirmedPlace, stateWords, sumWords}
 use Rattle.layout.specs.Held.{word, firstFrom, secondFrom, sumOf, unpacked, isMarked}
 use Rattle.survey.specs.Pieces.{firstTest, secondTest, awaitsAt, firstPast, secondPast, firstHeld, secondHeld, stepTest}
 use Rattle.survey.specs.declared.Spot.{Spot}
@@ -75,7 +75,7 @@ pub record SecondDone (L : Limits) (ws : List ℕ) (spot : Spot) (k issued : ℕ
   pub ok : let at = atSecond (spot .dims) k in
       r .ok ≡ secondWhole L spot k issued (word ws at) (secondFrom ws at)
   pub more : r .ok ≡ true
-      → r .issued .0 ≡ issued + choose (secondPast spot k) (word ws (atSecond (spot .dims) k + 2)) 0
+      → r .issued .0 ≡ issued + choose (secondPast spot k) (word ws (confirmedPlace (atSecond (spot .dims) k))) 0
 
 -- what a step is handed is what a spot says of dimension k
 pub record Told (spot : Spot) (p k : ℕ) (a past t : Bool) : Type 0 where

@@ -175,12 +175,9 @@ fn scan_steps(b: Bounds, s: &[u32], sums: &mut [u32], spot: Spot, sends: Sent, t
     requires { ⌜ Ready (limitsOf b) (now s) (now sums) spot (sends .0) (takes .0) ⌝ }
     ensures { λ r. ⌜ Scanned (limitsOf b) (now (s .entry)) (now (sums .entry)) (now (sums .exit)) r ⌝ }
 {
-    let walked = walk(b, s, sums, spot, sends);
-    if !walked.ok {
-        return no_scan();
-    }
+    let walked = walk(b, s, &mut *sums, spot, sends);
     let received = Taken(sums[(2 * spot.dims + 1) as usize]);
-    if !walk_tests::total_ok(spot.pass, spot.agreed, received) {
+    if !walk_tests::total_ok(walked.ok, spot.pass, spot.agreed, received) {
         return no_scan();
     }
     let issued = walked.issued;

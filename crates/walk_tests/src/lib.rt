@@ -60,10 +60,13 @@ pub fn is_agreed(v: Verdict) -> bool
     }
 }
 
-// T is what the pass gives.
-pub fn total_ok(pass: u8, agreed: u32, received: Taken) -> bool
-    ensures { λ r. ⌜ r ≡ totalTested pass agreed (received .0) ⌝ }
+// All steps pass, and T is what the pass gives.
+pub fn total_ok(passed: bool, pass: u8, agreed: u32, received: Taken) -> bool
+    ensures { λ r. ⌜ r ≡ both passed (totalTested pass agreed (received .0)) ⌝ }
 {
+    if !passed {
+        return false;
+    }
     if pass == 1 {
         return agreed == 0;
     }

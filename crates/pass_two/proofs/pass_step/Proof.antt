@@ -14,6 +14,7 @@ use Rattle.base.proofs.Limits.{fits-of, field-low}
 use Rattle.node.specs.Agree.{allHold}
 use Rattle.node.proofs.Clauses.{second-known}
 use Rattle.survey.specs.Verdict.{isAgreed}
+use Rattle.layout.specs.Places.{secondWords, mostWords, confirmedPlace}
 use Rattle.layout.specs.Held.{word, secondFrom}
 use Rattle.walk_tests.proofs.Agreed.{agreed-is}
 use Rattle.pass_two.specs.Tried.{isFitting, secondTried}
@@ -59,20 +60,20 @@ module _ (e : tie.Else1) where
       let a = e .before .is-agreed in
       sym (told v) ∙ sym (a .ensures) ∙ not-false (a .result) (e .if1 .left)
 
-  there : (begun .args .k < begun .args .p) × (begun .args .at ≤ 144) × (begun .args .at + 3 ≤ length (ws v))
+  there : (begun .args .k < begun .args .p) × (begun .args .at ≤ mostWords) × (begun .args .at + secondWords ≤ length (ws v))
   there =
       let a = begun .args in
       fitting-known (a .p) (a .k) (a .at) (length (ws v))
       (held-there (isFitting (a .p) (a .k) (a .at) (length (ws v))) _ holds .0)
 
-  low : begun .args .issued .0 + word (ws v) (begun .args .at + 2) ≤ fieldLimit (L v)
+  low : begun .args .issued .0 + word (ws v) (confirmedPlace (begun .args .at)) ≤ fieldLimit (L v)
   low =
       let a = begun .args in
       second-known (L v) (a .p) (a .k) (a .issued .0) (a .agreed) (secondFrom (ws v) (a .at))
       (held-there (isFitting (a .p) (a .k) (a .at) (length (ws v))) _ holds .1)
       .within
 
-  sum-low : begun .args .issued .0 + word (ws v) (begun .args .at + 2) ≤ 4294967295
+  sum-low : begun .args .issued .0 + word (ws v) (confirmedPlace (begun .args .at)) ≤ 4294967295
   sum-low =
       let fit = fits-of (begun .args .b) (omega (arith, begun .good .0)) (omega (arith, begun .good .0)) in
       omega (arith, low, field-low (L v) fit)

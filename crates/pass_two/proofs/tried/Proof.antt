@@ -14,6 +14,7 @@ use Rattle.base.proofs.Laws.{choose-yes, choose-no}
 use Rattle.node.specs.Agree.{secondClauses, allHold, mayName}
 use Rattle.node.specs.declared.Confirm.{Confirm}
 use Rattle.survey.proofs.Clauses.{second-0, second-3, second-5, second-6, second-agrees}
+use Rattle.layout.specs.Places.{confirmedPlace}
 use Rattle.layout.specs.Held.{word, secondFrom}
 use Rattle.pass_two.proofs.tried.Statement.{statement}
 use Rattle.pass_two.proofs.tried.Tie as tie
@@ -27,7 +28,7 @@ module _ (s : tie.Start) where
   frame = secondFrom (now (s .args .s)) (s .args .at)
 
   abbrev sum : ℕ
-  sum = s .args .issued .0 + word (now (s .args .s)) (s .args .at + 2)
+  sum = s .args .issued .0 + word (now (s .args .s)) (confirmedPlace (s .args .at))
 
 abbrev start : tie.Else1 → tie.Start
 start e = e .before .before .before
