@@ -1,3 +1,2 @@
-mod Pairs
 pub mod Adding
 pub mod Judging

@@ -4,49 +4,45 @@ ghost use mathlib.Core.Path.{_≡_};
 ghost use mathlib.Core.Bool.{true};
 ghost use Prim.Native.Nat.{_<_};
 ghost use lib.ListN.{length};
-ghost use Rattle.base.specs.Choice.{choose};
 ghost use Rattle.base.specs.Limits.{limitsOf};
 ghost use Rattle.survey.specs.Verdict.{isVerdict};
 ghost use Rattle.layout.specs.Held.{firstFrom, sumOf};
 ghost use Rattle.pass_one.specs.Tried.{firstTried, Added, PassedBy};
-ghost use Rattle.pass_one.specs.Pieces.{FirstAt, Opened, pairFits, pairAdded, AddedShells, Judged};
+ghost use Rattle.pass_one.specs.Pieces.{FirstAt, Opened, AddedAt, AddedShells, AddedTotals, Judged};
 use base::Bounds;
 use frame::Sent;
 use frame::Taken;
 use survey::Verdict;
 
-// The places of a number sent and of a number taken.
-pub struct Pair {
-    pub sent: u32,
-    pub taken: u32,
-}
-
-// Adds a number sent and a number taken of a frame to the own sums, where neither sum comes above the limit.
-fn add_pair(sums: &mut [u32], to: Pair, s: &[u32], from: Pair, limit: u32) -> bool
-    requires { ⌜ (to .sent < to .taken)
-        × (to .taken < length (now sums))
-        × (from .sent < length (now s))
-        × (from .taken < length (now s)) ⌝ }
-    ensures { λ r.
-        ⌜ (r ≡ pairFits (now (sums .entry)) to (now (s .entry)) from limit)
-        × (now (sums .exit) ≡ choose r (pairAdded (now (sums .entry)) to (now (s .entry)) from) (now (sums .entry))) ⌝ }
+// Adds a number sent of a frame to an own sum, where that does not come above the limit.
+fn add_sent(sums: &mut [u32], to: u32, s: &[u32], from: u32, limit: u32) -> bool
+    requires { ⌜ (to < length (now sums)) × (from < length (now s)) ⌝ }
+    ensures { λ r. ⌜ AddedAt (now (sums .entry)) to (now (s .entry)) from limit (now (sums .exit)) r ⌝ }
 {
-    let own_sent = Sent(sums[to.sent as usize]);
-    let sent = Sent(s[from.sent as usize]);
-    if !walk_tests::sent_fits(own_sent, sent, limit) {
+    let own = Sent(sums[to as usize]);
+    let more = Sent(s[from as usize]);
+    if !walk_tests::sent_fits(own, more, limit) {
         return false;
     }
-    let own_taken = Taken(sums[to.taken as usize]);
-    let taken = Taken(s[from.taken as usize]);
-    if !walk_tests::taken_fits(own_taken, taken, limit) {
-        return false;
-    }
-    sums[to.sent as usize] = own_sent.0 + sent.0;
-    sums[to.taken as usize] = own_taken.0 + taken.0;
+    sums[to as usize] = own.0 + more.0;
     true
 }
 
-// The numbers of the shells above k. Whether no sum comes above the limit.
+// Adds a number taken of a frame to an own sum, where that does not come above the limit.
+fn add_taken(sums: &mut [u32], to: u32, s: &[u32], from: u32, limit: u32) -> bool
+    requires { ⌜ (to < length (now sums)) × (from < length (now s)) ⌝ }
+    ensures { λ r. ⌜ AddedAt (now (sums .entry)) to (now (s .entry)) from limit (now (sums .exit)) r ⌝ }
+{
+    let own = Taken(sums[to as usize]);
+    let more = Taken(s[from as usize]);
+    if !walk_tests::taken_fits(own, more, limit) {
+        return false;
+    }
+    sums[to as usize] = own.0 + more.0;
+    true
+}
+
+// Adds the numbers of the shells above k. Whether no sum comes above the limit.
 fn add_shells(sums: &mut [u32], s: &[u32], p: u32, k: u32, at: u32, limit: u32) -> bool
     requires { ⌜ FirstAt (now s) (now sums) p k at ⌝ }
     ensures { λ r.
@@ -54,19 +50,29 @@ fn add_shells(sums: &mut [u32], s: &[u32], p: u32, k: u32, at: u32, limit: u32) 
 {
     let shells = at + layout::MARK;
     for m in k + 1..p {
-        let to = Pair {
-            sent: m,
-            taken: p + m,
-        };
-        let from = Pair {
-            sent: shells + (m - k),
-            taken: shells + (p - k) + (m - k),
-        };
-        if !add_pair(&mut *sums, to, s, from, limit) {
+        let sent = shells + (m - k);
+        if !add_sent(&mut *sums, m, s, sent, limit) {
+            return false;
+        }
+        let taken = shells + (p - k) + (m - k);
+        if !add_taken(&mut *sums, p + m, s, taken, limit) {
             return false;
         }
     }
     true
+}
+
+// Adds the totals. Whether neither comes above the limit.
+fn add_totals(sums: &mut [u32], s: &[u32], p: u32, k: u32, at: u32, limit: u32) -> bool
+    requires { ⌜ FirstAt (now s) (now sums) p k at ⌝ }
+    ensures { λ r.
+        ⌜ AddedTotals p (firstFrom (now (s .entry)) p k at) limit (now (sums .entry)) (now (sums .exit)) r ⌝ }
+{
+    let totals = at + layout::MARK + 2 * (p - k);
+    if !add_sent(&mut *sums, 2 * p, s, totals, limit) {
+        return false;
+    }
+    add_taken(&mut *sums, 2 * p + 1, s, totals + 1, limit)
 }
 
 // Clauses 3 and 4, where those before them hold: the shells above k and the totals.
@@ -79,16 +85,7 @@ fn add_frame(b: Bounds, s: &[u32], sums: &mut [u32], p: u32, k: u32, at: u32) ->
     if !add_shells(&mut *sums, s, p, k, at, limit) {
         return Verdict::Fails(3);
     }
-    let to = Pair {
-        sent: 2 * p,
-        taken: 2 * p + 1,
-    };
-    let totals = at + layout::MARK + 2 * (p - k);
-    let from = Pair {
-        sent: totals,
-        taken: totals + 1,
-    };
-    if !add_pair(&mut *sums, to, s, from, limit) {
+    if !add_totals(&mut *sums, s, p, k, at, limit) {
         return Verdict::Fails(3);
     }
     let issued = Sent(sums[(2 * p) as usize]);

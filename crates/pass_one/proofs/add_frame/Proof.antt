@@ -2,21 +2,16 @@
 use borrow.Author.Needs.{needs}
 use borrow.Author.Tests.{not-true, not-false}
 use denote.Ref.{now}
-use native.Mathlib.Omega.{arith}
-use mathlib.Core.Path.{_≡_, sym, ap, _∙_, subst}
-use mathlib.Core.Bool.{true, false}
+use mathlib.Core.Path.{_≡_, sym, _∙_, subst}
+use mathlib.Core.Bool.{true}
 use mathlib.Core.List.{List}
-use Prim.Native.Nat.{ℕ, _+_}
-use lib.Dec.{eqb}
+use Prim.Native.Nat.{ℕ}
 use lib.ListN.{length}
 use Rattle.base.specs.Limits.{Limits, limitsOf, fieldLimit}
-use Rattle.base.proofs.Laws.{choose-yes, choose-no}
-use Rattle.layout.specs.Places.{sumIssued, sumReceived}
-use Rattle.layout.specs.Held.{word, firstFrom}
 use Rattle.survey.specs.declared.Verdict.the-variants.{Fails}
-use Rattle.walk_tests.specs.Tests.{lastVerdict}
-use Rattle.pass_one.specs.Pieces.{FirstAt, AddedShells, Judged}
-use Rattle.pass_one.proofs.Adding.{Within, shells-over, totals-over, within, added, added-length, after}
+use Rattle.layout.specs.Held.{firstFrom}
+use Rattle.pass_one.specs.Pieces.{FirstAt, AddedShells, AddedTotals, Judged}
+use Rattle.pass_one.proofs.Adding.{Within, shells-over, totals-over, within, added}
 use Rattle.pass_one.proofs.Judging.{over, ended}
 use Rattle.pass_one.proofs.add_frame.Statement.{statement}
 use Rattle.pass_one.proofs.add_frame.Tie as tie
@@ -66,12 +61,12 @@ returns c =
     let a = c .before .before .before in
     let f = a .add-shells in
     above a
-    (shells-over (ws a) (before a) (p a) (k a) (at a) (limit a) (here a) (mid a)
+    (shells-over (ws a) (before a) (p a) (k a) (at a) (limit a) (mid a)
     (subst (AddedShells (p a) (k a) _ (limit a) (before a) (mid a)) (not-true (f .result) (c .if1 .taken)) (f .ensures)))
     _ (f .ensures .length)
 
 -- the shells are done
-module _ (d : tie.After-add-pair) where
+module _ (d : tie.After-add-totals) where
   abbrev one : tie.After-add-shells
   one = d .before .before .before .before .before
 
@@ -81,42 +76,35 @@ module _ (d : tie.After-add-pair) where
       subst (AddedShells (p one) (k one) _ (limit one) (before one) (mid one)) (not-false (f .result) (d .before .before .if1 .left))
       (f .ensures)
 
+  kept : length (d .add-totals .last .0) ≡ length (before one)
+  kept = d .add-totals .ensures .length ∙ shells .length
+
 returns-2 : tie.Need-returns-2
 returns-2 c =
     let d = c .before .before .before in
     let a = one d in
-    let e = not-true (d .add-pair .result) (c .if2 .taken) in
+    let f = d .add-totals in
     above a
-    (totals-over (ws a) (before a) (p a) (k a) (at a) (limit a) (here a) (mid a) (shells d) (sym (d .add-pair .ensures .0) ∙ e))
-    _ (ap length (d .add-pair .ensures .1 ∙ choose-no _ _ e) ∙ shells d .length)
+    (totals-over (ws a) (before a) (p a) (k a) (at a) (limit a) (mid a) (shells d) (f .last .0)
+    (subst (AddedTotals (p a) _ (limit a) (mid a) (f .last .0)) (not-true (f .result) (c .if2 .taken)) (f .ensures)))
+    _ (kept d)
 
 returns-3 : tie.Need-returns-3
 returns-3 c =
     let g = c .before .before .before in
     let d = g .before .before .before in
     let a = one d in
-    let e = not-false (d .add-pair .result) (g .if2 .left) in
-    let fits = sym (d .add-pair .ensures .0) ∙ e in
-    let put = d .add-pair .ensures .1 ∙ choose-yes _ _ e in
-    let x = firstFrom (ws a) (p a) (k a) (at a) in
-    subst (Judged (L a) (p a) (k a) x (before a) (d .add-pair .last .0)) (sym (c .last-verdict .ensures))
-    (subst
-    (λ y.
-    Judged (L a) (p a) (k a) x (before a) y
-    (lastVerdict (eqb (k a + 1) (p a)) (word y (sumIssued (p a))) (word y (sumReceived (p a)))))
-    (sym put)
+    let f = d .add-totals in
+    let t = subst (AddedTotals (p a) _ (limit a) (mid a) (f .last .0)) (not-false (f .result) (g .if2 .left)) (f .ensures) in
+    subst (Judged (L a) (p a) (k a) (firstFrom (ws a) (p a) (k a) (at a)) (before a) (f .last .0)) (sym (c .last-verdict .ensures))
     (ended (L a) (ws a) (before a) (p a) (k a) (at a) (limit a) (here a) (s a .pre .1) (limit-is a)
-    (within (ws a) (before a) (p a) (k a) (at a) (limit a) (here a) (mid a) (shells d) fits)
-    _
-    (added (ws a) (before a) (p a) (k a) (at a) (limit a) (here a) (mid a) (shells d) fits)
-    (added-length (ws a) (before a) (p a) (k a) (at a) (limit a) (here a) (mid a) (shells d) fits)))
+    (within (ws a) (before a) (p a) (k a) (at a) (limit a) (mid a) (shells d) (f .last .0) t)
+    (f .last .0) (added (ws a) (before a) (p a) (k a) (at a) (limit a) (mid a) (shells d) (f .last .0) t) (kept d))
 
 pub add-frame-spec : {M : Type 1} → statement M
 add-frame-spec =
     tie.close
-    (tie.spec (λ c κs. search needs) (λ c κs. search needs) (λ c. search needs) returns (λ c. search needs)
+    (tie.spec (λ c κs. search needs) (λ c κs. search needs) (λ c. search needs) returns (λ c κs. search needs)
+    (λ c. search needs) returns-2 (λ c. search needs) (λ c. search needs) (λ c. search needs) (λ c. search needs)
     (λ c. search needs) (λ c. search needs) (λ c. search needs) (λ c. search needs) (λ c. search needs)
-    (λ c. search needs) (λ c. search needs) (λ c κs. search needs) (λ c. search needs) returns-2 (λ c. search needs)
-    (λ c. search needs) (λ c. search needs) (λ c. search needs) (λ c. search needs) (λ c. search needs)
-    (λ c. search needs) (λ c. search needs) (λ c. search needs) (λ c. search needs) (λ c κs. search needs)
-    (λ c. search needs) returns-3)
+    (λ c. search needs) (λ c κs. search needs) (λ c. search needs) returns-3)

@@ -1,24 +1,22 @@
 -- `add_shells`: the shells below m are done, and the other sums are as they were.
-use borrow.Author.Needs.{needs}
 use borrow.Author.Tests.{not-true, not-false}
 use denote.Ref.{now}
 use native.Mathlib.Omega.{arith}
-use mathlib.Core.Path.{_≡_, sym, ap, _∙_}
-use mathlib.Core.Bool.{false}
+use mathlib.Core.Path.{_≡_, refl}
+use mathlib.Core.Bool.{true}
 use mathlib.Core.List.{List}
 use Prim.Native.Nat.{ℕ, _+_, _-_, _≤_, _<_}
 use lib.ListN.{length}
 use Rattle.base.specs.Limits.{width}
-use Rattle.base.proofs.Laws.{choose-yes, choose-no}
 use Rattle.layout.specs.Places.{markWords, mostWords}
 use Rattle.pass_one.specs.Pieces.{FirstAt}
-use Rattle.pass_one.proofs.Adding.{Upto, none-done, shell-done, shells-added, shells-stopped}
+use Rattle.pass_one.proofs.Adding.{Upto, none-done, sent-over, one-length, taken-over, two-length, shell-done}
+use Rattle.pass_one.proofs.Adding.{shells-added, shells-stopped}
 use Rattle.pass_one.proofs.add_shells.Statement.{statement}
 use Rattle.pass_one.proofs.add_shells.Tie as tie
 
 abbrev Inv-loop : tie.InvT-loop
-Inv-loop sums₀ s p k at limit shells m₀ sums m =
-    Upto s sums₀ p k at limit m sums
+Inv-loop sums₀ s p k at limit shells m₀ sums m = Upto s sums₀ p k at limit m sums
 
 abbrev μ-loop : tie.MeasureT-loop
 μ-loop sums₀ s p k at limit shells m₀ sums m = p - m
@@ -67,36 +65,58 @@ module _ (i : tie.In-loop Inv-loop μ-loop) where
   small : (p s ≤ width) × (at s ≤ mostWords)
   small = (here s .few, here s .near)
 
--- a sum would come above the limit: the sums are left
-module _ (c : tie.Then1 Inv-loop μ-loop) where
-  abbrev stopped : tie.In-loop Inv-loop μ-loop
-  stopped = c .before .before .before .before .before
+-- the number sent
+module _ (a : tie.After-add-sent Inv-loop μ-loop) where
+  abbrev turn : tie.In-loop Inv-loop μ-loop
+  turn = a .before .before
 
-  no-room : c .before .before .before .add-pair .result ≡ false
-  no-room = not-true (c .before .before .before .add-pair .result) (c .if1 .taken)
-
-  left : c .before .before .before .add-pair .last .0 ≡ stopped .before .loop .sums
-  left = c .before .before .before .add-pair .ensures .1 ∙ choose-no _ _ no-room
+  first-length : length (a .add-sent .last .0) ≡ length (before (s turn))
+  first-length =
+      one-length (ws (s turn)) (before (s turn)) (p (s turn)) (k (s turn)) (at (s turn)) (limit (s turn)) (here (s turn)) (m turn) _
+      (up turn) (next turn) _ _ (a .add-sent .ensures)
 
 returns : tie.Need-returns Inv-loop μ-loop
 returns c =
-    let i = stopped c in
-    rw (left c)
-    (shells-stopped (ws (s i)) (before (s i)) (p (s i)) (k (s i)) (at (s i)) (limit (s i)) (here (s i)) (m i) _ (up i) (next i)
-    (sym (c .before .before .before .add-pair .ensures .0) ∙ no-room c))
-
-loop-again : tie.Need-loop-again Inv-loop μ-loop
-loop-again c =
     let a = c .before .before .before in
-    let i = a .before .before in
-    let f = a .add-pair in
-    let e = not-false (f .result) (c .if1 .left) in
-    rw (f .ensures .1 ∙ choose-yes _ _ e)
-    (shell-done (ws (s i)) (before (s i)) (p (s i)) (k (s i)) (at (s i)) (limit (s i)) (here (s i)) (m i) _ (up i) (next i)
-    (sym (f .ensures .0) ∙ e))
+    let i = turn a in
+    shells-stopped (ws (s i)) (before (s i)) (p (s i)) (k (s i)) (at (s i)) (limit (s i)) _ (first-length a)
+    (sent-over (ws (s i)) (before (s i)) (p (s i)) (k (s i)) (at (s i)) (limit (s i)) (here (s i)) (m i) _ (up i) (next i) _ _
+    (a .add-sent .ensures) (not-true (a .add-sent .result) (c .if1 .taken)))
+
+-- the number taken
+module _ (d : tie.After-add-taken Inv-loop μ-loop) where
+  abbrev one : tie.After-add-sent Inv-loop μ-loop
+  one = d .before .before .before .before .before
+
+  abbrev here-loop : tie.In-loop Inv-loop μ-loop
+  here-loop = turn one
+
+  good : one .add-sent .result ≡ true
+  good = not-false (one .add-sent .result) (d .before .before .if1 .left)
+
+  second-length : length (d .add-taken .last .0) ≡ length (before (s here-loop))
+  second-length =
+      let i = here-loop in
+      two-length (ws (s i)) (before (s i)) (p (s i)) (k (s i)) (at (s i)) (limit (s i)) (here (s i)) (m i) _ (up i) (next i) _ _
+      (one .add-sent .ensures) good _ _ (d .add-taken .ensures)
 
 returns-2 : tie.Need-returns-2 Inv-loop μ-loop
 returns-2 c =
+    let d = c .before .before .before in
+    let i = here-loop d in
+    shells-stopped (ws (s i)) (before (s i)) (p (s i)) (k (s i)) (at (s i)) (limit (s i)) _ (second-length d)
+    (taken-over (ws (s i)) (before (s i)) (p (s i)) (k (s i)) (at (s i)) (limit (s i)) (here (s i)) (m i) _ (up i) (next i) _ _
+    (one d .add-sent .ensures) (good d) _ _ (d .add-taken .ensures) (not-true (d .add-taken .result) (c .if2 .taken)))
+
+loop-again : tie.Need-loop-again Inv-loop μ-loop
+loop-again c =
+    let d = c .before .before .before in
+    let i = here-loop d in
+    shell-done (ws (s i)) (before (s i)) (p (s i)) (k (s i)) (at (s i)) (limit (s i)) (here (s i)) (m i) _ (up i) (next i) _ _
+    (one d .add-sent .ensures) (good d) _ _ (d .add-taken .ensures) (not-false (d .add-taken .result) (c .if2 .left))
+
+returns-3 : tie.Need-returns-3 Inv-loop μ-loop
+returns-3 c =
     let l = c .before in
     let s = c .before .before .before .before in
     shells-added (ws s) (before s) (p s) (k s) (at s) (limit s) (here s) (l .loop .m) (l .loop .sums) (l .loop .inv)
@@ -108,9 +128,17 @@ add-shells-spec =
     (tie.spec Inv-loop μ-loop (λ c. record { fits = omega (arith, here (c .before .before) .near) })
     (λ c. record { fits = omega (arith, here (c .before .before) .low, here (c .before .before) .few) })
     (λ c. let s = c .before .before in none-done (ws s) (before s) (p s) (k s) (at s) (limit s) (here s))
-    (λ c. record { fits = omega (arith, next c, small c) }) (λ c. omega (arith, low c))
-    (λ c. record { fits = omega (arith, next c, small c) }) (λ c. omega (arith, low c, next c))
-    (λ c. record { fits = omega (arith, next c, small c) }) (λ c. omega (arith, low c))
-    (λ c. record { fits = omega (arith, next c, small c) })
-    (λ c κs. let i = c .before in (omega (arith, low i, next i), omega (arith, next i, here (s i) .wide, up i .long), omega (arith, low i, next i), omega (arith, low i)))
-    (λ c. ap length (left c) ∙ up (stopped c) .long) returns (λ c. record { fits = omega (arith, next (c .before .before .before .before .before), small (c .before .before .before .before .before)) }) (λ c. omega (arith, next (c .before .before .before .before .before))) loop-again (λ c. c .before .loop .inv .long) returns-2)
+    (λ c. omega (arith, low c)) (λ c. record { fits = omega (arith, next c, small c) })
+    (λ c κs.
+    let i = c .before in
+    (omega (arith, next i, here (s i) .wide, up i .long), omega (arith, low i, next i)))
+    (λ c. first-length (c .before .before .before)) returns
+    (λ c. let i = c .before .before .before .before .before in omega (arith, low i, next i)) (λ c. let i = c .before .before .before .before .before in record { fits = omega (arith, next i, small i) })
+    (λ c. omega (arith, low (c .before .before .before .before .before))) (λ c. let i = c .before .before .before .before .before in record { fits = omega (arith, next i, small i) })
+    (λ c. let i = c .before .before .before .before .before .before in record { fits = omega (arith, next i, small i) })
+    (λ c κs.
+    let i = c .before .before .before .before .before .before in
+    (omega (arith, next i, here (s i) .wide, first-length (c .before .before .before .before)), omega (arith, low i)))
+    (λ c. second-length (c .before .before .before)) returns-2
+    (λ c. let i = here-loop (c .before .before .before) in record { fits = omega (arith, next i, small i) })
+    (λ c. omega (arith, next (here-loop (c .before .before .before)))) loop-again (λ c. c .before .loop .inv .long) returns-3)
