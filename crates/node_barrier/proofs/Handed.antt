@@ -23,7 +23,8 @@ use Rattle.layout.specs.Held.{word, dimsOf, unpacked, isWhole, firstFrom, first
 use Rattle.layout.proofs.Offsets.{first-above}
 use Rattle.layout.proofs.Reading.{first-word, second-word, first-in, second-in}
 use Rattle.layout.proofs.Whole.{Whole, whole, few}
-use Rattle.pass_one.specs.Tried.{firstTried, Added}
+use Rattle.pass_one.specs.Tried.{firstTried}
+use Rattle.adding.specs.Adding.{Added}
 use Rattle.pass_two.specs.Tried.{secondTried}
 use Rattle.scan.specs.Scan.{reach}
 use Rattle.scan.specs.Pieces.{Standing}

@@ -21,30 +21,13 @@ use Rattle.survey.proofs.Clauses.{first-3, first-4}
 use Rattle.layout.specs.Places.{sumIssued, sumReceived}
 use Rattle.layout.specs.Held.{word, firstFrom, sumOf}
 use Rattle.layout.proofs.Offsets.{most-words}
-use Rattle.walk_tests.specs.Tests.{firstFits, lastVerdict}
-use Rattle.pass_one.specs.Tried.{Added}
-use Rattle.pass_one.specs.Pieces.{FirstAt, Opened, Judged}
-use Rattle.pass_one.proofs.Adding.{Within}
+use Rattle.walk_tests.specs.Tests.{lastVerdict}
+use Rattle.adding.specs.Adding.{FirstAt, Within, Added}
+use Rattle.pass_one.specs.Pieces.{Opened, Judged}
 
 -- a clause that fails is no agreement
 pub no-agreement : (c : ℕ) → Fails c ≡ Agrees → ⊥
 no-agreement c e = clash (sym (ap isAgreed e))
-
--- what the tests of the lengths say
-pub fitting-known : (p k at : ℕ) (ws sums : List ℕ) → firstFits p k at (length ws) (length sums) ≡ true
-    → FirstAt ws sums p k at
-fitting-known p k at ws sums e =
-    let a = both-true (ltb k p) _ e in
-    let b = both-true (leb p width) _ (a .1) in
-    let c = both-true (leb at _) _ (b .1) in
-    let d = both-true (leb _ (length ws)) (leb _ (length sums)) (c .1) in
-    record {
-      low = ltb-true k p (a .0);
-      few = leb-true p width (b .0);
-      near = omega (arith, leb-true at _ (c .0), most-words);
-      long = leb-true _ (length ws) (d .0);
-      wide = leb-true _ (length sums) (d .1);
-    }
 
 module _ (L : Limits) (p k : ℕ) (x : Stored) (before : List ℕ) where
   abbrev own : Field → ℕ
@@ -60,11 +43,11 @@ module _ (L : Limits) (ws before : List ℕ) (p k at limit : ℕ) (h : FirstAt w
   abbrev x : Stored
   x = firstFrom ws p k at
 
-  pub over : (Within ws before p k at limit → ⊥) → (after : List ℕ) → length after ≡ length before
+  pub over : (Within limit p k x before → ⊥) → (after : List ℕ) → length after ≡ length before
       → Judged L p k x before after (Fails 3)
   over none = fails L p k x before 3 (first-3 L p k (sumOf p before) x (o .stored) (λ w. none (λ f g. rw e (w f g))))
 
-  module _ (w : Within ws before p k at limit) (after : List ℕ) (add : Added p k x before after)
+  module _ (w : Within limit p k x before) (after : List ℕ) (add : Added p k x before after)
       (l : length after ≡ length before) where
     -- the totals with the frame's
     abbrev issued : ℕ

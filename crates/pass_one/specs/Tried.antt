@@ -2,24 +2,19 @@
 use mathlib.Core.Path.{_≡_}
 use mathlib.Core.Bool.{Bool, true, false}
 use mathlib.Core.List.{List, [], _∷_}
-use Prim.Native.Nat.{ℕ, suc, _+_}
+use Prim.Native.Nat.{ℕ}
 use lib.ListN.{length}
 use Rattle.base.specs.Choice.{choose}
 use Rattle.base.specs.Limits.{Limits}
-use Rattle.node.specs.Sums.{Field, Has, number}
 use Rattle.node.specs.Agree.{firstClauses, allHold}
-use Rattle.node.specs.declared.Stored.{Stored}
 use Rattle.layout.specs.Held.{firstFrom, sumOf}
 use Rattle.walk_tests.specs.Tests.{firstFits}
+use Rattle.adding.specs.Adding.{Added}
 
 -- where the words have no such frame, none is stored
 abbrev pub firstTried : Limits → List ℕ → List ℕ → ℕ → ℕ → ℕ → List Bool
 firstTried L ws sums p k at =
     choose (firstFits p k at (length ws) (length sums)) (firstClauses L p k (sumOf p sums) (firstFrom ws p k at)) (false ∷ [])
-
--- the sums with the numbers of a frame of dimension k: those that the next dimension has
-abbrev pub Added : ℕ → ℕ → Stored → List ℕ → List ℕ → Type 0
-Added p k x before after = (f : Field) → Has p (suc k) f → sumOf p after f ≡ sumOf p before f + number x f
 
 -- a step that agrees is passed, and the numbers of its frame are then in the sums
 pub record PassedBy (L : Limits) (ws : List ℕ) (p k at : ℕ) (before after : List ℕ) (r : Bool) : Type 0 where

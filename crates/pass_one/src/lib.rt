@@ -2,90 +2,25 @@
 // they are tested, so that each is read once.
 ghost use mathlib.Core.Path.{_≡_};
 ghost use mathlib.Core.Bool.{true};
-ghost use Prim.Native.Nat.{_<_};
 ghost use lib.ListN.{length};
 ghost use Rattle.base.specs.Limits.{limitsOf};
 ghost use Rattle.survey.specs.Verdict.{isVerdict};
 ghost use Rattle.layout.specs.Held.{firstFrom, sumOf};
-ghost use Rattle.pass_one.specs.Tried.{firstTried, Added, PassedBy};
-ghost use Rattle.pass_one.specs.Pieces.{FirstAt, Opened, AddedAt, AddedShells, AddedTotals, Judged};
+ghost use Rattle.pass_one.specs.Tried.{firstTried, PassedBy};
+ghost use Rattle.adding.specs.Adding.{FirstAt, Added};
+ghost use Rattle.pass_one.specs.Pieces.{Opened, Judged};
 use base::Bounds;
 use frame::Sent;
 use frame::Taken;
 use survey::Verdict;
 
-// Adds a number sent of a frame to an own sum, where that does not come above the limit.
-fn add_sent(sums: &mut [u32], to: u32, s: &[u32], from: u32, limit: u32) -> bool
-    requires { ⌜ (to < length (now sums)) × (from < length (now s)) ⌝ }
-    ensures { λ r. ⌜ AddedAt (now (sums .entry)) to (now (s .entry)) from limit (now (sums .exit)) r ⌝ }
-{
-    let own = Sent(sums[to as usize]);
-    let more = Sent(s[from as usize]);
-    if !walk_tests::sent_fits(own, more, limit) {
-        return false;
-    }
-    sums[to as usize] = own.0 + more.0;
-    true
-}
-
-// Adds a number taken of a frame to an own sum, where that does not come above the limit.
-fn add_taken(sums: &mut [u32], to: u32, s: &[u32], from: u32, limit: u32) -> bool
-    requires { ⌜ (to < length (now sums)) × (from < length (now s)) ⌝ }
-    ensures { λ r. ⌜ AddedAt (now (sums .entry)) to (now (s .entry)) from limit (now (sums .exit)) r ⌝ }
-{
-    let own = Taken(sums[to as usize]);
-    let more = Taken(s[from as usize]);
-    if !walk_tests::taken_fits(own, more, limit) {
-        return false;
-    }
-    sums[to as usize] = own.0 + more.0;
-    true
-}
-
-// Adds the numbers of the shells above k. Whether no sum comes above the limit.
-fn add_shells(sums: &mut [u32], s: &[u32], p: u32, k: u32, at: u32, limit: u32) -> bool
-    requires { ⌜ FirstAt (now s) (now sums) p k at ⌝ }
-    ensures { λ r.
-        ⌜ AddedShells p k (firstFrom (now (s .entry)) p k at) limit (now (sums .entry)) (now (sums .exit)) r ⌝ }
-{
-    let shells = at + layout::MARK;
-    for m in k + 1..p {
-        let sent = shells + (m - k);
-        if !add_sent(&mut *sums, m, s, sent, limit) {
-            return false;
-        }
-        let taken = shells + (p - k) + (m - k);
-        if !add_taken(&mut *sums, p + m, s, taken, limit) {
-            return false;
-        }
-    }
-    true
-}
-
-// Adds the totals. Whether neither comes above the limit.
-fn add_totals(sums: &mut [u32], s: &[u32], p: u32, k: u32, at: u32, limit: u32) -> bool
-    requires { ⌜ FirstAt (now s) (now sums) p k at ⌝ }
-    ensures { λ r.
-        ⌜ AddedTotals p (firstFrom (now (s .entry)) p k at) limit (now (sums .entry)) (now (sums .exit)) r ⌝ }
-{
-    let totals = at + layout::MARK + 2 * (p - k);
-    if !add_sent(&mut *sums, 2 * p, s, totals, limit) {
-        return false;
-    }
-    add_taken(&mut *sums, 2 * p + 1, s, totals + 1, limit)
-}
-
-// Clauses 3 and 4, where those before them hold: the shells above k and the totals.
-fn add_frame(b: Bounds, s: &[u32], sums: &mut [u32], p: u32, k: u32, at: u32) -> Verdict
+// Clauses 3 and 4, where those before them hold: the numbers above shell k, then the totals.
+fn last_clauses(b: Bounds, s: &[u32], sums: &mut [u32], p: u32, k: u32, at: u32) -> Verdict
     requires { ⌜ FirstAt (now s) (now sums) p k at × Opened p k (sumOf p (now sums)) (firstFrom (now s) p k at) ⌝ }
     ensures { λ r.
         ⌜ Judged (limitsOf b) p k (firstFrom (now (s .entry)) p k at) (now (sums .entry)) (now (sums .exit)) r ⌝ }
 {
-    let limit = base::field_limit(b);
-    if !add_shells(&mut *sums, s, p, k, at, limit) {
-        return Verdict::Fails(3);
-    }
-    if !add_totals(&mut *sums, s, p, k, at, limit) {
+    if !adding::add_frame(base::field_limit(b), s, &mut *sums, p, k, at) {
         return Verdict::Fails(3);
     }
     let issued = Sent(sums[(2 * p) as usize]);
@@ -112,7 +47,7 @@ fn tried(b: Bounds, s: &[u32], sums: &mut [u32], p: u32, k: u32, at: u32) -> Ver
     if own_taken.0 != sent.0 {
         return Verdict::Fails(2);
     }
-    add_frame(b, s, &mut *sums, p, k, at)
+    last_clauses(b, s, &mut *sums, p, k, at)
 }
 
 // The verdict on dimension k on a board of p dimensions, whose words begin at a place. Where it agrees, the numbers of the

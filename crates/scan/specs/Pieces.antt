@@ -19,7 +19,7 @@ use Rattle.survey.specs.Pieces.{firstTest, secondTest, awaitsAt, firstPast, sec
 use Rattle.survey.specs.declared.Spot.{Spot}
 use Rattle.head.specs.Head.{spotIn, headPasses}
 use Rattle.gather.specs.Gather.{sentTotal, takenTotal, tallied, Started}
-use Rattle.pass_one.specs.Tried.{Added}
+use Rattle.adding.specs.Adding.{Added}
 use Rattle.scan.specs.Scan.{reach, confirmReach, passes, scanned, Gathered}
 use Rattle.scan.specs.declared.Scan.{Scan}
 use Rattle.pass_two.specs.declared.Passed.{Passed}

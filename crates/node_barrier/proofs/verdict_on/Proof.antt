@@ -22,7 +22,8 @@ use Rattle.layout.specs.Places.{atPass, atDim, atAgreed}
 use Rattle.layout.specs.Places.{atFirst, atSecond, sumReceived}
 use Rattle.layout.specs.Held.{word, firstFrom, unpacked}
 use Rattle.layout.proofs.Offsets.{first-found, first-end}
-use Rattle.pass_one.specs.Tried.{firstTried, Added}
+use Rattle.pass_one.specs.Tried.{firstTried}
+use Rattle.adding.specs.Adding.{Added}
 use Rattle.pass_two.specs.Tried.{secondTried}
 use Rattle.node_barrier.specs.Pieces.{Lent, tried}
 use Rattle.node_barrier.proofs.Handed.{held, low-dims, first-clauses, total-is, second-clauses}

@@ -84,8 +84,8 @@ returns-3 c =
     let s = first e in
     stops s 2 (first-2 (L s) (p s) (k s) (own s) (frame s) (here e) (λ q. c .if3 .taken (q ∙ sent s)))
 
-add-frame-requires : tie.Need-add-frame-requires
-add-frame-requires c κs =
+last-clauses-requires : tie.Need-last-clauses-requires
+last-clauses-requires c κs =
     let g = c .before in
     let h = g .before .before .before .before .before in
     let e = h .before .before .before .before .before in
@@ -100,5 +100,5 @@ tried-spec =
     (tie.spec (λ c. search needs) (λ c. search needs) returns (λ c. search needs) (λ c. search needs)
     (λ c. search needs) (λ c. search needs) (λ c. search needs) (λ c. search needs) (λ c. search needs)
     (λ c. search needs) returns-2 (λ c. search needs) (λ c. search needs) (λ c. search needs) (λ c. search needs)
-    (λ c. search needs) (λ c. search needs) (λ c. search needs) (λ c. search needs) returns-3 add-frame-requires
+    (λ c. search needs) (λ c. search needs) (λ c. search needs) (λ c. search needs) returns-3 last-clauses-requires
     (λ c. search needs) (λ c. search needs))

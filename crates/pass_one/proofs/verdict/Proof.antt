@@ -11,7 +11,8 @@ use Rattle.base.proofs.Laws.{choose-yes}
 use Rattle.node.specs.Agree.{mayName}
 use Rattle.survey.specs.Verdict.{isVerdict}
 use Rattle.walk_tests.specs.Tests.{firstFits}
-use Rattle.pass_one.proofs.Judging.{no-agreement, fitting-known}
+use Rattle.adding.proofs.Fitting.{fitting-known}
+use Rattle.pass_one.proofs.Judging.{no-agreement}
 use Rattle.pass_one.proofs.verdict.Statement.{statement}
 use Rattle.pass_one.proofs.verdict.Tie as tie
 

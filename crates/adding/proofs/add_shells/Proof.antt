@@ -9,11 +9,11 @@ use Prim.Native.Nat.{ℕ, _+_, _-_, _≤_, _<_}
 use lib.ListN.{length}
 use Rattle.base.specs.Limits.{width}
 use Rattle.layout.specs.Places.{markWords, mostWords}
-use Rattle.pass_one.specs.Pieces.{FirstAt}
-use Rattle.pass_one.proofs.Adding.{Upto, none-done, sent-over, one-length, taken-over, two-length, shell-done}
-use Rattle.pass_one.proofs.Adding.{shells-added, shells-stopped}
-use Rattle.pass_one.proofs.add_shells.Statement.{statement}
-use Rattle.pass_one.proofs.add_shells.Tie as tie
+use Rattle.adding.specs.Adding.{FirstAt}
+use Rattle.adding.proofs.Adding.{Upto, none-done, sent-over, one-length, taken-over, two-length, shell-done}
+use Rattle.adding.proofs.Adding.{shells-added, shells-stopped}
+use Rattle.adding.proofs.add_shells.Statement.{statement}
+use Rattle.adding.proofs.add_shells.Tie as tie
 
 abbrev Inv-loop : tie.InvT-loop
 Inv-loop sums₀ s p k at limit shells m₀ sums m = Upto s sums₀ p k at limit m sums

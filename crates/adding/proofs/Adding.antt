@@ -11,13 +11,13 @@ use lib.ListN.{length, length-set, set}
 use lib.Seq.{getD-set-same, getD-set-other}
 use borrow.Author.Tests.{le-leb, leb-true}
 use Rattle.base.proofs.Laws.{clash, choose-yes, choose-no}
-use Rattle.node.specs.Sums.{Field, Has, sentIn, takenIn, allSent, allTaken, number}
+use Rattle.node.specs.Sums.{Field, sentIn, takenIn, allSent, allTaken, number}
 use Rattle.node.specs.declared.Stored.{Stored}
 use Rattle.layout.specs.Places.{sentPlace, takenPlace, issuedPlace, receivedPlace, sumTaken, sumIssued, sumReceived}
 use Rattle.layout.specs.Held.{word, firstFrom, sumOf}
 use Rattle.layout.proofs.Reading.{number-sent, number-taken}
-use Rattle.pass_one.specs.Tried.{Added}
-use Rattle.pass_one.specs.Pieces.{FirstAt, AddedAt, InShells, IsTotal, AddedShells, AddedTotals}
+use Rattle.adding.specs.Adding.{FirstAt, Within, Added}
+use Rattle.adding.specs.Pieces.{AddedAt, InShells, IsTotal, AddedShells, AddedTotals}
 
 -- ---- One number
 
@@ -60,10 +60,6 @@ module _ (ws before : List ℕ) (p k at limit : ℕ) where
 
   abbrev New : List ℕ → Field → Type 0
   New sums f = sumOf p sums f ≡ sumOf p before f + number x f
-
-  -- no sum that the next dimension has comes above the limit
-  abbrev pub Within : Type 0
-  Within = (f : Field) → Has p (suc k) f → Fine f
 
   -- ---- The shells
 
@@ -264,7 +260,7 @@ module _ (ws before : List ℕ) (p k at limit : ℕ) where
 
   -- ---- Both
 
-  pub shells-over : (mid : List ℕ) → AddedShells p k x limit before mid false → Within → ⊥
+  pub shells-over : (mid : List ℕ) → AddedShells p k x limit before mid false → Within limit p k x before → ⊥
   shells-over mid s w = s .over refl go
     where
       go : (f : Field) → InShells k p f → Fine f
@@ -277,7 +273,7 @@ module _ (ws before : List ℕ) (p k at limit : ℕ) where
     totals-same allSent h = s .others refl (sumIssued p) (omega arith)
     totals-same allTaken h = s .others refl (sumReceived p) (omega arith)
 
-    pub totals-over : (after : List ℕ) → AddedTotals p x limit mid after false → Within → ⊥
+    pub totals-over : (after : List ℕ) → AddedTotals p x limit mid after false → Within limit p k x before → ⊥
     totals-over after t w = t .over refl go
       where
         go : (f : Field) → IsTotal f → sumOf p mid f + number x f ≤ limit
@@ -285,7 +281,7 @@ module _ (ws before : List ℕ) (p k at limit : ℕ) where
         go allTaken h = omega (arith, totals-same allTaken tt, w allTaken tt)
 
     module _ (after : List ℕ) (t : AddedTotals p x limit mid after true) where
-      pub within : Within
+      pub within : Within limit p k x before
       within (sentIn j) h = s .within refl (sentIn j) h
       within (takenIn j) h = s .within refl (takenIn j) h
       within allSent h = omega (arith, totals-same allSent tt, t .within refl allSent tt)

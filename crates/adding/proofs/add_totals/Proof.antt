@@ -4,9 +4,9 @@ use borrow.Author.Tests.{not-true, not-false}
 use denote.Ref.{now}
 use mathlib.Core.Path.{subst}
 use Rattle.layout.specs.Held.{firstFrom}
-use Rattle.pass_one.proofs.Adding.{issued-over, totals-added}
-use Rattle.pass_one.proofs.add_totals.Statement.{statement}
-use Rattle.pass_one.proofs.add_totals.Tie as tie
+use Rattle.adding.proofs.Adding.{issued-over, totals-added}
+use Rattle.adding.proofs.add_totals.Statement.{statement}
+use Rattle.adding.proofs.add_totals.Tie as tie
 
 returns : tie.Need-returns
 returns c =

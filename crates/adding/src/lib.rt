@@ -1,0 +1,84 @@
+// The numbers of a stored pass 1 frame added to the own sums, both in words that a caller lends.
+ghost use mathlib.Core.Path.{_≡_};
+ghost use Prim.Native.Nat.{_<_};
+ghost use lib.ListN.{length};
+ghost use Rattle.layout.specs.Held.{firstFrom};
+ghost use Rattle.adding.specs.Adding.{FirstAt, AddedBy};
+ghost use Rattle.adding.specs.Pieces.{AddedAt, AddedShells, AddedTotals};
+use frame::Sent;
+use frame::Taken;
+
+// Adds a number sent of a frame to an own sum, where that does not come above the limit.
+fn add_sent(sums: &mut [u32], to: u32, s: &[u32], from: u32, limit: u32) -> bool
+    requires { ⌜ (to < length (now sums)) × (from < length (now s)) ⌝ }
+    ensures { λ r. ⌜ AddedAt (now (sums .entry)) to (now (s .entry)) from limit (now (sums .exit)) r ⌝ }
+{
+    let own = Sent(sums[to as usize]);
+    let more = Sent(s[from as usize]);
+    if !walk_tests::sent_fits(own, more, limit) {
+        return false;
+    }
+    sums[to as usize] = own.0 + more.0;
+    true
+}
+
+// Adds a number taken of a frame to an own sum, where that does not come above the limit.
+fn add_taken(sums: &mut [u32], to: u32, s: &[u32], from: u32, limit: u32) -> bool
+    requires { ⌜ (to < length (now sums)) × (from < length (now s)) ⌝ }
+    ensures { λ r. ⌜ AddedAt (now (sums .entry)) to (now (s .entry)) from limit (now (sums .exit)) r ⌝ }
+{
+    let own = Taken(sums[to as usize]);
+    let more = Taken(s[from as usize]);
+    if !walk_tests::taken_fits(own, more, limit) {
+        return false;
+    }
+    sums[to as usize] = own.0 + more.0;
+    true
+}
+
+// Adds the numbers of the shells above k. Whether no sum comes above the limit.
+fn add_shells(sums: &mut [u32], s: &[u32], p: u32, k: u32, at: u32, limit: u32) -> bool
+    requires { ⌜ FirstAt (now s) (now sums) p k at ⌝ }
+    ensures { λ r.
+        ⌜ AddedShells p k (firstFrom (now (s .entry)) p k at) limit (now (sums .entry)) (now (sums .exit)) r ⌝ }
+{
+    let shells = at + layout::MARK;
+    for m in k + 1..p {
+        let sent = shells + (m - k);
+        if !add_sent(&mut *sums, m, s, sent, limit) {
+            return false;
+        }
+        let taken = shells + (p - k) + (m - k);
+        if !add_taken(&mut *sums, p + m, s, taken, limit) {
+            return false;
+        }
+    }
+    true
+}
+
+// Adds the totals. Whether neither comes above the limit.
+fn add_totals(sums: &mut [u32], s: &[u32], p: u32, k: u32, at: u32, limit: u32) -> bool
+    requires { ⌜ FirstAt (now s) (now sums) p k at ⌝ }
+    ensures { λ r.
+        ⌜ AddedTotals p (firstFrom (now (s .entry)) p k at) limit (now (sums .entry)) (now (sums .exit)) r ⌝ }
+{
+    let totals = at + layout::MARK + 2 * (p - k);
+    if !add_sent(&mut *sums, 2 * p, s, totals, limit) {
+        return false;
+    }
+    add_taken(&mut *sums, 2 * p + 1, s, totals + 1, limit)
+}
+
+// Adds the numbers of dimension k above its own shell, where no sum comes above the limit. Whether that is so: not where
+// there are too few words. Sums may be changed where it is not.
+pub fn add_frame(limit: u32, s: &[u32], sums: &mut [u32], p: u32, k: u32, at: u32) -> bool
+    ensures { λ r. ⌜ AddedBy limit (now (s .entry)) p k at (now (sums .entry)) (now (sums .exit)) r ⌝ }
+{
+    if !walk_tests::first_fits(p, k, at, s.len(), sums.len()) {
+        return false;
+    }
+    if !add_shells(&mut *sums, s, p, k, at, limit) {
+        return false;
+    }
+    add_totals(&mut *sums, s, p, k, at, limit)
+}
