@@ -1,39 +1,17 @@
 // The call frame in, in place on the words that the caller lends.
 ghost use mathlib.Core.Path.{_≡_};
-ghost use mathlib.Core.Bool.{false};
 ghost use Prim.Native.Nat.{_+_, _≤_, _<_};
 ghost use lib.ListN.{length};
 ghost use Rattle.base.specs.Limits.{limitsOf, width};
-ghost use Rattle.tree.specs.Tree.{dimension, awaited};
-ghost use Rattle.tree.specs.Lookups.{badBoard};
 ghost use Rattle.frame.specs.Parts.{pasted};
 ghost use Rattle.node.specs.Answers.{outcomeOf};
-ghost use Rattle.node.specs.Calls.{frameIn, stepNumber, isAwaited};
+ghost use Rattle.node.specs.Calls.{frameIn, stepNumber};
 ghost use Rattle.layout.specs.Held.{dimsOf, answerOn, wordsOn};
 ghost use Rattle.layout.specs.Pieces.{Passed, Answers};
 ghost use Rattle.node_frames.specs.Pieces.{framePlace, frameWords, backWords, storedWords, Storable};
-ghost use Rattle.node_frames.specs.Pieces.{Judged};
 ghost use Rattle.layout.specs.Places.{headWords};
 use base::Bounds;
-use frame::Outcome;
-use frame::Timing;
 use node::Answer;
-use tree::Placed;
-
-// Whether a node awaits the sender in a dimension.
-fn is_awaited(b: Bounds, nodes: u32, number: u32, dim: u32, sender: u32) -> bool
-    requires { ⌜ (badBoard (limitsOf b) nodes ≡ false) × (number < nodes) × (dim < dimension nodes) ⌝ }
-    ensures { λ r. ⌜ r ≡ isAwaited (awaited nodes dim number) sender ⌝ }
-{
-    let place = tree::place_for(b, nodes, dim, number);
-    match place {
-        Placed::Alone => false,
-        Placed::Hermit(next) => next == sender,
-        Placed::Neighbour(other) => other == sender,
-        Placed::Messenger(other, hermit) => other == sender,
-        Placed::Refused(no) => false,
-    }
-}
 
 // A step, counted through both passes.
 fn step_of(p: u32, pass: u32, dim: u32) -> u32
@@ -97,33 +75,6 @@ fn store(state: &mut [u32], p: u32, bytes: &[u8])
     go_back(&mut *state, pass, k);
 }
 
-// Whether a frame is stored, dropped or refused, by a state that passes the test.
-fn judge(b: Bounds, s: &[u32], bytes: &[u8]) -> Answer
-    requires { ⌜ Passed (limitsOf b) (now s) ⌝ }
-    ensures { λ r. ⌜ Judged (limitsOf b) (now (s .entry)) (now (bytes .entry)) r ⌝ }
-{
-    let nodes = s[layout::NODES];
-    let number = s[layout::NUMBER];
-    let answer = wire_read::checked(b, nodes, bytes);
-    if let Outcome::Refused(no) = answer {
-        return Answer::Refused(no);
-    }
-    let sender = bytes[3] as u32;
-    if sender == number {
-        return Answer::Refused(3);
-    }
-    if !is_awaited(b, nodes, number, bytes[2] as u32, sender) {
-        return Answer::Refused(11);
-    }
-    let when = frame::timing_of(bytes[1], s[layout::PHASE] as u8);
-    match when {
-        Timing::Now => Answer::Done,
-        Timing::Early => Answer::Refused(7),
-        Timing::Late => Answer::Dropped,
-        Timing::Foreign => Answer::Refused(8),
-    }
-}
-
 // A frame has come for a state of p dimensions that passes the test.
 fn frame_on(b: Bounds, state: &mut [u32], p: u32, bytes: &[u8]) -> Answer
     requires { ⌜ Passed (limitsOf b) (now state) × (p ≡ dimsOf (now state)) ⌝ }
@@ -131,7 +82,13 @@ fn frame_on(b: Bounds, state: &mut [u32], p: u32, bytes: &[u8]) -> Answer
         ⌜ Answers (limitsOf b) (λ n. frameIn (limitsOf b) n (now (bytes .entry))) (now (state .entry))
         (now (state .exit)) r ⌝ }
 {
-    let answer = judge(b, &*state, bytes);
+    let answer = frame_refusals::judge(
+        b,
+        state[layout::NODES],
+        state[layout::NUMBER],
+        state[layout::PHASE] as u8,
+        bytes,
+    );
     match answer {
         Answer::Done => {
             store(state, p, bytes);
