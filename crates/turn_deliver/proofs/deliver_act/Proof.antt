@@ -10,9 +10,9 @@ use Rattle.base.proofs.Laws.{choose-yes, both-make}
 use Rattle.state_calls.specs.On.{replied}
 use Rattle.under_way.specs.Frames.{placeSize}
 use Rattle.stage.specs.Board.{isThere, quiet}
-use Rattle.turns.proofs.Acting.{one-off, deliver-none, deliver-early, deliver-off, there-known}
-use Rattle.turns.proofs.deliver_act.Statement.{statement}
-use Rattle.turns.proofs.deliver_act.Tie as tie
+use Rattle.turn_deliver.proofs.Known.{one-off, deliver-none, deliver-early, deliver-off, there-known}
+use Rattle.turn_deliver.proofs.deliver_act.Statement.{statement}
+use Rattle.turn_deliver.proofs.deliver_act.Tie as tie
 
 returns : tie.Need-returns
 returns c =

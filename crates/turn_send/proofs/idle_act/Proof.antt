@@ -1,15 +1,13 @@
 -- `idle_act` does what a line of a node gone idle does.
 use borrow.Author.Needs.{needs}
 use mathlib.Core.Path.{_≡_, sym, ap, _∙_}
-use mathlib.Core.List.{[]}
 use Rattle.base.specs.Limits.{base}
 use Rattle.node.specs.Calls.{idle}
 use Rattle.state_calls.specs.On.{onState, replied}
-use Rattle.items.specs.Places.{noItem}
 use Rattle.stage.specs.Board.{stateAt, quiet}
-use Rattle.turns.proofs.Acting.{idle-by}
-use Rattle.turns.proofs.idle_act.Statement.{statement}
-use Rattle.turns.proofs.idle_act.Tie as tie
+use Rattle.turn_send.proofs.Known.{idle-by}
+use Rattle.turn_send.proofs.idle_act.Statement.{statement}
+use Rattle.turn_send.proofs.idle_act.Tie as tie
 
 returns : tie.Need-returns
 returns c =
@@ -20,7 +18,7 @@ returns c =
     ap (onState (idle base)) (sym (asked .before .state-at .ensures .0)) ∙ sym (asked .go-idle .ensures) in
     c .quiet .ensures
     ∙ (λ i. quiet (x .st) (x .headers) (board .with-state .ensures i) (x .a) (c .before .number-of .ensures i))
-    ∙ sym (idle-by (x .st) (x .headers) [] 0 noItem (x .a) _ e)
+    ∙ sym (idle-by (x .st) (x .headers) (x .a) _ e)
 
 pub idle-act-spec : {M : Type 1} → statement M
 idle-act-spec =

@@ -7,8 +7,8 @@ use Rattle.base.proofs.Laws.{choose-yes, choose-no}
 use Rattle.node.specs.Calls.{take as takeCall, frameIn}
 use Rattle.state_calls.specs.On.{onState}
 use Rattle.under_way.specs.Frames.{frameHeld}
-use Rattle.turns.proofs.item_call.Statement.{statement}
-use Rattle.turns.proofs.item_call.Tie as tie
+use Rattle.turn_deliver.proofs.item_call.Statement.{statement}
+use Rattle.turn_deliver.proofs.item_call.Tie as tie
 
 returns : tie.Need-returns
 returns c =

@@ -5,8 +5,8 @@ use Rattle.base.specs.Limits.{base}
 use Rattle.node.specs.Calls.{frameIn}
 use Rattle.state_calls.specs.On.{onState}
 use Rattle.under_way.proofs.Parts.{held}
-use Rattle.turns.proofs.frame_call.Statement.{statement}
-use Rattle.turns.proofs.frame_call.Tie as tie
+use Rattle.turn_deliver.proofs.frame_call.Statement.{statement}
+use Rattle.turn_deliver.proofs.frame_call.Tie as tie
 
 returns : tie.Need-returns
 returns c =
