@@ -27,7 +27,8 @@ use Rattle.stage.specs.Board.{isThere, nodeAt, stateAt, quiet, putOne}
 use Rattle.stage.specs.declared.Stage.{Stage}
 use Rattle.stage.specs.declared.Acted.{Acted}
 use Rattle.stage.proofs.There.{there-not}
-use Rattle.turn_call.specs.Calling.{putTwo, frameActed, callActed, callAct, frameActedBytes, callActedBytes}
+use Rattle.turn_frames.specs.Framing.{putTwo}
+use Rattle.turn_call.specs.Calling.{frameActed, callActed, callAct, frameActedBytes, callActedBytes}
 use Rattle.turn_call.specs.Calling.{callActBytes}
 use Rattle.turn_call.specs.Pieces.{due}
 use Rattle.turns.specs.Events.{Turn, unchanged, sentBy, framedTo, calledBy, deliveredAt, called}
