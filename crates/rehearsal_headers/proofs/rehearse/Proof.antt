@@ -1,4 +1,4 @@
--- `rehearsal::rehearse` meets its contract: a walk of its MIR. A local array of headers is lent to `play_script`,
+-- `rehearsal_headers::rehearse` meets its contract: a walk of its MIR. A local array of headers is lent to `play_script`,
 -- beside the slices that are lent again.
 use mathlib.Core.Path.{_≡_, refl}
 use mathlib.Core.List.{List, [], _∷_}
@@ -49,16 +49,16 @@ use Rattle.items.proofs.Item as ItemT
 use Rattle.items.proofs.Item.Laws as ItemL
 use Rattle.items.proofs.Values.{val, none-fits, typed}
 use Rattle.printing.specs.Put.{put, ends}
 use Rattle.rehearsal.specs.Play.{play}
-use Rattle.rehearsal.specs.Play.{noItems}
-use Rattle.rehearsal.proofs.Plays.{PlayScript, play-does}
+use Rattle.rehearsal_headers.specs.Headers.{noItems}
+use Rattle.rehearsal_headers.proofs.Plays.{PlayScript, play-does}
 use Rattle.rehearsal.proofs.play_script.Symbol as play-script-def
 use Rattle.rehearsal.proofs.play_script.Symbol.{name as #rehearsal·play-script}
 use Rattle.rehearsal.proofs.play_script.Met as play-script-thm
-use Rattle.rehearsal.proofs.rehearse.Key.{name as #rehearsal·rehearse}
-use Rattle.rehearsal.proofs.rehearse as rehearse
-use Rattle.rehearsal.proofs.rehearse.Statement as stated
-use Rattle.rehearsal.proofs.rehearse.Code as code
+use Rattle.rehearsal_headers.proofs.rehearse.Key.{name as #rehearsal-headers·rehearse}
+use Rattle.rehearsal_headers.proofs.rehearse as rehearse
+use Rattle.rehearsal_headers.proofs.rehearse.Statement as stated
+use Rattle.rehearsal_headers.proofs.rehearse.Code as code
 
 abbrev stayed : Stays (rehearse.ended .signature .params) (rehearse.ended .kept)
 stayed = (
@@ -239,7 +239,7 @@ pub rehearse-spec : {M : Type 1} → stated.statement M
 unfolding code.routine tablesOf
 rehearse-spec 𝓤 H 𝓜 𝓖 𝓡 =
     entered 𝓤 H (tripleOf 𝓤 H (𝓖 .A) rehearse.signature (rehearse.spec 𝓤 H (𝓖 .A) (𝓜 .mem) (𝓡 .run)))
-    (tables 𝓤 H 𝓜 𝓡 code.env .C) (tables 𝓤 H 𝓜 𝓡 code.env .Λ) #rehearsal·rehearse code.function (code.unfolded 𝓤 H 𝓜 𝓡)
+    (tables 𝓤 H 𝓜 𝓡 code.env .C) (tables 𝓤 H 𝓜 𝓡 code.env .Λ) #rehearsal-headers·rehearse code.function (code.unfolded 𝓤 H 𝓜 𝓡)
     (rehearse-meets 𝓤 H (𝓖 .A) (givenOf 𝓤 H 𝓜 𝓖) (𝓜 .mem) (𝓡 .run) (tablesOf 𝓤 H 𝓜 (tables 𝓤 H 𝓜 𝓡 code.env))
     (cited 𝓤 H (PlayScript 𝓤 H (𝓖 .A) (𝓜 .mem) (𝓡 .run)) 𝓜 𝓡 code.env #rehearsal·play-script play-script-def.routine
     code.calls-rehearsal·play-script (play-script-thm.met 𝓤 H 𝓜 𝓖 𝓡)))
