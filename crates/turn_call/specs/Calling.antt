@@ -19,8 +19,7 @@ use Rattle.turn_frames.specs.Framing.{oneFrame, twoFrames}
 module _ (st : Stage) (headers : ℕ) (bytes : List ℕ) where
   abbrev pub frameActed : ℕ → State → List ℕ → Acted
   frameActed a after [] = quiet st headers st a 20
-  frameActed a after (b ∷ []) =
-      oneFrame st headers bytes a after (frameItem a b (nodeAt st a))
+  frameActed a after (b ∷ []) = oneFrame st headers bytes a after (frameItem a b (nodeAt st a))
   frameActed a after (b ∷ c ∷ l) =
       twoFrames st headers bytes a after (frameItem a b (nodeAt st a)) (frameItem a c (nodeAt st a))
 

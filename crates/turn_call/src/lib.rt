@@ -41,6 +41,7 @@ fn frame_item(st: Stage, a: u32, b: u8) -> Item
     }
 }
 
+// What the call does where it sends a frame.
 fn frame_act(
     st: Stage,
     a: u32,
