@@ -1,3 +1,1 @@
-pub mod Examples
 pub mod Played
-pub mod Plays

@@ -2,7 +2,7 @@
 use mathlib.Core.List.{List, [], _++_}
 use Prim.Native.Nat.{ℕ, zero, suc, _+_}
 use lib.Dec.{ltb, leb, eqb}
-use lib.ListN.{length, replicate}
+use lib.ListN.{length}
 use Rattle.base.specs.Choice.{choose, both, either}
 use Rattle.base.specs.Refusal.{Refusal, number}
 use Rattle.script.specs.Script.{lineAt}
@@ -11,7 +11,6 @@ use Rattle.script.specs.declared.Line.the-variants.{Nodes, Sends, Delivers, Idl
 use Rattle.stage.specs.Board.{nodeAt, opening}
 use Rattle.turns.specs.Events.{Turn, sendTurn, idleTurn, callTurn, deliverTurn}
 use Rattle.text.specs.Text.{header, turnText, stopText}
-use Rattle.items.specs.Places.{noItem}
 use Rattle.items.specs.declared.Item.{Item}
 use Rattle.stage.specs.declared.Stage.{Stage}
 
@@ -80,7 +79,3 @@ play script items bytes =
     printedBefore header
     (choose (ltb 4096 (length script)) (stopped (number Refusal.script) 0 items bytes)
     (playOpened script (first .next) items bytes (first .line)))
-
--- 512 places for headers, all zeros
-abbrev pub noItems : List Item
-noItems = replicate 512 noItem

@@ -2,7 +2,7 @@
 // printed, are lent by the caller.
 ghost use mathlib.Core.Path.{_≡_};
 ghost use Rattle.printing.specs.Put.{put, ends};
-ghost use Rattle.rehearsal.specs.Play.{play, noItems};
+ghost use Rattle.rehearsal.specs.Play.{play};
 use items::Item;
 
 // Plays a script from its first line to its end or to the line that stops it, and answers how much is printed.
@@ -35,23 +35,4 @@ pub fn play_script(items: &mut [Item], bytes: &mut [u8], out: &mut [u8], script:
         count += 1;
     }
     printed
-}
-
-// Plays a script with headers of its own, 512 places for them.
-pub fn rehearse(bytes: &mut [u8], out: &mut [u8], script: &[u8]) -> usize
-    ensures frames { λ r. ⌜ now (bytes .exit) ≡ play (now (script .entry)) noItems (now (bytes .entry)) .bytes ⌝ }
-    ensures printed { λ r. ⌜
-        now (out .exit) ≡ put (now (out .entry)) 0 (play (now (script .entry)) noItems (now (bytes .entry)) .text)
-        ⌝ }
-    ensures count { λ r. ⌜
-        r ≡ ends (now (out .entry)) 0 (play (now (script .entry)) noItems (now (bytes .entry)) .text)
-        ⌝ }
-{
-    let mut items = [Item {
-        from: 0,
-        to: 0,
-        kind: 0,
-        phase: 0,
-    }; 512];
-    play_script(&mut items, bytes, out, script)
 }

@@ -11,7 +11,7 @@ fn play(bytes: &mut [u8], out: &mut [u8], script: &[u8]) -> usize
     requires { ⌜ length (now out) ≡ textRoom ⌝ }
     ensures { λ r. ⌜ r ≤ length (now (out .exit)) ⌝ }
 {
-    rehearsal::rehearse(bytes, out, script)
+    rehearsal_headers::rehearse(bytes, out, script)
 }
 
 fn main() {

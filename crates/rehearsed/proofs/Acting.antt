@@ -33,12 +33,13 @@ use Rattle.items.specs.declared.Item.{Item as Header}
 use Rattle.state_calls.specs.On.{Kept, onState, stepOn}
 use Rattle.states.specs.declared.State.{State}
 use Rattle.under_way.specs.Frames.{placeSize, roomFor, framed}
+use Rattle.under_way.proofs.Parts.{length-framed}
 use Rattle.stage.specs.Board.{stateAt, nodeAt, changed, workItem, frameItem}
 use Rattle.stage.specs.declared.Stage.{Stage}
 use Rattle.turns.specs.Events.{Turn, sentBy, framedTo, calledBy, sendTurn, idleTurn, callTurn}
 use Rattle.rehearsed.proofs.States.{Bears, send-makes, idle-makes, step-makes}
 use Rattle.rehearsed.proofs.Links.{Stand}
-use Rattle.rehearsed.proofs.Memory.{length-framed, held-framed-before, held-framed-at}
+use Rattle.rehearsed.proofs.Memory.{held-framed-before, held-framed-at}
 use Rattle.rehearsed.proofs.Same.{Stands, Same, stand-put}
 use Rattle.rehearsed.proofs.Follows.{Follows, follows-as, roomy, refused-follows, changes-follow}
 use Rattle.rehearsed.proofs.Follows.{quiet-follows}

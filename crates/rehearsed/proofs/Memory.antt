@@ -5,7 +5,7 @@ use Prim.Native.Nat.{ℕ, zero, suc, _+_, _-_, _*_, _≤_, _<_}
 use native.Mathlib.Decide.{ℕ-discrete}
 use native.Mathlib.Omega.{arith}
 use lib.Dec.{eqb}
-use lib.ListN.{length, getD, set, take, drop, length-append, length-drop, length-set, take-append-drop}
+use lib.ListN.{length, getD, set, take, drop, length-drop, length-set, take-append-drop}
 use lib.ListN.{List·getD-append}
 use lib.Seq.{length-take-le, take-append-le, take-take, take-at, drop-append-le, drop-drop, drop-at}
 use lib.Seq.{getD-take, getD-set-same, getD-set-other}
@@ -62,16 +62,6 @@ pub length-closed : (bytes : List ℕ) (n at : ℕ) → at < n → placeSize * n
 length-closed bytes n at h l =
     ap length (sym (all-moved bytes n at h))
     ∙ length-moving bytes (placeSize * at) (placeSize * (n - 1)) (omega arith) (omega arith)
-
-pub length-framed : (bytes : List ℕ) (place : ℕ) (frame : List ℕ) → placeSize * place + length frame ≤ length bytes
-    → length (framed bytes place frame) ≡ length bytes
-unfolding framed
-length-framed bytes place frame l =
-    let a = placeSize * place in
-    let rest = drop (a + length frame) bytes in
-    length-append (take a bytes) (frame ++ rest)
-    ∙ omega
-    (arith, length-take-le a bytes (omega arith), length-append frame rest, length-drop (a + length frame) bytes)
 
 -- ---- the bytes of one place
 

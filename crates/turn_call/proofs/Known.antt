@@ -2,8 +2,13 @@
 use mathlib.Core.Path.{_≡_, refl, sym, ap, _∙_}
 use mathlib.Core.Bool.{Bool, true, false}
 use mathlib.Core.List.{List, _++_}
-use Prim.Native.Nat.{ℕ, _≤_}
-use lib.ListN.{length, drop}
+use Prim.Native.Nat.{ℕ, _+_, _*_, _≤_}
+use native.Mathlib.Omega.{arith}
+use lib.Dec.{ltb}
+use lib.ListN.{length, drop, length-drop}
+use lib.Seq.{length-take-le}
+use borrow.Author.Tests.{ltb-true}
+use borrow.Rule.Slice.PartMut.{putMid}
 use Rattle.base.specs.Choice.{choose}
 use Rattle.base.specs.Limits.{base}
 use Rattle.base.proofs.Laws.{clash, choose-yes}
@@ -18,12 +23,13 @@ use Rattle.layout.specs.Held.{isWhole, unpacked}
 use Rattle.state_calls.specs.On.{Kept, keep, stepOn, stepBytes, stepReplied}
 use Rattle.states.specs.declared.State.{State}
 use Rattle.state_calls.specs.declared.StepReply.{StepReply}
-use Rattle.items.specs.declared.Item.{Item}
-use Rattle.under_way.specs.Frames.{placeSize}
-use Rattle.stage.specs.Board.{stateAt, frameItem}
+use Rattle.under_way.specs.Frames.{placeSize, roomFor, framed}
+use Rattle.under_way.proofs.Parts.{frame-part, length-framed}
+use Rattle.stage.specs.Board.{stateAt, nodeAt}
 use Rattle.stage.specs.declared.Stage.{Stage}
+use Rattle.turn_frames.specs.Framing.{calledAt, oneFrameBytes, twoFramesBytes}
 use Rattle.turn_call.specs.Calling.{callActed, callActedBytes, callAct, callActBytes}
-use Rattle.turn_call.specs.Pieces.{isSent, callSends, due, frameHeader}
+use Rattle.turn_call.specs.Pieces.{isSent, callSends, due}
 
 -- a reply whose answer is known
 pub called-as : (r : StepReply) (x : BarrierAnswer) (g : Kept Barrier) → stepReplied r ≡ g → r .answer ≡ x
@@ -70,13 +76,45 @@ sent-bytes s buf f e =
     let n = unpacked (s .words) in
     choose-yes _ _ (k .0) ∙ ap (λ g. lentAfter n buf (g .answer)) (ap (barrier base n) e ∙ k .1 .step)
 
--- the header of its frame
-pub header-of : (a b phase : ℕ) (i : Item) (s t : State) → callSends s ≡ true → i ≡ frameHeader a b phase
-    → (isWhole base (s .words) ≡ true → phase ≡ unpacked (s .words) .phase)
-    → s ≡ t
-    → i ≡ frameItem a b (unpacked (t .words))
-header-of a b phase i s t f e p q =
-    e ∙ ap (frameHeader a b) (p (sending-known s f .0)) ∙ ap (λ x. frameItem a b (unpacked (x .words))) q
+-- its frame is at the start of the place that the call is made with
+pub due-at : (s : State) (bytes : List ℕ) (place : ℕ) → callSends s ≡ true → placeSize * place + placeSize ≤ length bytes
+    → calledAt bytes place s ≡ framed bytes place (due (unpacked (s .words)))
+unfolding calledAt
+due-at s bytes place f l =
+    let a = placeSize * place in
+    let k = sending-known s f .1 in
+    let part = length-take-le placeSize (drop a bytes) (rw length-drop (omega arith)) in
+    ap (λ b. putMid a placeSize bytes b) (sent-bytes s _ f part)
+    ∙ frame-part bytes place placeSize _ _ refl (k .count) (k .fits) l
+
+-- what is written matters only where there is room
+where-room : (t : Bool) (x y z : List ℕ) → (t ≡ true → x ≡ y) → choose t x z ≡ choose t y z
+where-room true x y z f = f refl
+where-room false x y z f = refl
+
+module _ (st : Stage) (headers : ℕ) (bytes : List ℕ) (a : ℕ) (sends : callSends (stateAt st a) ≡ true) where
+  abbrev frame : List ℕ
+  frame = due (nodeAt st a)
+
+  pub one-due : oneFrameBytes st headers bytes a
+      ≡ choose (ltb (st .under) (roomFor headers bytes)) (framed bytes (st .under) frame) bytes
+  one-due =
+      where-room _ _ _ _
+      (λ t.
+      let l = ltb-true (st .under) (roomFor headers bytes) t in
+      due-at (stateAt st a) bytes (st .under) sends (omega arith))
+
+  pub two-due : twoFramesBytes st headers bytes a
+      ≡ choose (ltb (st .under + 1) (roomFor headers bytes))
+      (framed (framed bytes (st .under) frame) (st .under + 1) frame) bytes
+  two-due =
+      where-room _ _ _ _
+      (λ t.
+      let l = ltb-true (st .under + 1) (roomFor headers bytes) t in
+      let k = sending-known (stateAt st a) sends .1 in
+      let n = length-framed bytes (st .under) frame (omega (arith, k .count, k .fits)) in
+      ap (λ x. calledAt x (st .under + 1) (stateAt st a)) (due-at (stateAt st a) bytes (st .under) sends (omega arith))
+      ∙ due-at (stateAt st a) (framed bytes (st .under) frame) (st .under + 1) sends (omega (arith, n)))
 
 pub call-by : (st : Stage) (headers : ℕ) (bytes : List ℕ) (a : ℕ) (r : Kept Barrier)
     → stepOn (stateAt st a) placeSize ≡ r

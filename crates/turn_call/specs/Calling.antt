@@ -10,37 +10,18 @@ use Rattle.node.specs.Answers.{Barrier, sent, waits, moved, left, barred}
 use Rattle.node.specs.Barrier.{frameDue}
 use Rattle.state_calls.specs.On.{Kept, stepOn}
 use Rattle.states.specs.declared.State.{State}
-use Rattle.items.specs.declared.Item.{Item}
 use Rattle.under_way.specs.Frames.{placeSize, roomFor, framed}
-use Rattle.stage.specs.Board.{stateAt, nodeAt, changed, frameItem, quiet, putOne}
+use Rattle.stage.specs.Board.{stateAt, nodeAt, changed, frameItem, quiet}
 use Rattle.stage.specs.declared.Stage.{Stage}
 use Rattle.stage.specs.declared.Acted.{Acted}
+use Rattle.turn_frames.specs.Framing.{oneFrame, twoFrames}
 
 module _ (st : Stage) (headers : ℕ) (bytes : List ℕ) where
-  -- two headers are put after the last
-  abbrev pub putTwo : Stage → ℕ → ℕ → Item → Item → Acted
-  putTwo after actor answer it other =
-      record {
-        stage = after;
-        actor = actor;
-        answer = answer;
-        gone = st .under;
-        at = st .under;
-        first = it;
-        next = st .under + 1;
-        second = other;
-      }
-
   abbrev pub frameActed : ℕ → State → List ℕ → Acted
   frameActed a after [] = quiet st headers st a 20
-  frameActed a after (b ∷ []) =
-      choose (ltb (st .under) (roomFor headers bytes))
-      (putOne st headers (changed st a after (st .under + 1)) a 20 (frameItem a b (nodeAt st a)))
-      (quiet st headers st a 15)
+  frameActed a after (b ∷ []) = oneFrame st headers bytes a after (frameItem a b (nodeAt st a))
   frameActed a after (b ∷ c ∷ l) =
-      choose (ltb (st .under + 1) (roomFor headers bytes))
-      (putTwo (changed st a after (st .under + 2)) a 20 (frameItem a b (nodeAt st a)) (frameItem a c (nodeAt st a)))
-      (quiet st headers st a 15)
+      twoFrames st headers bytes a after (frameItem a b (nodeAt st a)) (frameItem a c (nodeAt st a))
 
   abbrev pub callActed : ℕ → Kept Barrier → Barrier → Acted
   callActed a r (sent to length) = frameActed a (r .state) to

@@ -10,7 +10,6 @@ use Rattle.node.specs.declared.Node.{Node}
 use Rattle.node.specs.declared.Receivers.{Receivers}
 use Rattle.state_calls.specs.On.{stepOn}
 use Rattle.states.specs.declared.State.{State}
-use Rattle.items.specs.declared.Item.{Item}
 use Rattle.under_way.specs.Frames.{placeSize}
 use Rattle.stage.specs.Board.{nodeAt}
 use Rattle.stage.specs.declared.Stage.{Stage}
@@ -23,10 +22,6 @@ isSent waits = false
 isSent moved = false
 isSent left = false
 isSent (barred x) = false
-
--- the header of a frame, by the sender's phase
-abbrev pub frameHeader : ℕ → ℕ → ℕ → Item
-frameHeader a b phase = record { from = a; to = b; kind = 1; phase = phase }
 
 -- the bytes of the frame that is due
 abbrev pub due : Node → List ℕ

@@ -1,16 +1,15 @@
 // What a line of a barrier call does to a board of up to 16 nodes, and to the bytes that are lent.
 // Any board, numbers and bytes may be handed.
 ghost use mathlib.Core.Path.{_≡_};
-ghost use mathlib.Core.Bool.{true};
-ghost use mathlib.Core.List.{[], _∷_};
-ghost use Prim.Native.Nat.{_+_, _*_, _≤_, _<_};
-ghost use lib.ListN.{length};
-ghost use Rattle.layout.specs.Held.{unpacked};
+ghost use mathlib.Core.Bool.{true, false};
+ghost use mathlib.Core.List.{List};
+ghost use Prim.Native.Nat.{ℕ};
+ghost use Rattle.node.specs.Answers.{barrierOf, barrierNumber};
 ghost use Rattle.state_calls.specs.On.{stepReplied, stepOn};
-ghost use Rattle.under_way.specs.Frames.{placeSize, framed};
-ghost use Rattle.stage.specs.Board.{stateAt};
-ghost use Rattle.turn_call.specs.Calling.{frameActed, callAct, callActBytes};
-ghost use Rattle.turn_call.specs.Pieces.{callSends, frameHeader, due, framesIn, toList};
+ghost use Rattle.under_way.specs.Frames.{placeSize};
+ghost use Rattle.stage.specs.Board.{stateAt, nodeAt, frameItem};
+ghost use Rattle.turn_call.specs.Calling.{frameActed, callActed, callAct, callActBytes};
+ghost use Rattle.turn_call.specs.Pieces.{isSent, callSends, framesIn, toList};
 use items::Item;
 use node::BarrierAnswer;
 use node::Extra;
@@ -28,90 +27,21 @@ fn tried(s: State) -> StepReply
     state_calls::step(s, &mut scratch)
 }
 
-// Writes the frame that is due at a place: the 76 bytes there are lent on.
-fn write_at(s: State, place: usize, bytes: &mut [u8])
-    requires { ⌜ (callSends s ≡ true) × (placeSize * place + placeSize ≤ length (now bytes)) ⌝ }
-    ensures { λ r. ⌜ now (bytes .exit) ≡ framed (now (bytes .entry)) place (due (unpacked (s .words))) ⌝ }
+// The header of a frame that node a sends.
+fn frame_item(st: Stage, a: u32, b: u8) -> Item
+    requires { ⌜ callSends (stateAt st a) ≡ true ⌝ }
+    ensures { λ r. ⌜ r ≡ frameItem a b (nodeAt st a) ⌝ }
 {
-    let a = 76 * place;
-    let e = a + 76;
-    state_calls::step(s, &mut bytes[a..e]);
-}
-
-// The header of a frame.
-fn frame_item(a: u32, b: u8, phase: u8) -> Item
-    requires { ⌜ a < 16 ⌝ }
-    ensures { λ r. ⌜ r ≡ frameHeader a b phase ⌝ }
-{
+    let n = stage::state_at(st, a);
     Item {
         from: a as u8,
         to: b,
         kind: 1,
-        phase: phase,
+        phase: states::phase_of(n),
     }
 }
 
-// The frame goes to one receiver.
-fn one_frame(st: Stage, a: u32, b: u8, after: State, headers: usize, bytes: &mut [u8]) -> Acted
-    requires { ⌜ callSends (stateAt st a) ≡ true ⌝ }
-    ensures answer { λ r. ⌜ r ≡ frameActed st headers (now (bytes .entry)) a after (b ∷ []) ⌝ }
-    ensures memory { λ r. ⌜ now (bytes .exit) ≡ framesIn st headers (now (bytes .entry)) a (b ∷ []) ⌝ }
-{
-    let under = st.under;
-    if under_way::room_for(headers, bytes.len()) <= under {
-        return stage::quiet(under, headers, st, a, 15);
-    }
-    let n = stage::state_at(st, a);
-    write_at(n, under, &mut *bytes);
-    let it = frame_item(a, b, states::phase_of(n));
-    let board = stage::with_state(st, a, after, under + 1);
-    let mut acted = stage::quiet(under, headers, board, a, 20);
-    acted.at = under;
-    acted.first = it;
-    acted
-}
-
-// The frame goes to two receivers, or to none.
-fn two_frames(
-    st: Stage,
-    a: u32,
-    b: u8,
-    c: u8,
-    after: State,
-    headers: usize,
-    bytes: &mut [u8],
-) -> Acted
-    requires { ⌜ callSends (stateAt st a) ≡ true ⌝ }
-    ensures answer { λ r. ⌜ r ≡ frameActed st headers (now (bytes .entry)) a after (b ∷ c ∷ []) ⌝ }
-    ensures memory { λ r. ⌜ now (bytes .exit) ≡ framesIn st headers (now (bytes .entry)) a (b ∷ c ∷ []) ⌝ }
-{
-    let under = st.under;
-    let room = under_way::room_for(headers, bytes.len());
-    if room <= under {
-        return stage::quiet(under, headers, st, a, 15);
-    }
-    if room <= under + 1 {
-        return stage::quiet(under, headers, st, a, 15);
-    }
-    let n = stage::state_at(st, a);
-    write_at(n, under, &mut *bytes);
-    write_at(n, under + 1, &mut *bytes);
-    let phase = states::phase_of(n);
-    let it = frame_item(a, b, phase);
-    let other = frame_item(a, c, phase);
-    let board = stage::with_state(st, a, after, under + 2);
-    Acted {
-        stage: board,
-        actor: a,
-        answer: 20,
-        gone: under,
-        at: under,
-        first: it,
-        next: under + 1,
-        second: other,
-    }
-}
-
+// What the call does where it sends a frame.
 fn frame_act(
     st: Stage,
     a: u32,
@@ -124,12 +54,43 @@ fn frame_act(
     ensures answer { λ r. ⌜ r ≡ frameActed st headers (now (bytes .entry)) a after (toList to) ⌝ }
     ensures memory { λ r. ⌜ now (bytes .exit) ≡ framesIn st headers (now (bytes .entry)) a (toList to) ⌝ }
 {
-    let first = to.first;
+    let it = frame_item(st, a, to.first);
     let extra = to.extra;
     match extra {
-        Extra::Nobody => one_frame(st, a, first, after, headers, bytes),
-        Extra::Also(c) => two_frames(st, a, first, c, after, headers, bytes),
+        Extra::Nobody => turn_frames::one_frame(st, a, after, it, headers, bytes),
+        Extra::Also(c) => {
+            let other = frame_item(st, a, c);
+            turn_frames::two_frames(st, a, after, it, other, headers, bytes)
+        }
     }
+}
+
+// The number of the call's answer.
+fn number_of(answer: BarrierAnswer) -> u32
+    ensures { λ r. ⌜ r ≡ barrierNumber (barrierOf answer) ⌝ }
+{
+    match answer {
+        BarrierAnswer::Sends(to, length) => 20,
+        BarrierAnswer::Waits(clause) => 21,
+        BarrierAnswer::Moved => 22,
+        BarrierAnswer::Left => 23,
+        BarrierAnswer::Refused(x) => x as u32,
+    }
+}
+
+// What the call does where it sends no frame. A refusal leaves the board as it was.
+fn quiet_act(st: Stage, a: u32, r: StepReply, headers: usize) -> Acted
+    requires { ⌜ isSent (barrierOf (r .answer)) ≡ false ⌝ }
+    ensures { λ q. ⌜ ((bs : List ℕ) → q ≡ callActed st headers bs a (stepReplied r) (barrierOf (r .answer))) ⌝ }
+{
+    let under = st.under;
+    let answer = r.answer;
+    if let BarrierAnswer::Refused(x) = answer {
+        return stage::quiet(under, headers, st, a, x as u32);
+    }
+    let m = r.state;
+    let after = stage::with_state(st, a, m, under);
+    stage::quiet(under, headers, after, a, number_of(answer))
 }
 
 // What the call does. A frame's bytes are written only where there is a place for each receiver.
@@ -137,17 +98,10 @@ pub fn call_act(st: Stage, a: u32, headers: usize, bytes: &mut [u8]) -> Acted
     ensures answer { λ r. ⌜ r ≡ callAct st headers (now (bytes .entry)) a ⌝ }
     ensures memory { λ r. ⌜ now (bytes .exit) ≡ callActBytes st headers (now (bytes .entry)) a ⌝ }
 {
-    let under = st.under;
-    let n = stage::state_at(st, a);
-    let r = tried(n);
-    let m = r.state;
-    let kept = stage::with_state(st, a, m, under);
+    let r = tried(stage::state_at(st, a));
     let answer = r.answer;
-    match answer {
-        BarrierAnswer::Sends(to, length) => frame_act(st, a, to, m, headers, bytes),
-        BarrierAnswer::Waits(clause) => stage::quiet(under, headers, kept, a, 21),
-        BarrierAnswer::Moved => stage::quiet(under, headers, kept, a, 22),
-        BarrierAnswer::Left => stage::quiet(under, headers, kept, a, 23),
-        BarrierAnswer::Refused(x) => stage::quiet(under, headers, st, a, x as u32),
+    if let BarrierAnswer::Sends(to, length) = answer {
+        return frame_act(st, a, to, r.state, headers, bytes);
     }
+    quiet_act(st, a, r, headers)
 }

@@ -1,4 +1,4 @@
--- What an answer of a send says of the state and the numbers handed, and of the board after it.
+-- What an answer of a send says of the state and the numbers handed, and of the board after it or after an idle call.
 use mathlib.Core.Path.{_≡_, refl, sym, ap, _∙_}
 use mathlib.Core.Bool.{Bool, true, false}
 use mathlib.Core.List.{List}
@@ -7,8 +7,8 @@ use native.Mathlib.Omega.{arith}
 use Rattle.base.specs.Choice.{choose}
 use Rattle.base.specs.Limits.{base}
 use Rattle.tree.proofs.Lookups.{board-good}
-use Rattle.node.specs.Answers.{Given, Outcome, done, refused, outcomeOf}
-use Rattle.node.specs.Calls.{send}
+use Rattle.node.specs.Answers.{Given, Outcome, done, refused, outcomeOf, outcomeNumber}
+use Rattle.node.specs.Calls.{send, idle}
 use Rattle.node.specs.declared.Node.{Node}
 use Rattle.node.specs.declared.Answer.{Answer}
 use Rattle.node.proofs.Valid.{valid-known}
@@ -17,9 +17,10 @@ use Rattle.layout.specs.Held.{isWhole, unpacked}
 use Rattle.state_calls.specs.On.{Kept, keep, onState, replied}
 use Rattle.states.specs.declared.State.{State}
 use Rattle.state_calls.specs.declared.Reply.{Reply}
-use Rattle.stage.specs.Board.{stateAt}
+use Rattle.stage.specs.Board.{stateAt, changed, quiet}
 use Rattle.stage.specs.declared.Stage.{Stage}
 use Rattle.turn_send.specs.Sending.{sendActed, sendAct}
+use Rattle.turn_send.specs.Idling.{idleAct}
 
 -- a reply whose answer is known
 pub given-as : (r : Reply) (x : Answer) (g : Kept Outcome) → replied r ≡ g → r .answer ≡ x
@@ -54,3 +55,10 @@ pub send-by : (st : Stage) (headers : ℕ) (bytes : List ℕ) (a b : ℕ) (r : K
     → onState (λ n. send base n b) (stateAt st a) ≡ r
     → sendAct st headers bytes a b ≡ sendActed st headers bytes a b r (r .answer)
 send-by st headers bytes a b r e = ap (λ g. sendActed st headers bytes a b g (g .answer)) e
+
+pub idle-by : (st : Stage) (headers a : ℕ) (r : Kept Outcome) → onState (idle base) (stateAt st a) ≡ r
+    → idleAct st headers a
+    ≡ quiet st headers (changed st a (r .state) (st .under)) a (outcomeNumber (r .answer))
+unfolding idleAct
+idle-by st headers a r e =
+    ap (λ g. quiet st headers (changed st a (g .state) (st .under)) a (outcomeNumber (g .answer))) e

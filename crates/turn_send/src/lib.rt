@@ -1,10 +1,11 @@
-// What a line of work sent does to a board of up to 16 nodes.
+// What a line of work sent and a line of a node gone idle do to a board of up to 16 nodes.
 // Any board and numbers may be handed.
 ghost use mathlib.Core.Path.{_≡_};
 ghost use mathlib.Core.List.{List};
 ghost use Prim.Native.Nat.{ℕ};
 ghost use Rattle.under_way.specs.Frames.{roomFor};
 ghost use Rattle.turn_send.specs.Sending.{sendAct};
+ghost use Rattle.turn_send.specs.Idling.{idleAct};
 use items::Item;
 use node::Answer;
 use stage::Acted;
@@ -39,4 +40,17 @@ pub fn send_act(st: Stage, a: u32, b: u32, headers: usize, room: usize) -> Acted
         Answer::Dropped => stage::quiet(under, headers, st, a, 24),
         Answer::Refused(x) => stage::quiet(under, headers, st, a, x as u32),
     }
+}
+
+// Node a goes idle.
+pub fn idle_act(st: Stage, a: u32, headers: usize) -> Acted
+    ensures { λ r. ⌜ r ≡ idleAct st headers a ⌝ }
+{
+    let under = st.under;
+    let n = stage::state_at(st, a);
+    let r = state_calls::go_idle(n);
+    let m = r.state;
+    let answer = r.answer;
+    let after = stage::with_state(st, a, m, under);
+    stage::quiet(under, headers, after, a, answers::number_of(answer))
 }

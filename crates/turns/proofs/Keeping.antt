@@ -24,7 +24,9 @@ use Rattle.stage.specs.declared.Stage.{Stage}
 use Rattle.stage.specs.declared.Acted.{Acted}
 use Rattle.turn_call.specs.Calling.{frameActed, callActed, callAct}
 use Rattle.turn_send.specs.Sending.{sendActed}
-use Rattle.turns.specs.Acts.{deliverActed, itemCall, acted, actedItems}
+use Rattle.turn_send.specs.Idling.{idleAct}
+use Rattle.turn_deliver.specs.Delivering.{deliverActed, itemCall, deliverAct}
+use Rattle.turns.specs.Acts.{acted, actedItems}
 use Rattle.turns.proofs.Turning.{length-moved}
 
 one-more : (under room : ℕ) → ltb under room ≡ true → under + 1 ≤ room
@@ -73,7 +75,7 @@ module _ (st : Stage) (headers : ℕ) (bytes : List ℕ) (h : st .under ≤ room
       (λ e. record { size = refl; lent = omega arith })
 
   pub line-keeps : (line : Line) (at : ℕ) (it : Item) → Keeps st headers bytes (acted st headers bytes line at it)
-  unfolding acted callAct
+  unfolding acted idleAct deliverAct callAct
   line-keeps (Nodes P) at it = record { size = refl; lent = h }
   line-keeps (Sends a b) at it = let r = onState (λ n. send base n b) (stateAt st a) in send-keeps a b r (r .answer)
   line-keeps (Delivers a b) at it =

@@ -27,13 +27,16 @@ use Rattle.stage.specs.Board.{isThere, nodeAt, stateAt, quiet, putOne}
 use Rattle.stage.specs.declared.Stage.{Stage}
 use Rattle.stage.specs.declared.Acted.{Acted}
 use Rattle.stage.proofs.There.{there-not}
-use Rattle.turn_call.specs.Calling.{putTwo, frameActed, callActed, callAct, frameActedBytes, callActedBytes}
+use Rattle.turn_frames.specs.Framing.{putTwo}
+use Rattle.turn_call.specs.Calling.{frameActed, callActed, callAct, frameActedBytes, callActedBytes}
 use Rattle.turn_call.specs.Calling.{callActBytes}
 use Rattle.turn_call.specs.Pieces.{due}
 use Rattle.turns.specs.Events.{Turn, unchanged, sentBy, framedTo, calledBy, deliveredAt, called}
 use Rattle.turns.specs.Events.{sendTurn, idleTurn, callTurn, deliverTurn}
 use Rattle.turn_send.specs.Sending.{sendActed}
-use Rattle.turns.specs.Acts.{takeOff, deliverActed, acted, actedBytes, actedItems}
+use Rattle.turn_send.specs.Idling.{idleAct}
+use Rattle.turn_deliver.specs.Delivering.{takeOff, deliverActed, deliverAct, deliverActBytes}
+use Rattle.turns.specs.Acts.{acted, actedBytes, actedItems}
 
 -- ---- the headers
 
@@ -198,7 +201,7 @@ module _ (st : Stage) (items : List Item) (bytes : List ℕ) where
   pub idle-turns : (a at : ℕ) (it : Item)
       → sees (acted st (length items) bytes (Idles a) at it) (actedBytes st (length items) bytes (Idles a) at it)
       ≡ idleTurn st items bytes a
-  unfolding acted actedBytes idleTurn
+  unfolding acted actedBytes idleAct idleTurn
   idle-turns a at it = seen-quiet _ a _ bytes
 
   pub call-turns : (a at : ℕ) (it : Item)
@@ -218,7 +221,7 @@ module _ (st : Stage) (items : List Item) (bytes : List ℕ) where
         sees (acted st (length items) bytes (Delivers a b) at it)
         (actedBytes st (length items) bytes (Delivers a b) at it)
         ≡ deliverTurn st items bytes a b
-    unfolding acted actedBytes deliverTurn
+    unfolding acted actedBytes deliverAct deliverActBytes deliverTurn
     deliver-turns a b = go (ℕ-discrete (oldestAt items (st .under) a b) (st .under))
       where
         go : let at = oldestAt items (st .under) a b in

@@ -28,6 +28,17 @@ frame-part s place k n frame z e h l =
     ∙ ap (λ i. drop (a + i) s) (sym e) in
     ap (λ r. take a s ++ r) (append-assoc frame (drop n (take k m)) (drop k m) ∙ ap (λ r. frame ++ r) rest)
 
+-- a frame that fits leaves the bytes as many as they are
+pub length-framed : (bytes : List ℕ) (place : ℕ) (frame : List ℕ) → placeSize * place + length frame ≤ length bytes
+    → length (framed bytes place frame) ≡ length bytes
+unfolding framed
+length-framed bytes place frame l =
+    let a = placeSize * place in
+    let rest = drop (a + length frame) bytes in
+    length-append (take a bytes) (frame ++ rest)
+    ∙ omega
+    (arith, length-take-le a bytes (omega arith), length-append frame rest, length-drop (a + length frame) bytes)
+
 -- the frame held at a place, as it is read
 pub held : (s : List ℕ) (size at n : ℕ)
     → n ≡ frameLength (dimension size) (getD s (placeSize * at) 0) (getD s (placeSize * at + 2) 0)

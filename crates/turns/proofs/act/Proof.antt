@@ -1,7 +1,7 @@
 -- `act` does what a line does, by its kind.
 use borrow.Author.Needs.{needs}
 use mathlib.Core.Path.{_∙_}
-use Rattle.turns.proofs.Acting.{no-event, send-any, idle-any, call-any}
+use Rattle.turns.proofs.Acting.{no-event, send-any, idle-any, deliver-any, call-any}
 use Rattle.turns.proofs.act.Statement.{statement}
 use Rattle.turns.proofs.act.Tie as tie
 
@@ -22,7 +22,10 @@ returns-2 c =
 returns-3 : tie.Need-returns-3
 returns-3 c =
     let done = c .before .before in
-    rw (done .before .before .before .line3 .given .1) (done .deliver-act .ensures)
+    let told = done .before .before .before in
+    let x = told .before .before .before .args in
+    let n = deliver-any (x .st) (x .headers) (x .bytes .now) (x .at) (x .it) _ _ in
+    rw (told .line3 .given .1) (done .deliver-act .ensures .0 ∙ n .0, done .deliver-act .ensures .1 ∙ n .1)
 
 returns-4 : tie.Need-returns-4
 returns-4 c =

@@ -1,0 +1,1 @@
+// The worked script (rule S10) played by computation: proofs only.
