@@ -13,6 +13,7 @@ use Rattle.base.proofs.Laws.{choose-yes, choose-no}
 use Rattle.tree.proofs.Lookups.{board-good}
 use Rattle.node.specs.Sums.{dims, firstAt, secondAt, Field, allTaken, number, own, ownIssued}
 use Rattle.node.specs.Agree.{firstClauses, secondClauses, clauses}
+use Rattle.node.specs.State.{valid}
 use Rattle.node.specs.declared.Node.{Node}
 use Rattle.node.specs.Sums.{Has}
 use Rattle.node.proofs.Valid.{Valid, valid-known, first-zero}
@@ -25,10 +26,17 @@ use Rattle.layout.proofs.Reading.{first-word, second-word, first-in, second-in}
 use Rattle.layout.proofs.Whole.{Whole, whole, few}
 use Rattle.pass_one.specs.Tried.{firstTried, Added}
 use Rattle.pass_two.specs.Tried.{secondTried}
-use Rattle.scan.specs.Scan.{reach}
+use Rattle.scan.specs.Scan.{reach, confirmReach, Gathered}
 use Rattle.scan.specs.Pieces.{Standing}
 use Rattle.scan.proofs.Settled.{first-tried, second-tried}
-use Rattle.node_barrier.specs.Pieces.{Lent}
+
+-- the state that is lent passes the test, and its sums are at hand
+pub record Lent (L : Limits) (ws sums : List ℕ) (p total : ℕ) : Type 0 where
+  pub whole : isWhole L ws ≡ true
+  pub valid : valid L (unpacked ws) ≡ true
+  pub dims : p ≡ dims (unpacked ws)
+  pub gathered : Gathered (unpacked ws) (reach (unpacked ws)) sums
+  pub issued : total ≡ ownIssued (unpacked ws) (confirmReach (unpacked ws))
 
 -- a state has a head
 pub head-room : (L : Limits) (ws : List ℕ) → isWhole L ws ≡ true → 8 ≤ length ws

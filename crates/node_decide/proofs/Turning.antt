@@ -16,7 +16,7 @@ use Rattle.frame.specs.Frame.{frameBytes}
 use Rattle.node.specs.Sums.{dims, allTaken, own}
 use Rattle.node.specs.Agree.{isAlone, clauses, allHold, agrees, mayName}
 use Rattle.node.specs.State.{valid}
-use Rattle.node.specs.Answers.{give, also, sent, moved, barrierOf}
+use Rattle.node.specs.Answers.{Given, give, also, Barrier, sent, moved, barrierOf}
 use Rattle.node.specs.Calls.{badState}
 use Rattle.node.specs.Change.{at}
 use Rattle.node.specs.Barrier.{frameDue, lengthDue, receiversDue, isDue, moving, looking, barrier, clauseFails}
@@ -27,10 +27,28 @@ use Rattle.node.proofs.Ways.{callChecks, NoneDue, call-refuses, call-sends, cal
 use Rattle.survey.specs.Verdict.{isVerdict}
 use Rattle.survey.proofs.Clauses.{named-fails}
 use Rattle.survey.specs.declared.Verdict.the-variants.{Agrees, Fails}
-use Rattle.node_turn.specs.Turn.{onwardTurn, answerOf}
+use Rattle.node_turn.specs.Turn.{onwardTurn, nodeAfter, answerOf}
 use Rattle.node_turn.specs.declared.Turn.{Turn}
 use Rattle.node_turn.specs.declared.Turn.the-variants.{Refuses, Sends, Waits, Leaves}
-use Rattle.node_barrier.specs.Pieces.{tried, turned, Looks, Turns}
+
+-- the clauses of the position's step, none if it is alone
+abbrev pub tried : Limits → Node → List Bool
+tried L n = choose (isAlone n (n .dim)) [] (clauses L n (n .pass) (n .dim))
+
+abbrev pub turned : Node → Turn → Given Barrier
+turned n t = give (nodeAfter n t) (barrierOf (answerOf t))
+
+-- the turn of a node that looks
+pub record Looks (L : Limits) (n : Node) (t : Turn) : Type 0 where
+  pub reply : turned n t ≡ looking L n
+  pub clause : clauseFails L n (answerOf t) ≡ true
+  pub bytes : (buf : List ℕ) → buf ≡ lentAfter n buf (barrierOf (answerOf t))
+
+-- the turn of a node, and what its buffer is left as
+pub record Turns (L : Limits) (n : Node) (buf after : List ℕ) (t : Turn) : Type 0 where
+  pub reply : turned n t ≡ barrier L n (length buf)
+  pub clause : clauseFails L n (answerOf t) ≡ true
+  pub bytes : after ≡ barrierBytes L n buf
 
 module _ (L : Limits) (n : Node) where
   turns : (buf after : List ℕ) (t : Turn) → turned n t ≡ barrier L n (length buf)

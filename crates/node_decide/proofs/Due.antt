@@ -31,9 +31,8 @@ use Rattle.layout.specs.Held.{word, unpacked, sumOf}
 use Rattle.wire.proofs.Putting.{part-is}
 use Rattle.due.specs.Due.{toWhom, isLone, lookedUp, dueTo, sentPart, takenPart, firstNumbers, dueBytes, hasSums, canSend}
 use Rattle.due.specs.Due.{Due, nobody, short, sent, sending, dueOn}
-use Rattle.node_barrier.specs.Pieces.{Lent}
-use Rattle.node_barrier.proofs.Handed.{held, lies, low-dims, number-low, head-room, gathered, issued-is}
-use Rattle.node_barrier.proofs.Placing.{looked-whom, looked-alone}
+use Rattle.node_decide.proofs.Handed.{Lent, held, lies, low-dims, number-low, head-room, gathered, issued-is}
+use Rattle.node_decide.proofs.Placing.{looked-whom, looked-alone}
 
 -- two values more at the end
 list-two : (k count : ℕ) (f : ℕ → ℕ)
