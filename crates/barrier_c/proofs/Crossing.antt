@@ -1,5 +1,5 @@
 -- Laws of the barrier call on words: this build's limits, and all that the call leaves in lent memory.
-use mathlib.Core.Path.{_≡_, refl, ap, _∙_}
+use mathlib.Core.Path.{_≡_, refl}
 use mathlib.Core.Bool.{true}
 use mathlib.Core.List.{List}
 use Prim.Native.Nat.{ℕ}

@@ -9,7 +9,7 @@ use native.Mathlib.Omega.{arith}
 use lib.Dec.{ltb, leb, eqb}
 use lib.ListN.{length}
 use borrow.Author.Tests.{eq-eqb, ne-eqb, le-leb, lt-ltb, le-ltb}
-use Rattle.base.specs.Choice.{choose, both}
+use Rattle.base.specs.Choice.{choose}
 use Rattle.base.specs.Limits.{Limits, Fits, width}
 use Rattle.base.proofs.Laws.{clash, choose-yes, choose-no, both-make}
 use Rattle.node.specs.Sums.{dims, allTaken, own}
@@ -21,8 +21,8 @@ use Rattle.survey.specs.Verdict.{isVerdict}
 use Rattle.survey.specs.declared.Verdict.{Verdict}
 use Rattle.survey.specs.declared.Verdict.the-variants.{Agrees, Fails}
 use Rattle.layout.specs.Places.{headWords, atPass, atDim, atAgreed, atFirst, atSecond, sumWords, sumReceived}
-use Rattle.layout.specs.Held.{word, unpacked, firstFrom}
-use Rattle.pass_one.specs.Tried.{firstTried, Added}
+use Rattle.layout.specs.Held.{word, unpacked}
+use Rattle.pass_one.specs.Tried.{firstTried}
 use Rattle.pass_two.specs.Tried.{secondTried}
 use Rattle.node_turn.specs.Turn.{onwardTurn}
 use Rattle.node_turn.specs.declared.Turn.{Turn}

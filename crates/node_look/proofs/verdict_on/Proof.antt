@@ -3,16 +3,15 @@ use borrow.Author.Needs.{needs}
 use borrow.Author.Tests.{eq-eqb, ne-eqb}
 use denote.Ref.{now}
 use native.Mathlib.Omega.{arith}
-use mathlib.Core.Path.{_≡_, refl, sym, ap, _∙_, subst}
-use mathlib.Core.Bool.{true, false}
+use mathlib.Core.Path.{_≡_, sym, ap, _∙_, subst}
+use mathlib.Core.Bool.{false}
 use mathlib.Core.List.{List, []}
 use Prim.Native.Nat.{ℕ, _+_, _-_, _*_}
-use Rattle.base.specs.Choice.{choose}
 use Rattle.base.specs.Limits.{Limits, limitsOf}
 use Rattle.base.proofs.Laws.{clash, choose-yes, choose-no}
 use Rattle.node.specs.Agree.{allHold}
 use Rattle.survey.specs.Verdict.{isVerdict}
-use Rattle.layout.specs.Places.{atPass, atDim, atAgreed, atFirst}
+use Rattle.layout.specs.Places.{atDim, atAgreed, atFirst}
 use Rattle.layout.specs.Held.{word, firstFrom}
 use Rattle.layout.proofs.Offsets.{first-found, first-end}
 use Rattle.pass_one.specs.Tried.{firstTried, Added}
