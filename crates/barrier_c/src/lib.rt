@@ -13,9 +13,6 @@ ghost use Rattle.node_calls.specs.Fresh.{freshOn, freshWords};
 ghost use Rattle.answers.specs.Words.{lookupNumber, numberWords, placeWords, detailWords};
 ghost use Rattle.barrier_c.specs.Exports.{answerOn, wordsOn, barrierOn, barrierState, barrierBuffer, isClause};
 
-// The words in which a call gathers the sums of the largest board.
-const SUMS: usize = 18;
-
 // ---- Exported: the calls on a state
 
 // A node that has just started. Refuses 1, 2, 13.
@@ -33,8 +30,7 @@ pub extern "C" fn ocb_send(state: &mut [u32], to: u32) -> u32
     ensures answer { λ r. ⌜ r ≡ answerOn base (λ n. send base n to) (now (state .entry)) ⌝ }
     ensures memory { λ r. ⌜ now (state .exit) ≡ wordsOn base (λ n. send base n to) (now (state .entry)) ⌝ }
 {
-    let mut sums = [0u32; SUMS];
-    answers::number_of(node_calls::send_to(base::of_build(), state, &mut sums, to))
+    answers::number_of(calls::send_to(base::of_build(), state, to))
 }
 
 // A message from a node, with its phase byte, is taken. Refuses 13, 2, 3, 7 or 8, 6.
@@ -43,8 +39,7 @@ pub extern "C" fn ocb_take(state: &mut [u32], from: u32, phase: u8) -> u32
     ensures answer { λ r. ⌜ r ≡ answerOn base (λ n. take base n from phase) (now (state .entry)) ⌝ }
     ensures memory { λ r. ⌜ now (state .exit) ≡ wordsOn base (λ n. take base n from phase) (now (state .entry)) ⌝ }
 {
-    let mut sums = [0u32; SUMS];
-    answers::number_of(node_calls::take_from(base::of_build(), state, &mut sums, from, phase))
+    answers::number_of(calls::take_from(base::of_build(), state, from, phase))
 }
 
 // The node has run out of work. Refuses 13.
@@ -53,8 +48,7 @@ pub extern "C" fn ocb_idle(state: &mut [u32]) -> u32
     ensures answer { λ r. ⌜ r ≡ answerOn base (λ n. idle base n) (now (state .entry)) ⌝ }
     ensures memory { λ r. ⌜ now (state .exit) ≡ wordsOn base (λ n. idle base n) (now (state .entry)) ⌝ }
 {
-    let mut sums = [0u32; SUMS];
-    answers::number_of(node_calls::go_idle(base::of_build(), state, &mut sums))
+    answers::number_of(calls::go_idle(base::of_build(), state))
 }
 
 // A frame has come. Refuses 13, 9, 10, 2, 3, 11, 7, 8.
@@ -63,8 +57,7 @@ pub extern "C" fn ocb_frame_in(state: &mut [u32], bytes: &[u8]) -> u32
     ensures answer { λ r. ⌜ r ≡ answerOn base (λ n. frameIn base n (now (bytes .entry))) (now (state .entry)) ⌝ }
     ensures memory { λ r. ⌜ now (state .exit) ≡ wordsOn base (λ n. frameIn base n (now (bytes .entry))) (now (state .entry)) ⌝ }
 {
-    let mut sums = [0u32; SUMS];
-    answers::number_of(node_frames::frame_in(base::of_build(), state, &mut sums, bytes))
+    answers::number_of(calls::frame_in(base::of_build(), state, bytes))
 }
 
 // ---- Exported: the barrier call
@@ -84,9 +77,7 @@ pub extern "C" fn ocb_barrier(state: &mut [u32], buf: &mut [u8], details: &mut [
         (barrierOn base (now (state .entry)) (length (now (buf .entry))))
         ≡ true ⌝ }
 {
-    let mut sums = [0u32; SUMS];
-    let answer = node_barrier::step(base::of_build(), state, &mut sums, buf);
-    answers::answer_barrier(answer, details)
+    answers::answer_barrier(calls::step(base::of_build(), state, buf), details)
 }
 
 // ---- Exported: the lookups

@@ -1,5 +1,1 @@
-pub mod Placing
-pub mod Turning
-pub mod Handed
-pub mod Due
 pub mod Answering

@@ -50,10 +50,10 @@ module _ (ns : List ℕ) (call : Node → Given Outcome) where
   answers state ours back = record { ours = all; stay = stays }
     where
       all : (ws : List ℕ) → OneOf ns (answerOn base call ws)
-      all ws = cases (OneOf ns) (isWhole base ws) _ _ (λ e. ours (unpacked ws)) (λ e. state)
+      all ws = cases (λ o. OneOf ns (outcomeNumber o)) (isWhole base ws) _ _ (λ e. ours (unpacked ws)) (λ e. state)
 
       go : (ws : List ℕ) (t : Bool) → isWhole base ws ≡ t
-          → choose t (outcomeNumber (call (unpacked ws) .answer)) 13 ≢ 0
+          → outcomeNumber (choose t (call (unpacked ws) .answer) (refused 13)) ≢ 0
           → choose t (holding ws (call (unpacked ws) .node)) ws ≡ ws
       go ws true e z = ap (holding ws) (back (unpacked ws) z) ∙ repacked base fits-base ws e
       go ws false e z = refl

@@ -19,7 +19,7 @@ use Rattle.kept.proofs.Holds.{Holds}
 use Rattle.kept.proofs.Calls.{send-holds, take-holds, idle-holds, frame-holds, step-holds}
 use Rattle.kept.proofs.Fresh.{fresh-holds}
 use Rattle.states.specs.Words.{freshState}
-use Rattle.state_calls.specs.On.{Kept, keep, held, onState, stepOn}
+use Rattle.state_calls.specs.On.{Kept, keep, onState, stepOn}
 use Rattle.states.specs.declared.State.{State}
 
 -- the words of s hold the node n
@@ -37,7 +37,7 @@ makes : {A : Type 0} (call : Node → Given A) (none : A) (s : State) (n : Node)
     → Holds base (s .words) (call (unpacked (s .words)) .node)
     → let ws = s .words in
     Makes
-    (keep (held ws (call (unpacked ws) .node)) (choose (isWhole base ws) (call (unpacked ws) .answer) none))
+    (keep (record { words = choose (isWhole base ws) (holding ws (call (unpacked ws) .node)) ws }) (choose (isWhole base ws) (call (unpacked ws) .answer) none))
     (call n)
 makes call none s n b now =
     let ws = s .words in

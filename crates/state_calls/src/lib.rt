@@ -8,9 +8,6 @@ use node::Answer;
 use node::BarrierAnswer;
 use states::State;
 
-// The words in which a call gathers the sums of the largest board.
-const SUMS: usize = 18;
-
 pub struct Reply {
     pub state: State,
     pub answer: Answer,
@@ -25,8 +22,7 @@ pub fn send_to(s: State, to: u32) -> Reply
     ensures { λ r. ⌜ replied r ≡ onState (λ n. send base n to) s ⌝ }
 {
     let mut words = s.words;
-    let mut sums = [0u32; SUMS];
-    let answer = node_calls::send_to(base::of_build(), &mut words, &mut sums, to);
+    let answer = calls::send_to(base::of_build(), &mut words, to);
     Reply {
         state: State { words: words },
         answer: answer,
@@ -37,8 +33,7 @@ pub fn take_from(s: State, from: u32, phase: u8) -> Reply
     ensures { λ r. ⌜ replied r ≡ onState (λ n. take base n from phase) s ⌝ }
 {
     let mut words = s.words;
-    let mut sums = [0u32; SUMS];
-    let answer = node_calls::take_from(base::of_build(), &mut words, &mut sums, from, phase);
+    let answer = calls::take_from(base::of_build(), &mut words, from, phase);
     Reply {
         state: State { words: words },
         answer: answer,
@@ -49,8 +44,7 @@ pub fn go_idle(s: State) -> Reply
     ensures { λ r. ⌜ replied r ≡ onState (λ n. idle base n) s ⌝ }
 {
     let mut words = s.words;
-    let mut sums = [0u32; SUMS];
-    let answer = node_calls::go_idle(base::of_build(), &mut words, &mut sums);
+    let answer = calls::go_idle(base::of_build(), &mut words);
     Reply {
         state: State { words: words },
         answer: answer,
@@ -61,8 +55,7 @@ pub fn frame_in(s: State, bytes: &[u8]) -> Reply
     ensures { λ r. ⌜ replied r ≡ onState (λ n. frameIn base n (now (bytes .entry))) s ⌝ }
 {
     let mut words = s.words;
-    let mut sums = [0u32; SUMS];
-    let answer = node_frames::frame_in(base::of_build(), &mut words, &mut sums, bytes);
+    let answer = calls::frame_in(base::of_build(), &mut words, bytes);
     Reply {
         state: State { words: words },
         answer: answer,
@@ -74,8 +67,7 @@ pub fn step(s: State, buf: &mut [u8]) -> StepReply
     ensures memory { λ r. ⌜ now (buf .exit) ≡ stepBytes s (now (buf .entry)) ⌝ }
 {
     let mut words = s.words;
-    let mut sums = [0u32; SUMS];
-    let answer = node_barrier::step(base::of_build(), &mut words, &mut sums, buf);
+    let answer = calls::step(base::of_build(), &mut words, buf);
     StepReply {
         state: State { words: words },
         answer: answer,

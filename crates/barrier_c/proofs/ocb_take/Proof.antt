@@ -7,13 +7,10 @@ use Rattle.barrier_c.proofs.ocb_take.Tie as tie
 
 returns : tie.Need-returns
 returns c =
-    let s = c .before .before .before .before in
-    let l = s .before .before .before in
+    let s = c .before .before .before in
+    let l = s .before .before in
     let a = l .before .before .args in
     called _ (l .of-build .ensures) (λ L n. take L n (a .from) (a .phase)) _ _ _ _ (s .take-from .ensures) (c .number-of .ensures)
 
 pub ocb-take-spec : {M : Type 1} → statement M
-ocb-take-spec =
-    tie.close
-    (tie.spec (λ c κs. search needs) (λ c. search needs) (λ c κs. search needs) (λ c κs. search needs)
-    (λ c. search needs) returns)
+ocb-take-spec = tie.close (tie.spec (λ c κs. search needs) (λ c κs. search needs) (λ c κs. search needs) (λ c. search needs) returns)

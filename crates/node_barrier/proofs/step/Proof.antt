@@ -1,31 +1,33 @@
 -- `step` answers `barrier` on the words.
 use borrow.Author.Needs.{needs}
-use borrow.Author.Tests.{leb-true}
+use borrow.Author.Tests.{eq-eqb, ne-eqb, le-ltb, leb-true}
 use denote.Ref.{now}
 use native.Mathlib.Omega.{arith}
-use mathlib.Core.Path.{_≡_, refl}
+use mathlib.Core.Path.{_≡_, refl, ap, _∙_}
 use mathlib.Core.Logic.{_⊎_, inl, inr}
 use mathlib.Core.Bool.{true, false, not}
 use mathlib.Core.List.{List}
 use Prim.Native.Nat.{ℕ, _≤_}
-use lib.Dec.{leb}
+use lib.Dec.{leb, ltb}
 use lib.ListN.{length}
 use Rattle.base.specs.Limits.{Limits, Fits, limitsOf}
-use Rattle.base.proofs.Laws.{both-true}
+use Rattle.base.proofs.Laws.{both-true, choose-no}
 use Rattle.base.proofs.Limits.{fits-of}
 use Rattle.node.specs.State.{valid}
 use Rattle.node.specs.declared.Node.{Node}
 use Rattle.node.specs.declared.BarrierAnswer.the-variants.{Refused}
-use Rattle.layout.specs.Places.{sumWords}
-use Rattle.layout.specs.Held.{dimsOf, unpacked, isWhole, isReady}
+use Rattle.layout.specs.Places.{atBusy, sumWords}
+use Rattle.layout.specs.Held.{word, dimsOf, unpacked, isWhole, isReady, holding}
 use Rattle.scan.specs.declared.Scan.{Scan}
 use Rattle.scan.proofs.Known.{Known, failed, passed}
+use Rattle.node_turn.specs.Turn.{nodeAfter, wordsAfter}
+use Rattle.node_turn.specs.declared.Turn.{Turn}
 use Rattle.node_turn.specs.declared.Turn.the-variants.{Refuses}
 use Rattle.node_turn.proofs.Acting.{acted}
-use Rattle.node_barrier.specs.Pieces.{Lent}
-use Rattle.node_barrier.proofs.Handed.{head-room, low-dims}
-use Rattle.node_barrier.proofs.Turning.{refuses-state}
-use Rattle.node_barrier.proofs.Answering.{steps, On, no-state, on-state}
+use Rattle.node_decide.proofs.Handed.{Lent, head-room, low-dims}
+use Rattle.node_decide.proofs.Turning.{refuses-state, refuses-busy}
+use Rattle.node_decide.proofs.Decided.{decided}
+use Rattle.node_barrier.proofs.Answering.{On, no-state, on-state}
 use Rattle.node_barrier.proofs.step.Statement.{statement}
 use Rattle.node_barrier.proofs.step.Tie as tie
 
@@ -56,12 +58,12 @@ module _ (c : tie.After-struct-known) where
   fit = fits-of (start .args .b) (omega (arith, start .good .0)) (omega (arith, start .good .0))
 
   refused : (isReady L room ws ≡ false) ⊎ ((isReady L room ws ≡ true) × (not (valid L n) ≡ true))
-      → On L ws buf room (Refused 13) ws buf
+      → On L ws buf room ws buf (Refused 13)
   refused (inl e) = no-state L ws buf room e
   refused (inr e) =
       let w = both-true (isWhole L ws) (leb (sumWords (dimsOf ws)) room) (e .0) in
-      on-state L ws buf room (e .0) (Refused 13) ws buf
-      (steps L ws buf (Refuses 13) ws buf refl (refuses-state L n buf (e .1)) (acted L fit ws (w .0) (Refuses 13)))
+      on-state L ws buf room (e .0) (Refuses 13) ws buf refl (refuses-state L n buf (e .1))
+      (acted L fit ws (w .0) (Refuses 13))
 
 returns : tie.Need-returns
 returns c =
@@ -114,23 +116,46 @@ module _ (e : tie.Else1) where
         dims-are,
       )
 
-cast-step-on : tie.Need-cast-step-on
-cast-step-on c = record { fits = omega (arith, few (c .before .before .before)) }
+  busy : word (ws k) atBusy ≡ 1 → n k .busy ≡ true
+  unfolding unpacked
+  busy q = eq-eqb _ 1 q
 
-step-on-requires : tie.Need-step-on-requires
-step-on-requires c κs =
-    let e = c .before .before .before .before in
-    (long e, enough e, lent e)
+  idle : (word (ws k) atBusy ≡ 1 → ⊥) → n k .busy ≡ false
+  unfolding unpacked
+  idle q = ne-eqb _ 1 q
+
+  headed : ltb (length (ws k)) 8 ≡ false
+  headed = le-ltb (length (ws k)) 8 long
+
+  -- the words after a turn
+  after : (t : Turn) → wordsAfter (ws k) (found .dims) t ≡ holding (ws k) (nodeAfter (n k) t)
+  after t = ap (λ p. wordsAfter (ws k) p t) dims-are ∙ acted (L k) (fit k) (ws k) (known .whole) t
 
 returns-2 : tie.Need-returns-2
 returns-2 c =
-    let d = c .before .before .before .before .before .before in
-    let e = d .before .before .before .before .before in
+    let e = c .before .before in
     let s = k e in
-    on-state (L s) (ws s) (buf s) (room s) (known e .ready) (d .step-on .result) _ _ (d .step-on .ensures .0)
+    on-state (L s) (ws s) (buf s) (room s) (known e .ready) (Refuses 12) (ws s) (buf s) refl
+    (refuses-busy (L s) (n s) (buf s) (known e .valid) (busy e (c .if2 .taken)))
+    (after e (Refuses 12))
+
+returns-3 : tie.Need-returns-3
+returns-3 c =
+    let a = c .before .before in
+    let d = a .before .before .before .before .before .before in
+    let i = d .before .before .before .before .before in
+    let e = i .before .before in
+    let s = k e in
+    let t = d .decide .result in
+    on-state (L s) (ws s) (buf s) (room s) (known e .ready) t _ _ (a .act .ensures .0 ∙ choose-no _ _ (headed e))
+    (decided (L s) (fit s) (ws s) (sums e) (found e .dims) (found e .issued .0) (lent e) (enough e)
+    (idle e (i .if2 .left)) _ (buf s) _ t (d .decide .ensures))
+    (a .act .ensures .1 ∙ choose-no _ _ (headed e) ∙ after e t)
 
 pub step-spec : {M : Type 1} → statement M
 step-spec =
     tie.close
-    (tie.spec (λ c κs. search needs) (λ c. search needs) (λ c. search needs) returns cast-step-on step-on-requires (λ
-    c. search needs) (λ c. search needs) (λ c. search needs) returns-2)
+    (tie.spec (λ c κs. search needs) (λ c. search needs) (λ c. search needs) returns
+    (λ c. omega (arith, long (c .before))) (λ c. search needs) (λ c. search needs) returns-2
+    (λ c. record { fits = omega (arith, few (c .before .before .before)) }) (λ c κs. search needs) (λ c κs. search needs)
+    (λ c. search needs) (λ c. search needs) (λ c. search needs) returns-3)

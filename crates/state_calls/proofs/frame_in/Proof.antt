@@ -8,10 +8,10 @@ use Rattle.state_calls.proofs.frame_in.Tie as tie
 
 returns : tie.Need-returns
 returns c =
-    let s = c .before .before in
-    let l = s .before .before .before in
+    let s = c .before in
+    let l = s .before .before in
     let a = l .before .before .before .args in
-    called _ (l .of-build .ensures) (λ L n. frameIn L n (now (a .bytes))) _ _ _ (s .frame-in .ensures)
+    called _ (l .of-build .ensures) _ (λ L n. frameIn L n (now (a .bytes))) _ _ (s .frame-in .ensures)
 
 pub frame-in-spec : {M : Type 1} → statement M
-frame-in-spec = tie.close (tie.spec (λ c κs. search needs) (λ c. search needs) (λ c. search needs) (λ c κs. search needs) returns)
+frame-in-spec = tie.close (tie.spec (λ c κs. search needs) (λ c. search needs) (λ c κs. search needs) returns)

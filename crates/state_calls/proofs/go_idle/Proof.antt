@@ -7,10 +7,9 @@ use Rattle.state_calls.proofs.go_idle.Tie as tie
 
 returns : tie.Need-returns
 returns c =
-    let s = c .before .before in
-    let l = s .before .before .before in
-    let a = l .before .before .args in
-    called _ (l .of-build .ensures) (idle) _ _ _ (s .go-idle .ensures)
+    let s = c .before in
+    let l = s .before .before in
+    called _ (l .of-build .ensures) _ idle _ _ (s .go-idle .ensures)
 
 pub go-idle-spec : {M : Type 1} → statement M
-go-idle-spec = tie.close (tie.spec (λ c κs. search needs) (λ c. search needs) (λ c. search needs) (λ c κs. search needs) returns)
+go-idle-spec = tie.close (tie.spec (λ c κs. search needs) (λ c. search needs) (λ c κs. search needs) returns)

@@ -1,0 +1,6 @@
+pub mod Placing
+pub mod Turning
+pub mod Handed
+pub mod Due
+pub mod Looking
+pub mod Decided

@@ -1,0 +1,162 @@
+-- Laws of turns: the state and the answer of a turn are the definition's, with a clause that may be named and the lent
+-- bytes.
+use mathlib.Core.Path.{_≡_, refl, sym, ap, _∙_, subst}
+use mathlib.Core.Bool.{Bool, true, false, not}
+use mathlib.Core.List.{List, [], _∷_, _++_}
+use Prim.Native.Nat.{ℕ, suc, _≤_, _<_}
+use native.Mathlib.Omega.{arith}
+use lib.Dec.{ltb, eqb}
+use lib.ListN.{length, drop}
+use borrow.Author.Tests.{lt-ltb, lt-leb, eqb-true, ltb-false}
+use Rattle.base.specs.Choice.{choose, both}
+use Rattle.base.specs.Limits.{Limits}
+use Rattle.base.specs.Refusal.{Refusal, when}
+use Rattle.base.proofs.Laws.{Stops, here, later, clash, choose-yes, choose-no, cases, both-make}
+use Rattle.frame.specs.Frame.{frameBytes}
+use Rattle.node.specs.Sums.{dims, allTaken, own}
+use Rattle.node.specs.Agree.{isAlone, clauses, allHold, agrees, mayName}
+use Rattle.node.specs.State.{valid}
+use Rattle.node.specs.Answers.{Given, give, also, Barrier, sent, moved, barrierOf}
+use Rattle.node.specs.Calls.{badState}
+use Rattle.node.specs.Change.{at}
+use Rattle.node.specs.Barrier.{frameDue, lengthDue, receiversDue, isDue, moving, looking, barrier, clauseFails}
+use Rattle.node.specs.Barrier.{lentAfter, barrierBytes}
+use Rattle.node.specs.declared.Node.{Node}
+use Rattle.node.specs.declared.Receivers.{Receivers}
+use Rattle.node.proofs.Ways.{callChecks, NoneDue, call-refuses, call-sends, call-looks}
+use Rattle.survey.specs.Verdict.{isVerdict}
+use Rattle.survey.proofs.Clauses.{named-fails}
+use Rattle.survey.specs.declared.Verdict.the-variants.{Agrees, Fails}
+use Rattle.node_turn.specs.Turn.{onwardTurn, nodeAfter, answerOf}
+use Rattle.node_turn.specs.declared.Turn.{Turn}
+use Rattle.node_turn.specs.declared.Turn.the-variants.{Refuses, Sends, Waits, Leaves}
+
+-- the clauses of the position's step, none if it is alone
+abbrev pub tried : Limits → Node → List Bool
+tried L n = choose (isAlone n (n .dim)) [] (clauses L n (n .pass) (n .dim))
+
+abbrev pub turned : Node → Turn → Given Barrier
+turned n t = give (nodeAfter n t) (barrierOf (answerOf t))
+
+-- the turn of a node that looks
+pub record Looks (L : Limits) (n : Node) (t : Turn) : Type 0 where
+  pub reply : turned n t ≡ looking L n
+  pub clause : clauseFails L n (answerOf t) ≡ true
+  pub bytes : (buf : List ℕ) → buf ≡ lentAfter n buf (barrierOf (answerOf t))
+
+-- the turn of a node, and what its buffer is left as
+pub record Turns (L : Limits) (n : Node) (buf after : List ℕ) (t : Turn) : Type 0 where
+  pub reply : turned n t ≡ barrier L n (length buf)
+  pub clause : clauseFails L n (answerOf t) ≡ true
+  pub bytes : after ≡ barrierBytes L n buf
+
+module _ (L : Limits) (n : Node) where
+  turns : (buf after : List ℕ) (t : Turn) → turned n t ≡ barrier L n (length buf)
+      → clauseFails L n (answerOf t) ≡ true → after ≡ lentAfter n buf (barrierOf (answerOf t)) → Turns L n buf after t
+  unfolding barrierBytes
+  turns buf after t e f g = record { reply = e; clause = f; bytes = g ∙ ap (λ x. lentAfter n buf (x .answer)) e }
+
+  -- the same turn and bytes
+  pub turns-same : (buf : List ℕ) {a b : List ℕ} {s t : Turn} → a ≡ b → s ≡ t → Turns L n buf b t → Turns L n buf a s
+  turns-same buf e f x = rw (e, f) x
+
+  -- ---- refusals
+
+  module _ (buf : List ℕ) where
+    refuses : {x : ℕ} → Stops (callChecks L n (length buf)) x → Turns L n buf buf (Refuses x)
+    refuses {x} s = turns buf buf (Refuses x) (sym (call-refuses L n (length buf) s)) refl refl
+
+    pub refuses-state : not (valid L n) ≡ true → Turns L n buf buf (Refuses 13)
+    refuses-state e = refuses (here {c = badState L n} e)
+
+    module _ (ok : valid L n ≡ true) where
+      pub refuses-busy : n .busy ≡ true → Turns L n buf buf (Refuses 12)
+      refuses-busy e = refuses (later (ap not ok) (here {c = when (n .busy) Refusal.working} e))
+
+      -- ---- the frame due
+
+      module _ (b : n .busy ≡ false) where
+        pub short : isDue n ≡ true → length buf < lengthDue n → Turns L n buf buf (Refuses 14)
+        short d l =
+            let check = when (both (isDue n) (ltb (length buf) (lengthDue n))) Refusal.buffer in
+            refuses (later (ap not ok) (later b (here {c = check} (both-make d (lt-ltb (length buf) (lengthDue n) l)))))
+
+        pub sends : (to : Receivers) (count : ℕ) (bytes : List ℕ) → n .flag ≡ true
+            → receiversDue n ≡ to .first ∷ also (to .extra)
+            → count ≡ lengthDue n
+            → count ≤ length buf
+            → bytes ≡ frameBytes (dims n) (frameDue n)
+            → Turns L n buf (bytes ++ drop count buf) (Sends to count)
+        sends to count bytes f r e l is =
+            turns buf (bytes ++ drop count buf) (Sends to count)
+            ((λ i. give (at n (n .pass) (n .dim) false (n .agreed)) (sent (sym r i) (e i)))
+            ∙ sym (call-sends L n (length buf) _ _ ok b f r (omega arith)))
+            refl (ap (λ l. l ++ drop count buf) is)
+
+  -- ---- verdicts
+
+  abbrev tests : List Bool
+  tests = clauses L n (n .pass) (n .dim)
+
+  abbrev agreed : Bool
+  agreed = agrees L n (n .pass) (n .dim)
+
+  said-yes : isVerdict (tried L n) Agrees ≡ true → agreed ≡ true
+  unfolding agrees
+  said-yes e = go (isAlone n (n .dim)) e
+    where
+      go : (t : Bool) → allHold (choose t [] tests) ≡ true → choose t true (allHold tests) ≡ true
+      go true q = refl
+      go false q = q
+
+  said-no : (c : ℕ) → isVerdict (tried L n) (Fails c) ≡ true → (agreed ≡ false) × (mayName tests c ≡ true)
+  unfolding agrees mayName
+  said-no c e = go (isAlone n (n .dim)) e
+    where
+      go : (t : Bool) → mayName (choose t [] tests) c ≡ true
+          → (choose t true (allHold tests) ≡ false) × (mayName tests c ≡ true)
+      go true q = clash (sym q)
+      go false q = (named-fails tests c q, q)
+
+  -- ---- a node that looks
+
+  pub looks-out : dims n ≡ 0 → Looks L n Leaves
+  looks-out z =
+      let e : eqb (dims n) 0 ≡ true = rw z in
+      record { reply = sym (choose-yes _ _ e); clause = refl; bytes = λ buf. refl }
+
+  module _ (z : eqb (dims n) 0 ≡ false) where
+    pub looks-on : n .dim < dims n → (t : ℕ) → (n .pass ≡ 1 → dims n ≤ suc (n .dim) → t ≡ own n (dims n) allTaken)
+        → isVerdict (tried L n) Agrees ≡ true
+        → Looks L n (onwardTurn (dims n) (n .pass) (n .dim) (n .agreed) t)
+    unfolding onwardTurn
+    looks-on low t same v =
+        subst (Looks L n) (sym (choose-no _ _ (lt-leb (dims n) (n .dim) low)))
+        (cases (Looks L n) (ltb (suc (n .dim)) (dims n)) _ _
+        (λ e. record { reply = sym (moves ∙ choose-yes _ _ e); clause = refl; bytes = λ buf. refl })
+        (λ e.
+        cases (Looks L n) (eqb (n .pass) 1) _ _
+        (λ f.
+        let q = same (eqb-true _ _ f) (ltb-false _ _ e) in
+        record {
+          reply =
+              ap (λ x. give (at n 2 0 true x) moved) q
+              ∙ sym (moves ∙ choose-no _ _ e ∙ choose-yes _ _ f);
+          clause = refl;
+          bytes = λ buf. refl;
+        })
+        (λ f.
+        record { reply = sym (moves ∙ choose-no _ _ e ∙ choose-no _ _ f); clause = refl; bytes = λ buf. refl })))
+      where
+        moves : looking L n ≡ moving n
+        moves = choose-no _ _ z ∙ choose-yes _ _ (said-yes v)
+
+    pub looks-wait : (c : ℕ) → isVerdict (tried L n) (Fails c) ≡ true → Looks L n (Waits c)
+    looks-wait c e =
+        let q = said-no c e in
+        record { reply = sym (choose-no _ _ z ∙ choose-no _ _ (q .0)); clause = q .1; bytes = λ buf. refl }
+
+  pub looks : (buf : List ℕ) → valid L n ≡ true → n .busy ≡ false → NoneDue L n → (t : Turn) → Looks L n t
+      → Turns L n buf buf t
+  looks buf ok b d t s =
+      turns buf buf t (s .reply ∙ sym (call-looks L n (length buf) ok b d)) (s .clause) (s .bytes buf)
