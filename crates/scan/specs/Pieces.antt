@@ -4,7 +4,7 @@ use mathlib.Core.Path.{_≡_}
 use mathlib.Core.Bool.{Bool, true, false, not}
 use mathlib.Core.List.{List}
 use Prim.Native.Nat.{ℕ, suc, _+_, _≤_, _<_}
-use lib.Dec.{ltb}
+use lib.Dec.{ltb, eqb}
 use lib.ListN.{length}
 use Rattle.base.specs.Choice.{choose, both, either, every}
 use Rattle.base.specs.Limits.{Limits, fieldLimit, width}
@@ -22,6 +22,7 @@ use Rattle.gather.specs.Gather.{sentTotal, takenTotal, tallied, Started}
 use Rattle.adding.specs.Adding.{Added}
 use Rattle.scan.specs.Scan.{reach, confirmReach, passes, scanned, Gathered}
 use Rattle.scan.specs.declared.Scan.{Scan}
+use Rattle.scan.specs.declared.Past.{Past}
 use Rattle.pass_two.specs.declared.Passed.{Passed}
 
 -- ---- A step
@@ -93,7 +94,9 @@ SecondStep L ws p k awaits tried issued agreed r =
     → SecondDone L ws spot k issued r
 
 -- what a step is handed
-pub record Steps (L : Limits) (ws sums : List ℕ) (spot : Spot) (k at sends : ℕ) : Type 0 where
+pub record Steps (L : Limits) (ws sums : List ℕ) (spot : Spot) (past : Past) (k at sends : ℕ) : Type 0 where
+  pub firsts : past .firsts ≡ choose (eqb (spot .pass) 1) (spot .dim) (spot .dims)
+  pub seconds : past .seconds ≡ choose (eqb (spot .pass) 1) 0 (spot .dim)
   pub standing : Standing (spot .dims) k ws
   pub summed : firstPast spot k ≡ true → Summed L (spot .dims) k sums
   pub place : at ≡ atFirst (spot .dims) k

@@ -123,16 +123,30 @@ fn second_step(
     }
 }
 
+// How many steps of each pass are before the position.
+pub struct Past {
+    pub firsts: u32,
+    pub seconds: u32,
+}
+
 // Dimension k in both passes, whose words begin at a place, with the own sum of total sent in pass 2.
-fn step(b: Bounds, s: &[u32], sums: &mut [u32], spot: Spot, k: u32, at: u32, issued: Sent) -> Passed
-    requires { ⌜ Steps (limitsOf b) (now s) (now sums) spot k at (issued .0) ⌝ }
+fn step(
+    b: Bounds,
+    s: &[u32],
+    sums: &mut [u32],
+    spot: Spot,
+    past: Past,
+    k: u32,
+    at: u32,
+    issued: Sent,
+) -> Passed
+    requires { ⌜ Steps (limitsOf b) (now s) (now sums) spot past k at (issued .0) ⌝ }
     ensures { λ r. ⌜ Stepped (limitsOf b) (now (s .entry)) spot k (issued .0) (now (sums .entry)) (now (sums .exit)) r ⌝ }
 {
     let p = spot.dims;
     let limit = base::field_limit(b);
     let awaits = walk_tests::awaits_at(spot.alone, k);
-    let firsts = walk_tests::before_position(spot.pass, spot.dim, p);
-    let one = walk_tests::is_tried(awaits, k, firsts);
+    let one = walk_tests::is_tried(awaits, k, past.firsts);
     if !first_step(b, s, sums, limit, p, k, at, awaits, one) {
         return Passed {
             ok: false,
@@ -140,8 +154,7 @@ fn step(b: Bounds, s: &[u32], sums: &mut [u32], spot: Spot, k: u32, at: u32, iss
         };
     }
     let after = at + (2 * (p - k) + layout::FIRST);
-    let seconds = walk_tests::before_position(spot.pass, 0, spot.dim);
-    let two = walk_tests::is_tried(awaits, k, seconds);
+    let two = walk_tests::is_tried(awaits, k, past.seconds);
     second_step(b, s, limit, p, k, after, awaits, two, issued, spot.agreed)
 }
 
@@ -153,13 +166,17 @@ fn walk(b: Bounds, s: &[u32], sums: &mut [u32], spot: Spot, sends: Sent) -> Pass
     ensures { λ r. ⌜ WalkedAll (limitsOf b) (now (s .entry)) (now (sums .entry)) (now (sums .exit)) r ⌝ }
 {
     let p = spot.dims;
+    let past = Past {
+        firsts: walk_tests::before_position(spot.pass, spot.dim, p),
+        seconds: walk_tests::before_position(spot.pass, 0, spot.dim),
+    };
     let mut walked = Passed {
         ok: true,
         issued: sends,
     };
     let mut at = layout::HEAD + 2 * p;
     for k in 0..p {
-        walked = step(b, s, &mut *sums, spot, k, at, walked.issued);
+        walked = step(b, s, &mut *sums, spot, past, k, at, walked.issued);
         if !walked.ok {
             return walked;
         }

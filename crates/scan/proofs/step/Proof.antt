@@ -36,14 +36,13 @@ module _ (s : tie.Start) where
 -- what pass 1 is handed
 module _ (one : tie.After-is-tried) where
   abbrev s : tie.Start
-  s = one .before .before .before .before .before .before
+  s = one .before .before .before .before .before
 
-  told-first : Told (spot s) (spot s .dims) (k s) (one .before .before .awaits-at .result) (firstPast (spot s) (k s)) (one .is-tried .result)
+  told-first : Told (spot s) (spot s .dims) (k s) (one .before .awaits-at .result) (firstPast (spot s) (k s)) (one .is-tried .result)
   told-first =
-      let w = one .before .before .awaits-at in
-      let c = one .before .before-position in
-      first-told (spot s) (k s) (s .pre .standing .low) (w .result) (w .ensures) (one .is-tried .result) (c .result) (c .ensures)
-      (one .is-tried .ensures)
+      let w = one .before .awaits-at in
+      first-told (spot s) (k s) (s .pre .standing .low) (w .result) (w .ensures) (one .is-tried .result) (s .args .past .firsts)
+      (s .pre .firsts) (one .is-tried .ensures)
 
 first-step-requires : tie.Need-first-step-requires
 first-step-requires c κs =
@@ -52,7 +51,7 @@ first-step-requires c κs =
       h .standing,
       (λ q. h .summed (both-true (awaitsAt (spot (s one)) (k (s one))) _ (told-first one .tried ∙ q) .1)),
       h .place,
-      one .before .before .before .field-limit .ensures,
+      one .before .before .field-limit .ensures,
     )
 
 -- what it does
@@ -77,11 +76,10 @@ add-after-2 c =
 returns-2 : tie.Need-returns-2
 returns-2 c =
     let two = c .before in
-    let e = two .before .before in
+    let e = two .before in
     let f = e .before .before .before in
     let x = s (handed f) in
-    let w = handed f .before .before .awaits-at in
-    let p = two .before .before-position2 in
+    let w = handed f .before .awaits-at in
     let ok = not-false (f .first-step .result) (e .if1 .left) in
     record {
       ok = f .first-step .result;
@@ -89,14 +87,14 @@ returns-2 c =
       stops = λ q. clash (sym ok ∙ q);
       second = λ q.
           c .second-step .ensures (spot x)
-          (second-told (spot x) (k x) (x .pre .standing .low) (w .result) (w .ensures) (two .is-tried2 .result) (p .result)
-          (p .ensures) (two .is-tried2 .ensures))
+          (second-told (spot x) (k x) (x .pre .standing .low) (w .result) (w .ensures) (two .is-tried2 .result)
+          (x .args .past .seconds) (x .pre .seconds) (two .is-tried2 .ensures))
           refl;
     }
 
 pub step-spec : {M : Type 1} → statement M
 step-spec =
     tie.close
-    (tie.spec (λ c κs. search needs) (λ c κs. search needs) (λ c κs. search needs) (λ c κs. search needs)
-    first-step-requires (λ c. search needs) returns (λ c. search needs) (λ c. search needs) (λ c. search needs)
-    add-after-2 (λ c κs. search needs) (λ c κs. search needs) (λ c κs. search needs) (λ c. search needs) returns-2)
+    (tie.spec (λ c κs. search needs) (λ c κs. search needs) (λ c κs. search needs) first-step-requires (λ c. search needs)
+    returns (λ c. search needs) (λ c. search needs) (λ c. search needs) add-after-2 (λ c κs. search needs)
+    (λ c κs. search needs) (λ c. search needs) returns-2)

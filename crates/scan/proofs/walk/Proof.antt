@@ -1,4 +1,5 @@
 -- `walk`: before dimension k the sums are as `Held` says, and the dimensions below k pass.
+use borrow.Author.Needs.{needs}
 use borrow.Author.Tests.{not-true, not-false}
 use denote.Ref.{now}
 use native.Mathlib.Omega.{arith}
@@ -20,11 +21,11 @@ use Rattle.scan.proofs.walk.Statement.{statement}
 use Rattle.scan.proofs.walk.Tie as tie
 
 abbrev Inv-loop : tie.InvT-loop
-Inv-loop b s sums₀ spot p walked₀ at₀ k₀ sums walked at k =
+Inv-loop b s sums₀ spot p past walked₀ at₀ k₀ sums walked at k =
     (walked .ok ≡ true) × Held (limitsOf b) s sums₀ k at sums (walked .issued .0)
 
 abbrev μ-loop : tie.MeasureT-loop
-μ-loop b s sums₀ spot p walked₀ at₀ k₀ sums walked at k = p - k
+μ-loop b s sums₀ spot p past walked₀ at₀ k₀ sums walked at k = p - k
 
 -- what is handed
 module _ (s : tie.Start Inv-loop μ-loop) where
@@ -48,7 +49,7 @@ module _ (s : tie.Start Inv-loop μ-loop) where
 
 loop-holds : tie.Need-loop-holds Inv-loop μ-loop
 loop-holds c =
-    let s = c .before .before in
+    let s = c .before .before .before .before in
     (refl, held-start (L s) (ws s) (first s) (s .args .spot) (s .args .sends .0) (s .pre))
 
 -- at dimension k
@@ -57,7 +58,7 @@ module _ (i : tie.In-loop Inv-loop μ-loop) where
   at-loop = i .before
 
   abbrev begun : tie.Start Inv-loop μ-loop
-  begun = i .before .before .before .before
+  begun = i .before .before .before .before .before .before
 
   abbrev k : ℕ
   k = at-loop .loop .k
@@ -89,7 +90,10 @@ step-requires : tie.Need-step-requires Inv-loop μ-loop
 step-requires c κs =
     let i = c .before in
     let s = begun i in
+    let two = i .before .before in
     record {
+      firsts = two .before .before-position .ensures;
+      seconds = two .before-position2 .ensures;
       standing = stands i;
       summed = summed (L s) (fit s) (ws s) (first s) _ _ (s .pre) _ _ _ _ (held i) (low i);
       place = place (L s) (fit s) (ws s) (first s) _ _ (s .pre) _ _ _ _ (held i) (low i);
@@ -127,15 +131,15 @@ loop-again c =
 returns-2 : tie.Need-returns-2 Inv-loop μ-loop
 returns-2 c =
     let l = c .before in
-    let s = c .before .before .before .before in
+    let s = c .before .before .before .before .before .before in
     ended (L s) (fit s) (ws s) (first s) _ _ (s .pre) _ _ _ _ (l .loop .inv .1)
     (omega (arith, dims-are s, c .loop-test .left)) _ (l .loop .inv .0) refl
 
 pub walk-spec : {M : Type 1} → statement M
 walk-spec =
     tie.close
-    (tie.spec Inv-loop μ-loop (λ c. record { fits = omega (arith, few-dims (c .before .before)) })
-    (λ c. record { fits = omega (arith, few-dims (c .before .before)) }) loop-holds step-requires same-length returns
+    (tie.spec Inv-loop μ-loop (λ c κs. search needs) (λ c κs. search needs)
+    (λ c. record { fits = omega (arith, few-dims (c .before .before .before .before)) }) (λ c. record { fits = omega (arith, few-dims (c .before .before .before .before)) }) loop-holds step-requires same-length returns
     (λ c. omega (arith, small (onward c))) (λ c. record { fits = omega (arith, small (onward c)) })
     (λ c. record { fits = omega (arith, small (onward c)) }) (λ c. record { fits = omega (arith, small (onward c)) })
     (λ c. record { fits = omega (arith, small (onward c)) })
