@@ -1,4 +1,4 @@
--- The numbers of a frame above shell k, added to the sums shell by shell, then the totals: clause 3 holds for them exactly
+-- The numbers of a frame above shell k, added to the sums run by run, then the totals: clause 3 holds for them exactly
 -- where no sum comes above the limit.
 use mathlib.Core.Path.{_≡_, refl, sym, ap, _∙_}
 use mathlib.Core.Bool.{Bool, true, false}
@@ -13,11 +13,11 @@ use borrow.Author.Tests.{le-leb, leb-true}
 use Rattle.base.proofs.Laws.{clash, choose-yes, choose-no}
 use Rattle.node.specs.Sums.{Field, sentIn, takenIn, allSent, allTaken, number}
 use Rattle.node.specs.declared.Stored.{Stored}
-use Rattle.layout.specs.Places.{sentPlace, takenPlace, issuedPlace, receivedPlace, sumTaken, sumIssued, sumReceived}
+use Rattle.layout.specs.Places.{markWords, sentPlace, takenPlace, issuedPlace, receivedPlace, sumIssued, sumReceived}
 use Rattle.layout.specs.Held.{word, firstFrom, sumOf}
 use Rattle.layout.proofs.Reading.{number-sent, number-taken}
 use Rattle.adding.specs.Adding.{FirstAt, Within, Added}
-use Rattle.adding.specs.Pieces.{AddedAt, InShells, IsTotal, AddedShells, AddedTotals}
+use Rattle.adding.specs.Pieces.{Apart, AddedAt, AddedRun, InShells, IsTotal, AddedShells, AddedTotals}
 
 -- ---- One number
 
@@ -50,6 +50,72 @@ module _ (before : List ℕ) (to : ℕ) (ws : List ℕ) (from limit : ℕ) (afte
     pub other-kept : (j : ℕ) → (j ≡ to → ⊥) → word after j ≡ word before j
     other-kept j n = ap (λ y. word y j) put ∙ getD-set-other before to j sum 0 (λ z. n (omega arith))
 
+-- ---- A run of numbers
+
+module _ (before : List ℕ) (to : ℕ) (ws : List ℕ) (from limit : ℕ) where
+  -- the first i are done, and the other sums are as they were
+  pub record Upto (i : ℕ) (sums : List ℕ) : Type 0 where
+    pub long : length sums ≡ length before
+    pub done : (j : ℕ) → j < i
+        → (word before (to + j) + word ws (from + j) ≤ limit) × (word sums (to + j) ≡ word before (to + j) + word ws (from + j))
+    pub others : (j : ℕ) → Apart to i j → word sums j ≡ word before j
+
+  pub none-done : Upto 0 before
+  none-done = record { long = refl; done = λ j h. absurd (omega arith); others = λ j h. refl }
+
+  module _ (count i : ℕ) (sums : List ℕ) (u : Upto i sums) (next : i < count) (wide : to + count ≤ length before)
+      (after : List ℕ) (r : Bool) (a : AddedAt sums (to + i) ws (from + i) limit after r) where
+    same : word sums (to + i) + word ws (from + i) ≡ word before (to + i) + word ws (from + i)
+    same = ap (λ y. y + word ws (from + i)) (u .others (to + i) (λ n. omega arith))
+
+    pub run-length : length after ≡ length before
+    run-length = kept-length sums (to + i) ws (from + i) limit after r a ∙ u .long
+
+    pub run-stopped : r ≡ false → AddedRun before to ws from count limit after false
+    run-stopped e =
+        record {
+          within = λ q. clash (sym q);
+          over = λ q w. not-added sums (to + i) ws (from + i) limit after r a e .0 (omega (arith, same, w i next));
+          inside = λ q. clash (sym q);
+          others = λ q. clash (sym q);
+          length = run-length;
+        }
+
+    pub run-more : r ≡ true → Upto (i + 1) after
+    run-more e =
+        record {
+          long = run-length;
+          done = λ j h. go j h (ℕ-discrete j i);
+          others = λ j h.
+              other-kept sums (to + i) ws (from + i) limit after r a e j (λ z. out j h z) ∙ u .others j (λ n. omega (arith, h n));
+        }
+      where
+        out : (j : ℕ) → Apart to (i + 1) j → j ≡ to + i → ⊥
+        out j h z = let l = h (λ n. omega arith) in omega arith
+
+        go : (j : ℕ) → j < i + 1 → Dec (j ≡ i)
+            → (word before (to + j) + word ws (from + j) ≤ limit)
+            × (word after (to + j) ≡ word before (to + j) + word ws (from + j))
+        go j h (yes z) =
+            rw z (
+              omega (arith, sum-low sums (to + i) ws (from + i) limit after r a e, same),
+              sum-put sums (to + i) ws (from + i) limit after r a e (omega (arith, u .long)) ∙ same,
+            )
+        go j h (no z) =
+            let d = u .done j (omega arith) in
+            (d .0, other-kept sums (to + i) ws (from + i) limit after r a e (to + j) (λ q. z (omega arith)) ∙ d .1)
+
+  pub run-ended : (count i : ℕ) (sums : List ℕ) → Upto i sums → i ≡ count → AddedRun before to ws from count limit sums true
+  run-ended count i sums u z =
+      let v : Upto count sums = rw z at u in
+      record {
+        within = λ q j h. v .done j h .0;
+        over = λ q. clash q;
+        inside = λ q j h. v .done j h .1;
+        others = λ q. v .others;
+        length = v .long;
+      }
+
 module _ (ws before : List ℕ) (p k at limit : ℕ) where
   abbrev x : Stored
   x = firstFrom ws p k at
@@ -63,133 +129,74 @@ module _ (ws before : List ℕ) (p k at limit : ℕ) where
 
   -- ---- The shells
 
-  -- those below m are done, and the other sums are as they were
-  pub record Upto (m : ℕ) (sums : List ℕ) : Type 0 where
-    pub low : k < m
-    pub high : m ≤ p
-    pub long : length sums ≡ length before
-    pub done : (f : Field) → InShells k m f → Fine f × New sums f
-    pub sent : (j : ℕ) → m ≤ j → j < p → word sums j ≡ word before j
-    pub taken : (j : ℕ) → p + m ≤ j → word sums j ≡ word before j
-
-  -- a shell comes above the limit
-  pub shells-stopped : (sums : List ℕ) → length sums ≡ length before → (((f : Field) → InShells k p f → Fine f) → ⊥)
-      → AddedShells p k x limit before sums false
-  shells-stopped sums l none =
-      record {
-        within = λ q. clash (sym q);
-        over = λ q. none;
-        added = λ q. clash (sym q);
-        others = λ q. clash (sym q);
-        length = l;
-      }
-
   module _ (here : FirstAt ws before p k at) where
-    pub none-done : Upto (k + 1) before
-    none-done =
-        record {
-          low = omega arith;
-          high = omega (arith, here .low);
-          long = refl;
-          done = none;
-          sent = λ j a b. refl;
-          taken = λ j a. refl;
-        }
-      where
-        none : (f : Field) → InShells k (k + 1) f → Fine f × New before f
-        none (sentIn j) h = absurd (omega arith)
-        none (takenIn j) h = absurd (omega arith)
+    -- a number of the frame by its index in a run
+    abbrev sentRun : ℕ
+    sentRun = at + markWords + 1
 
-    module _ (m : ℕ) (sums : List ℕ) (u : Upto m sums) (next : m < p) (one : List ℕ) (r : Bool)
-        (a : AddedAt sums m ws (sentPlace at k m) limit one r) where
-      -- the sums of shell m are still the own ones
-      sent-sum : word sums m + word ws (sentPlace at k m) ≡ sumOf p before (sentIn m) + number x (sentIn m)
-      sent-sum = λ i.
-          u .sent m (omega arith) next i
-          + sym (number-sent ws p k at m (omega (arith, u .low)) next (omega (arith, here .few))) i
+    abbrev takenRun : ℕ
+    takenRun = at + markWords + 1 + (p - k)
 
-      pub sent-over : r ≡ false → ((f : Field) → InShells k p f → Fine f) → ⊥
-      sent-over e w = not-added sums m ws _ limit one r a e .0 (omega (arith, sent-sum, w (sentIn m) (u .low, next)))
+    sent-at : (i : ℕ) → i < p - (k + 1) → number x (sentIn (k + 1 + i)) ≡ word ws (sentRun + i)
+    sent-at i h =
+        let z : sentPlace at k (k + 1 + i) ≡ sentRun + i = omega arith in
+        number-sent ws p k at (k + 1 + i) (omega arith) (omega arith) (omega (arith, here .few)) ∙ ap (word ws) z
 
-      pub one-length : length one ≡ length before
-      one-length = kept-length sums m ws _ limit one r a ∙ u .long
+    taken-at : (i : ℕ) → i < p - (k + 1) → number x (takenIn (k + 1 + i)) ≡ word ws (takenRun + i)
+    taken-at i h =
+        let z : takenPlace p at k (k + 1 + i) ≡ takenRun + i = omega (arith, here .low) in
+        number-taken ws p k at (k + 1 + i) (omega arith) (omega arith) (omega (arith, here .few)) ∙ ap (word ws) z
 
-      module _ (e : r ≡ true) (two : List ℕ) (t : Bool) (b : AddedAt one (sumTaken p m) ws (takenPlace p at k m) limit two t) where
-        one-other : (j : ℕ) → (j ≡ m → ⊥) → word one j ≡ word sums j
-        one-other = other-kept sums m ws _ limit one r a e
+    module _ (mid : List ℕ) (r : Bool) (one : AddedRun before (k + 1) ws sentRun (p - (k + 1)) limit mid r) where
+      pub sent-over : r ≡ false → Within limit p k x before → ⊥
+      sent-over e w =
+          one .over e (λ i h. omega (arith, w (sentIn (k + 1 + i)) (omega arith, omega arith), sent-at i h))
 
-        taken-sum : word one (sumTaken p m) + word ws (takenPlace p at k m)
-            ≡ sumOf p before (takenIn m) + number x (takenIn m)
-        taken-sum = λ i.
-            (one-other (p + m) (λ q. omega (arith, next)) ∙ u .taken (p + m) (omega arith)) i
-            + sym (number-taken ws p k at m (omega (arith, u .low)) next (omega (arith, here .few))) i
+      module _ (good : r ≡ true) (after : List ℕ) (t : Bool)
+          (two : AddedRun mid (p + k + 1) ws takenRun (p - (k + 1)) limit after t) where
+        taken-sum : (i : ℕ) → i < p - (k + 1)
+            → word mid (p + k + 1 + i) + word ws (takenRun + i)
+            ≡ sumOf p before (takenIn (k + 1 + i)) + number x (takenIn (k + 1 + i))
+        taken-sum i h =
+            let z : p + k + 1 + i ≡ p + (k + 1 + i) = omega arith in
+            λ j.
+            (one .others good (p + k + 1 + i) (λ n. omega (arith, here .low)) ∙ ap (word before) z) j + sym (taken-at i h) j
 
-        pub taken-over : t ≡ false → ((f : Field) → InShells k p f → Fine f) → ⊥
-        taken-over z w = not-added one _ ws _ limit two t b z .0 (omega (arith, taken-sum, w (takenIn m) (u .low, next)))
+        pub taken-over : t ≡ false → Within limit p k x before → ⊥
+        taken-over e w =
+            two .over e (λ i h. omega (arith, w (takenIn (k + 1 + i)) (omega arith, omega arith), taken-sum i h))
 
-        pub two-length : length two ≡ length before
-        two-length = kept-length one _ ws _ limit two t b ∙ one-length
-
-        module _ (z : t ≡ true) where
-          two-other : (j : ℕ) → (j ≡ p + m → ⊥) → word two j ≡ word one j
-          two-other = other-kept one _ ws _ limit two t b z
-
-          both-other : (j : ℕ) → (j ≡ m → ⊥) → (j ≡ p + m → ⊥) → word two j ≡ word sums j
-          both-other j n o = two-other j o ∙ one-other j n
-
-          sent-new : Fine (sentIn m) × New two (sentIn m)
-          sent-new = (
-            omega (arith, sum-low sums m ws _ limit one r a e, sent-sum),
-            two-other m (λ q. omega (arith, next))
-                ∙ sum-put sums m ws _ limit one r a e (omega (arith, u .long, here .wide))
-                ∙ sent-sum,
-          )
-
-          taken-new : Fine (takenIn m) × New two (takenIn m)
-          taken-new = (
-            omega (arith, sum-low one _ ws _ limit two t b z, taken-sum),
-            sum-put one _ ws _ limit two t b z (omega (arith, one-length, here .wide)) ∙ taken-sum,
-          )
-
-          done-more : (f : Field) → InShells k (m + 1) f → Fine f × New two f
-          done-more (sentIn j) h = go (ℕ-discrete j m)
-            where
-              go : Dec (j ≡ m) → Fine (sentIn j) × New two (sentIn j)
-              go (yes z) = rw z sent-new
-              go (no z) =
-                  let d = u .done (sentIn j) (h .0, omega arith) in
-                  (d .0, both-other j z (λ q. omega (arith, next)) ∙ d .1)
-          done-more (takenIn j) h = go (ℕ-discrete j m)
-            where
-              go : Dec (j ≡ m) → Fine (takenIn j) × New two (takenIn j)
-              go (yes z) = rw z taken-new
-              go (no z) =
-                  let d = u .done (takenIn j) (h .0, omega arith) in
-                  (d .0, both-other (p + j) (λ q. omega (arith, next)) (λ q. z (omega arith)) ∙ d .1)
-
-          pub shell-done : Upto (m + 1) two
-          shell-done =
-              record {
-                low = omega (arith, u .low);
-                high = omega arith;
-                long = two-length;
-                done = done-more;
-                sent = λ j a b. both-other j (λ q. omega arith) (λ q. omega arith) ∙ u .sent j (omega arith) b;
-                taken = λ j a. both-other j (λ q. omega (arith, next)) (λ q. omega arith) ∙ u .taken j (omega arith);
-              }
-
-    -- the last shell is done
-    pub shells-added : (m : ℕ) (sums : List ℕ) → Upto m sums → p ≤ m → AddedShells p k x limit before sums true
-    shells-added m sums u last =
-        let z : m ≡ p = omega (arith, u .high) in
-        let d : (f : Field) → InShells k p f → Fine f × New sums f = rw z at (u .done) in
-        record {
-          within = λ q f h. d f h .0;
-          over = λ q. clash q;
-          added = λ q f h. d f h .1;
-          others = λ q j h. u .taken j (omega (arith, z));
-          length = u .long;
-        }
+        pub shells-added : t ≡ true → AddedShells p k x limit before after true
+        shells-added well =
+            record {
+              within = λ q f h. fine f h .0;
+              over = λ q. clash q;
+              added = λ q f h. fine f h .1;
+              others = λ q j h.
+                  two .others well j (λ n. omega (arith, here .low)) ∙ one .others good j (λ n. omega (arith, here .low));
+              length = two .length ∙ one .length;
+            }
+          where
+            fine : (f : Field) → InShells k p f → Fine f × New after f
+            fine (sentIn m) h =
+                let i = m - (k + 1) in
+                let z : k + 1 + i ≡ m = omega arith in
+                let w : Fine (sentIn (k + 1 + i)) × New after (sentIn (k + 1 + i)) = (
+                  omega (arith, one .within good i (omega arith), sent-at i (omega arith)),
+                  two .others well (k + 1 + i) (λ n. absurd (n (omega (arith, here .low))))
+                      ∙ one .inside good i (omega arith)
+                      ∙ ap (λ y. word before (k + 1 + i) + y) (sym (sent-at i (omega arith))),
+                ) in
+                rw z at w
+            fine (takenIn m) h =
+                let i = m - (k + 1) in
+                let z : k + 1 + i ≡ m = omega arith in
+                let y : p + (k + 1 + i) ≡ p + k + 1 + i = omega arith in
+                let w : Fine (takenIn (k + 1 + i)) × New after (takenIn (k + 1 + i)) = (
+                  omega (arith, two .within well i (omega arith), taken-sum i (omega arith)),
+                  ap (word after) y ∙ two .inside well i (omega arith) ∙ taken-sum i (omega arith),
+                ) in
+                rw z at w
 
     -- ---- The totals
 
@@ -259,13 +266,6 @@ module _ (ws before : List ℕ) (p k at limit : ℕ) where
                 (λ w. not-added one _ ws _ limit two t b z .0 (omega (arith, received-sum, w allTaken tt))))
 
   -- ---- Both
-
-  pub shells-over : (mid : List ℕ) → AddedShells p k x limit before mid false → Within limit p k x before → ⊥
-  shells-over mid s w = s .over refl go
-    where
-      go : (f : Field) → InShells k p f → Fine f
-      go (sentIn j) h = w (sentIn j) h
-      go (takenIn j) h = w (takenIn j) h
 
   module _ (mid : List ℕ) (s : AddedShells p k x limit before mid true) where
     -- the totals are still the own ones

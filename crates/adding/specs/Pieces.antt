@@ -16,6 +16,18 @@ pub record AddedAt (before : List ℕ) (to : ℕ) (ws : List ℕ) (from limit : 
   pub ok : r ≡ leb (word before to + word ws from) limit
   pub sums : after ≡ choose r (set before to (word before to + word ws from)) before
 
+-- a place outside of a run
+abbrev pub Apart : ℕ → ℕ → ℕ → Type 0
+Apart to count j = (j < to → ⊥) → to + count ≤ j
+
+-- a run of numbers added to a run of sums, up to the first sum that would come above the limit
+pub record AddedRun (before : List ℕ) (to : ℕ) (ws : List ℕ) (from count limit : ℕ) (after : List ℕ) (r : Bool) : Type 0 where
+  pub within : r ≡ true → (i : ℕ) → i < count → word before (to + i) + word ws (from + i) ≤ limit
+  pub over : r ≡ false → ((i : ℕ) → i < count → word before (to + i) + word ws (from + i) ≤ limit) → ⊥
+  pub inside : r ≡ true → (i : ℕ) → i < count → word after (to + i) ≡ word before (to + i) + word ws (from + i)
+  pub others : r ≡ true → (j : ℕ) → Apart to count j → word after j ≡ word before j
+  pub length : length after ≡ length before
+
 -- the tallies of the shells above k and below m
 abbrev pub InShells : ℕ → ℕ → Field → Type 0
 InShells k m (sentIn j) = (k < j) × (j < m)

@@ -1,10 +1,11 @@
 // The numbers of a stored pass 1 frame added to the own sums, both in words that a caller lends.
 ghost use mathlib.Core.Path.{_≡_};
-ghost use Prim.Native.Nat.{_<_};
+ghost use Prim.Native.Nat.{_+_, _≤_, _<_};
 ghost use lib.ListN.{length};
+ghost use Rattle.layout.specs.Places.{mostWords};
 ghost use Rattle.layout.specs.Held.{firstFrom};
 ghost use Rattle.adding.specs.Adding.{FirstAt, AddedBy};
-ghost use Rattle.adding.specs.Pieces.{AddedAt, AddedShells, AddedTotals};
+ghost use Rattle.adding.specs.Pieces.{AddedAt, AddedRun, AddedTotals};
 use frame::Sent;
 use frame::Taken;
 
@@ -36,20 +37,32 @@ fn add_taken(sums: &mut [u32], to: u32, s: &[u32], from: u32, limit: u32) -> boo
     true
 }
 
-// Adds the numbers of the shells above k. Whether no sum comes above the limit.
-fn add_shells(sums: &mut [u32], s: &[u32], p: u32, k: u32, at: u32, limit: u32) -> bool
-    requires { ⌜ FirstAt (now s) (now sums) p k at ⌝ }
-    ensures { λ r.
-        ⌜ AddedShells p k (firstFrom (now (s .entry)) p k at) limit (now (sums .entry)) (now (sums .exit)) r ⌝ }
+// Adds a run of numbers sent. Whether no sum comes above the limit.
+fn add_all_sent(sums: &mut [u32], to: u32, s: &[u32], from: u32, count: u32, limit: u32) -> bool
+    requires { ⌜ (to + count ≤ length (now sums))
+        × (from + count ≤ length (now s))
+        × (to + count ≤ mostWords)
+        × (from + count ≤ mostWords + mostWords) ⌝ }
+    ensures { λ r. ⌜ AddedRun (now (sums .entry)) to (now (s .entry)) from count limit (now (sums .exit)) r ⌝ }
 {
-    let shells = at + layout::MARK;
-    for m in k + 1..p {
-        let sent = shells + (m - k);
-        if !add_sent(&mut *sums, m, s, sent, limit) {
+    for i in 0..count {
+        if !add_sent(&mut *sums, to + i, s, from + i, limit) {
             return false;
         }
-        let taken = shells + (p - k) + (m - k);
-        if !add_taken(&mut *sums, p + m, s, taken, limit) {
+    }
+    true
+}
+
+// Adds a run of numbers taken. Whether no sum comes above the limit.
+fn add_all_taken(sums: &mut [u32], to: u32, s: &[u32], from: u32, count: u32, limit: u32) -> bool
+    requires { ⌜ (to + count ≤ length (now sums))
+        × (from + count ≤ length (now s))
+        × (to + count ≤ mostWords)
+        × (from + count ≤ mostWords + mostWords) ⌝ }
+    ensures { λ r. ⌜ AddedRun (now (sums .entry)) to (now (s .entry)) from count limit (now (sums .exit)) r ⌝ }
+{
+    for i in 0..count {
+        if !add_taken(&mut *sums, to + i, s, from + i, limit) {
             return false;
         }
     }
@@ -77,7 +90,13 @@ pub fn add_frame(limit: u32, s: &[u32], sums: &mut [u32], p: u32, k: u32, at: u3
     if !walk_tests::first_fits(p, k, at, s.len(), sums.len()) {
         return false;
     }
-    if !add_shells(&mut *sums, s, p, k, at, limit) {
+    let above = p - (k + 1);
+    let sent = at + layout::MARK + 1;
+    if !add_all_sent(&mut *sums, k + 1, s, sent, above, limit) {
+        return false;
+    }
+    let taken = sent + (p - k);
+    if !add_all_taken(&mut *sums, p + k + 1, s, taken, above, limit) {
         return false;
     }
     add_totals(&mut *sums, s, p, k, at, limit)
