@@ -1,4 +1,4 @@
--- The numbers of a frame above shell k, added to the sums run by run, then the totals: clause 3 holds for them exactly
+-- The numbers of a frame above shell k, added to the sums: the totals, then run by run the shells. Clause 3 holds for them exactly
 -- where no sum comes above the limit.
 use mathlib.Core.Path.{_≡_, refl, sym, ap, _∙_}
 use mathlib.Core.Bool.{Bool, true, false}
@@ -148,7 +148,7 @@ module _ (ws before : List ℕ) (p k at limit : ℕ) where
         number-taken ws p k at (k + 1 + i) (omega arith) (omega arith) (omega (arith, here .few)) ∙ ap (word ws) z
 
     module _ (mid : List ℕ) (r : Bool) (one : AddedRun before (k + 1) ws sentRun (p - (k + 1)) limit mid r) where
-      pub sent-over : r ≡ false → Within limit p k x before → ⊥
+      pub sent-over : r ≡ false → ((f : Field) → InShells k p f → Fine f) → ⊥
       sent-over e w =
           one .over e (λ i h. omega (arith, w (sentIn (k + 1 + i)) (omega arith, omega arith), sent-at i h))
 
@@ -162,7 +162,7 @@ module _ (ws before : List ℕ) (p k at limit : ℕ) where
             λ j.
             (one .others good (p + k + 1 + i) (λ n. omega (arith, here .low)) ∙ ap (word before) z) j + sym (taken-at i h) j
 
-        pub taken-over : t ≡ false → Within limit p k x before → ⊥
+        pub taken-over : t ≡ false → ((f : Field) → InShells k p f → Fine f) → ⊥
         taken-over e w =
             two .over e (λ i h. omega (arith, w (takenIn (k + 1 + i)) (omega arith, omega arith), taken-sum i h))
 
@@ -267,28 +267,32 @@ module _ (ws before : List ℕ) (p k at limit : ℕ) where
 
   -- ---- Both
 
-  module _ (mid : List ℕ) (s : AddedShells p k x limit before mid true) where
-    -- the totals are still the own ones
-    totals-same : (f : Field) → IsTotal f → sumOf p mid f ≡ sumOf p before f
-    totals-same allSent h = s .others refl (sumIssued p) (omega arith)
-    totals-same allTaken h = s .others refl (sumReceived p) (omega arith)
+  pub totals-over : (mid : List ℕ) → AddedTotals p x limit before mid false → Within limit p k x before → ⊥
+  totals-over mid t w = t .over refl go
+    where
+      go : (f : Field) → IsTotal f → Fine f
+      go allSent h = w allSent tt
+      go allTaken h = w allTaken tt
 
-    pub totals-over : (after : List ℕ) → AddedTotals p x limit mid after false → Within limit p k x before → ⊥
-    totals-over after t w = t .over refl go
-      where
-        go : (f : Field) → IsTotal f → sumOf p mid f + number x f ≤ limit
-        go allSent h = omega (arith, totals-same allSent tt, w allSent tt)
-        go allTaken h = omega (arith, totals-same allTaken tt, w allTaken tt)
+  module _ (mid : List ℕ) (t : AddedTotals p x limit before mid true) where
+    -- the sums of the shells are still the own ones
+    shell-same : (f : Field) → InShells k p f → sumOf p mid f ≡ sumOf p before f
+    shell-same (sentIn j) h = t .others refl j (omega arith)
+    shell-same (takenIn j) h = t .others refl (p + j) (omega arith)
 
-    module _ (after : List ℕ) (t : AddedTotals p x limit mid after true) where
+    pub shells-fine : Within limit p k x before → (f : Field) → InShells k p f → sumOf p mid f + number x f ≤ limit
+    shells-fine w (sentIn j) h = omega (arith, shell-same (sentIn j) h, w (sentIn j) h)
+    shells-fine w (takenIn j) h = omega (arith, shell-same (takenIn j) h, w (takenIn j) h)
+
+    module _ (after : List ℕ) (s : AddedShells p k x limit mid after true) where
       pub within : Within limit p k x before
-      within (sentIn j) h = s .within refl (sentIn j) h
-      within (takenIn j) h = s .within refl (takenIn j) h
-      within allSent h = omega (arith, totals-same allSent tt, t .within refl allSent tt)
-      within allTaken h = omega (arith, totals-same allTaken tt, t .within refl allTaken tt)
+      within (sentIn j) h = omega (arith, shell-same (sentIn j) h, s .within refl (sentIn j) h)
+      within (takenIn j) h = omega (arith, shell-same (takenIn j) h, s .within refl (takenIn j) h)
+      within allSent h = t .within refl allSent tt
+      within allTaken h = t .within refl allTaken tt
 
       pub added : Added p k x before after
-      added (sentIn j) h = t .others refl j (omega arith) ∙ s .added refl (sentIn j) h
-      added (takenIn j) h = t .others refl (p + j) (omega arith) ∙ s .added refl (takenIn j) h
-      added allSent h = t .added refl allSent tt ∙ ap (λ y. y + number x allSent) (totals-same allSent tt)
-      added allTaken h = t .added refl allTaken tt ∙ ap (λ y. y + number x allTaken) (totals-same allTaken tt)
+      added (sentIn j) h = s .added refl (sentIn j) h ∙ ap (λ y. y + number x (sentIn j)) (shell-same (sentIn j) h)
+      added (takenIn j) h = s .added refl (takenIn j) h ∙ ap (λ y. y + number x (takenIn j)) (shell-same (takenIn j) h)
+      added allSent h = s .others refl (sumIssued p) (omega arith) ∙ t .added refl allSent tt
+      added allTaken h = s .others refl (sumReceived p) (omega arith) ∙ t .added refl allTaken tt

@@ -90,14 +90,13 @@ pub fn add_frame(limit: u32, s: &[u32], sums: &mut [u32], p: u32, k: u32, at: u3
     if !walk_tests::first_fits(p, k, at, s.len(), sums.len()) {
         return false;
     }
+    if !add_totals(&mut *sums, s, p, k, at, limit) {
+        return false;
+    }
     let above = p - (k + 1);
     let sent = at + layout::MARK + 1;
     if !add_all_sent(&mut *sums, k + 1, s, sent, above, limit) {
         return false;
     }
-    let taken = sent + (p - k);
-    if !add_all_taken(&mut *sums, p + k + 1, s, taken, above, limit) {
-        return false;
-    }
-    add_totals(&mut *sums, s, p, k, at, limit)
+    add_all_taken(&mut *sums, p + k + 1, s, sent + (p - k), above, limit)
 }

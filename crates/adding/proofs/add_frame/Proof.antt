@@ -1,4 +1,4 @@
--- `add_frame`: the test of the lengths, the shells above k run by run, then the totals.
+-- `add_frame`: the test of the lengths, the totals, then the shells above k run by run.
 use borrow.Author.Needs.{needs}
 use borrow.Author.Tests.{not-true, not-false}
 use denote.Ref.{now}
@@ -6,16 +6,17 @@ use native.Mathlib.Omega.{arith}
 use mathlib.Core.Path.{_≡_, refl, sym, _∙_, subst}
 use mathlib.Core.Bool.{Bool, true, false}
 use mathlib.Core.List.{List}
-use Prim.Native.Nat.{ℕ, _≤_, _<_}
+use Prim.Native.Nat.{ℕ, _+_, _≤_, _<_}
 use lib.ListN.{length}
 use Rattle.base.proofs.Laws.{clash}
 use Rattle.base.specs.Limits.{width}
+use Rattle.node.specs.Sums.{Field, number}
 use Rattle.node.specs.declared.Stored.{Stored}
 use Rattle.layout.specs.Places.{mostWords}
-use Rattle.layout.specs.Held.{firstFrom}
+use Rattle.layout.specs.Held.{firstFrom, sumOf}
 use Rattle.adding.specs.Adding.{FirstAt, Within, AddedBy}
-use Rattle.adding.specs.Pieces.{AddedShells, AddedTotals}
-use Rattle.adding.proofs.Adding.{sent-over, taken-over, shells-added, totals-over, within, added}
+use Rattle.adding.specs.Pieces.{InShells, AddedShells, AddedTotals}
+use Rattle.adding.proofs.Adding.{sent-over, taken-over, shells-added, totals-over, shells-fine, within, added}
 use Rattle.adding.proofs.Fitting.{fitting-known, fitting-made}
 use Rattle.adding.proofs.add_frame.Statement.{statement}
 use Rattle.adding.proofs.add_frame.Tie as tie
@@ -77,16 +78,25 @@ module _ (e : tie.Else1) where
   small : (k < p) × (p ≤ width) × (at ≤ mostWords)
   small = (here .low, here .few, here .near)
 
--- the numbers sent
-module _ (a : tie.After-add-all-sent) where
+-- the totals
+module _ (a : tie.After-add-totals) where
   abbrev one : tie.Else1
   one = a .before .before
 
   abbrev mid : List ℕ
-  mid = a .add-all-sent .last .0
+  mid = a .add-totals .last .0
+
+  totals : (r : Bool) → a .add-totals .result ≡ r → AddedTotals (p one) (x one) (limit one) (before one) mid r
+  totals r e = subst (AddedTotals (p one) (x one) (limit one) (before one) mid) e (a .add-totals .ensures)
 
   mid-long : length mid ≡ length (before one)
-  mid-long = a .add-all-sent .ensures .length
+  mid-long = a .add-totals .ensures .length
+
+  -- the sums have still room
+  still : FirstAt (ws one) mid (p one) (k one) (at one)
+  still =
+      let h = here one in
+      record { low = h .low; few = h .few; near = h .near; long = h .long; wide = omega (arith, h .wide, mid-long) }
 
 returns-2 : tie.Need-returns-2
 returns-2 c =
@@ -94,92 +104,80 @@ returns-2 c =
     let e = one a in
     left _ (mid-long a)
     (λ h.
-    sent-over (ws e) (before e) (p e) (k e) (at e) (limit e) h _ _ (a .add-all-sent .ensures)
-    (not-true (a .add-all-sent .result) (c .if2 .taken)))
+    totals-over (ws e) (before e) (p e) (k e) (at e) (limit e) (mid a)
+    (totals a false (not-true (a .add-totals .result) (c .if2 .taken))))
 
--- and those taken
-module _ (d : tie.After-add-all-taken) where
-  abbrev sent : tie.After-add-all-sent
-  sent = d .before .before .before .before .before
+-- the numbers sent
+module _ (d : tie.After-add-all-sent) where
+  abbrev first : tie.After-add-totals
+  first = d .before .before .before .before .before
 
   abbrev two : tie.Else1
-  two = one sent
+  two = one first
 
-  good : sent .add-all-sent .result ≡ true
-  good = not-false (sent .add-all-sent .result) (d .before .before .if2 .left)
+  summed : AddedTotals (p two) (x two) (limit two) (before two) (mid first) true
+  summed = totals first true (not-false (first .add-totals .result) (d .before .before .if2 .left))
 
-  long : length (d .add-all-taken .last .0) ≡ length (before two)
-  long = d .add-all-taken .ensures .length ∙ mid-long sent
+  fine : Within (limit two) (p two) (k two) (x two) (before two) → (f : Field) → InShells (k two) (p two) f
+      → sumOf (p two) (mid first) f + number (x two) f ≤ limit two
+  fine = shells-fine (ws two) (before two) (p two) (k two) (at two) (limit two) (mid first) summed
 
 returns-3 : tie.Need-returns-3
 returns-3 c =
     let d = c .before .before .before in
     let e = two d in
-    left _ (long d)
-    (λ h.
-    taken-over (ws e) (before e) (p e) (k e) (at e) (limit e) h _ _ (sent d .add-all-sent .ensures) (good d) _ _
-    (d .add-all-taken .ensures) (not-true (d .add-all-taken .result) (c .if3 .taken)))
+    left _ (d .add-all-sent .ensures .length ∙ mid-long (first d))
+    (λ h w.
+    sent-over (ws e) (mid (first d)) (p e) (k e) (at e) (limit e) (still (first d)) _ _ (d .add-all-sent .ensures)
+    (not-true (d .add-all-sent .result) (c .if3 .taken)) (fine d w))
 
--- the shells are done
-module _ (g : tie.Else3) where
-  abbrev done : tie.After-add-all-taken
-  done = g .before .before .before
-
-  abbrev three : tie.Else1
-  three = two done
-
-  abbrev then : List ℕ
-  then = done .add-all-taken .last .0
-
-  shells : AddedShells (p three) (k three) (x three) (limit three) (before three) then true
-  shells =
-      shells-added (ws three) (before three) (p three) (k three) (at three) (limit three) (here three) _ _
-      (sent done .add-all-sent .ensures) (good done) _ _ (done .add-all-taken .ensures)
-      (not-false (done .add-all-taken .result) (g .if3 .left))
-
-  -- the sums have still room
-  still : FirstAt (ws three) then (p three) (k three) (at three)
-  still =
-      let h = here three in
-      record { low = h .low; few = h .few; near = h .near; long = h .long; wide = omega (arith, h .wide, long done) }
-
+-- and those taken
 returns-4 : tie.Need-returns-4
 returns-4 c =
-    let d = c .before .before in
-    let g = d .before .before in
-    let e = three g in
-    let f = d .add-totals in
-    let s = shells g in
-    let totals : (r : Bool) → f .result ≡ r → AddedTotals (p e) (x e) (limit e) (then g) (f .last .0) r =
-    λ r z. subst (AddedTotals (p e) (x e) (limit e) (then g) (f .last .0)) z (f .ensures) in
+    let g = c .before .before in
+    let d = g .before .before .before .before .before in
+    let e = two d in
+    let f = g .add-all-taken in
+    let good = not-false (d .add-all-sent .result) (g .before .before .if3 .left) in
+    let shells : f .result ≡ true → AddedShells (p e) (k e) (x e) (limit e) (mid (first d)) (f .last .0) true = λ q.
+    shells-added (ws e) (mid (first d)) (p e) (k e) (at e) (limit e) (still (first d)) _ _ (d .add-all-sent .ensures) good _ _
+    (f .ensures) q in
     record {
       there = λ q. here e;
-      within = λ q. within (ws e) (before e) (p e) (k e) (at e) (limit e) (then g) s _ (totals true q);
-      over = λ q h. totals-over (ws e) (before e) (p e) (k e) (at e) (limit e) (then g) s _ (totals false q);
-      added = λ q. added (ws e) (before e) (p e) (k e) (at e) (limit e) (then g) s _ (totals true q);
-      length = f .ensures .length ∙ long (done g);
+      within = λ q. within (ws e) (before e) (p e) (k e) (at e) (limit e) (mid (first d)) (summed d) _ (shells q);
+      over = λ q h w.
+          taken-over (ws e) (mid (first d)) (p e) (k e) (at e) (limit e) (still (first d)) _ _ (d .add-all-sent .ensures) good _ _
+          (f .ensures) q (fine d w);
+      added = λ q. added (ws e) (before e) (p e) (k e) (at e) (limit e) (mid (first d)) (summed d) _ (shells q);
+      length = f .ensures .length ∙ d .add-all-sent .ensures .length ∙ mid-long (first d);
     }
 
 -- where the runs are
 sent-run : tie.Need-add-all-sent-requires
 sent-run c κs =
-    let e = c .before in
-    let h = here e in
-    (omega (arith, h .low, h .wide), omega (arith, h .low, h .long), omega (arith, small e), omega (arith, small e))
-
-taken-run : tie.Need-add-all-taken-requires
-taken-run c κs =
     let a = c .before .before .before .before in
     let e = one a in
     let h = here e in
     (omega (arith, h .low, h .wide, mid-long a), omega (arith, h .low, h .long), omega (arith, small e), omega (arith, small e))
 
+taken-run : tie.Need-add-all-taken-requires
+taken-run c κs =
+    let d = c .before .before .before .before in
+    let e = two d in
+    let h = here e in (
+      omega (arith, h .low, h .wide, d .add-all-sent .ensures .length, mid-long (first d)),
+      omega (arith, h .low, h .long),
+      omega (arith, small e),
+      omega (arith, small e),
+    )
+
 pub add-frame-spec : {M : Type 1} → statement M
 add-frame-spec =
     tie.close
-    (tie.spec (λ c κs. search needs) returns (λ c. record { fits = omega (arith, small c) }) (λ c. omega (arith, small c))
-    (λ c. record { fits = omega (arith, small c) }) (λ c. record { fits = omega (arith, small c) })
-    (λ c. record { fits = omega (arith, small (c .before)) }) sent-run (λ c. search needs) returns-2
-    (λ c. omega (arith, small (one (c .before .before .before)))) (λ c. record { fits = omega (arith, small (one (c .before .before .before))) })
-    (λ c. record { fits = omega (arith, small (one (c .before .before .before .before))) }) (λ c. record { fits = omega (arith, small (one (c .before .before .before .before))) })
-    taken-run (λ c. search needs) returns-3 (λ c κs. still (c .before)) (λ c. search needs) returns-4)
+    (tie.spec (λ c κs. search needs) returns (λ c κs. here (c .before)) (λ c. search needs) returns-2
+    (λ c. record { fits = omega (arith, small (one (c .before .before .before))) }) (λ c. omega (arith, small (one (c .before .before .before))))
+    (λ c. record { fits = omega (arith, small (one (c .before .before .before))) }) (λ c. record { fits = omega (arith, small (one (c .before .before .before))) })
+    (λ c. record { fits = omega (arith, small (one (c .before .before .before .before))) }) sent-run (λ c. search needs) returns-3
+    (λ c. record { fits = omega (arith, small (two (c .before .before .before .before))) }) (λ c. record { fits = omega (arith, small (two (c .before .before .before .before))) })
+    (λ c. omega (arith, small (two (c .before .before .before .before)))) (λ c. record { fits = omega (arith, small (two (c .before .before .before .before))) }) taken-run
+    (λ c. search needs) returns-4)
