@@ -9,13 +9,13 @@ use lib.Dec.{leb}
 use lib.ListN.{length}
 use borrow.Author.Tests.{le-leb}
 use Rattle.base.specs.Choice.{choose, both}
-use Rattle.base.specs.Limits.{Limits, Fits, width}
+use Rattle.base.specs.Limits.{Limits, Fits}
 use Rattle.node.specs.Answers.{Given, Outcome, barred, barrierOf}
 use Rattle.node.specs.Barrier.{barrier, clauseFails}
 use Rattle.node.specs.declared.BarrierAnswer.{BarrierAnswer}
 use Rattle.node.specs.declared.BarrierAnswer.the-variants.{Sends, Waits, Moved, Left, Refused}
 use Rattle.node.specs.declared.Node.{Node}
-use Rattle.layout.specs.Places.{sumWords}
+use Rattle.layout.specs.Places.{sumWords, mostSums}
 use Rattle.layout.specs.Held as held
 use Rattle.layout.specs.Held.{dimsOf, isWhole, isReady, unpacked}
 use Rattle.layout.proofs.Whole.{whole, few}
@@ -23,20 +23,20 @@ use Rattle.node_barrier.specs.On as below
 use Rattle.calls.specs.OnWords.{noState, answerOn, wordsOn, barrierOn, barrierState, barrierBuffer}
 
 module _ (L : Limits) (fit : Fits L) (ws : List ℕ) where
-  enough : isReady L (sumWords width) ws ≡ isWhole L ws
+  enough : isReady L mostSums ws ≡ isWhole L ws
   enough = go (isWhole L ws) refl
     where
-      go : (t : Bool) → isWhole L ws ≡ t → both t (leb (sumWords (dimsOf ws)) (sumWords width)) ≡ t
+      go : (t : Bool) → isWhole L ws ≡ t → both t (leb (sumWords (dimsOf ws)) mostSums) ≡ t
       go true e =
           let l = few L fit ws (whole L ws e .board) in
-          le-leb (sumWords (dimsOf ws)) (sumWords width) (omega arith)
+          le-leb (sumWords (dimsOf ws)) mostSums (omega arith)
       go false e = refl
 
-  always : {A : Type 0} {x : A} (a b : A) → x ≡ choose (isReady L (sumWords width) ws) a b → x ≡ choose (isWhole L ws) a b
+  always : {A : Type 0} {x : A} (a b : A) → x ≡ choose (isReady L mostSums ws) a b → x ≡ choose (isWhole L ws) a b
   always a b e = e ∙ ap (λ t. choose t a b) enough
 
   pub called : (call : Node → Given Outcome) (after : List ℕ) (o : Outcome)
-      → (o ≡ held.answerOn L (sumWords width) call ws) × (after ≡ held.wordsOn L (sumWords width) call ws)
+      → (o ≡ held.answerOn L mostSums call ws) × (after ≡ held.wordsOn L mostSums call ws)
       → (o ≡ answerOn L call ws) × (after ≡ wordsOn L call ws)
   called call after o q = (always _ _ (q .0), always _ _ (q .1))
 
@@ -57,10 +57,10 @@ module _ (L : Limits) (fit : Fits L) (ws : List ℕ) where
 
     -- the answer, the clause, the words and the bytes
     pub stepped : (a : BarrierAnswer) (words after : List ℕ)
-        → (barrierOf a ≡ below.barrierOn L (sumWords width) ws (length buf))
-        × ((below.clauseOn L (sumWords width) ws a ≡ true)
-        × ((words ≡ below.barrierWords L (sumWords width) ws (length buf))
-        × (after ≡ below.barrierLent L (sumWords width) ws buf)))
+        → (barrierOf a ≡ below.barrierOn L mostSums ws (length buf))
+        × ((below.clauseOn L mostSums ws a ≡ true)
+        × ((words ≡ below.barrierWords L mostSums ws (length buf))
+        × (after ≡ below.barrierLent L mostSums ws buf)))
         → (barrierOf a ≡ barrierOn L ws (length buf))
         × ((clauseFails L (unpacked ws) a ≡ true)
         × ((words ≡ barrierState L ws (length buf)) × (after ≡ barrierBuffer L ws buf)))

@@ -8,14 +8,13 @@ use lib.Dec.{ltb, leb}
 use lib.ListN.{length}
 use borrow.Author.Tests.{ltb-true, lt-ltb, leb-true, le-leb, not-true}
 use Rattle.base.specs.Choice.{both, every}
-use Rattle.base.specs.Limits.{Limits, Fits, base, width}
+use Rattle.base.specs.Limits.{Limits, Fits, width}
 use Rattle.base.proofs.Laws.{both-true, both-make, every-at, every-make}
-use Rattle.base.proofs.Limits.{fits-base}
 use Rattle.tree.specs.Lookups.{badBoard}
 use Rattle.tree.proofs.Dimension.{smallest}
 use Rattle.tree.proofs.Lookups.{board-good}
-use Rattle.layout.specs.Places.{atNodes, atPhase, atBusy, atFlag, atFirst, atSecond, stateWords, sumWords, mostSums}
-use Rattle.layout.specs.Held.{word, dimsOf, isMarked, isWhole, isReady}
+use Rattle.layout.specs.Places.{atNodes, atPhase, atBusy, atFlag, atFirst, atSecond, stateWords}
+use Rattle.layout.specs.Held.{word, dimsOf, isMarked, isWhole}
 
 pub record Whole (L : Limits) (ws : List ℕ) : Type 0 where
   pub board : badBoard L (word ws atNodes) ≡ false
@@ -68,13 +67,3 @@ few L fit ws e =
     let g = board-good L (word ws atNodes) e in
     let h = fit .nodes in
     smallest (word ws atNodes) width (omega (arith, g .1))
-
--- with this build's limits, `mostSums` words are enough for the sums of every board
-pub roomy : (ws : List ℕ) → isReady base mostSums ws ≡ isWhole base ws
-roomy ws = go (isWhole base ws) refl
-  where
-    go : (t : Bool) → isWhole base ws ≡ t → both t (leb (sumWords (dimsOf ws)) mostSums) ≡ t
-    go true e =
-        let l = few base fits-base ws (whole base ws e .board) in
-        le-leb (sumWords (dimsOf ws)) mostSums (omega arith)
-    go false e = refl

@@ -27,9 +27,9 @@ use Rattle.layout.proofs.Whole.{Whole, whole, few}
 use Rattle.pass_one.specs.Tried.{firstTried}
 use Rattle.adding.specs.Adding.{Added}
 use Rattle.pass_two.specs.Tried.{secondTried}
-use Rattle.scan.specs.Scan.{reach, confirmReach, Gathered}
-use Rattle.scan.specs.Pieces.{Standing}
-use Rattle.scan.proofs.Settled.{first-tried, second-tried}
+use Rattle.scanned.specs.Scan.{reach, confirmReach, Gathered}
+use Rattle.scanned.specs.Pieces.{Standing}
+use Rattle.scanned.proofs.Settled.{first-tried, second-tried}
 
 -- the state that is lent passes the test, and its sums are at hand
 pub record Lent (L : Limits) (ws sums : List ℕ) (p total : ℕ) : Type 0 where

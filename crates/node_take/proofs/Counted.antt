@@ -25,9 +25,9 @@ use Rattle.layout.proofs.Reading.{sent-word, taken-word}
 use Rattle.layout.proofs.Becomes.{Becomes, becomes-then}
 use Rattle.layout.proofs.Writes.{put-busy, put-position, put-sent, put-taken}
 use Rattle.layout.proofs.Answers.{fails}
-use Rattle.scan.specs.Scan.{scanned}
-use Rattle.scan.specs.declared.Scan.{Scan}
-use Rattle.scan.proofs.Known.{failed}
+use Rattle.scanned.specs.Scan.{scanned}
+use Rattle.scanned.specs.declared.Scan.{Scan}
+use Rattle.scanned.proofs.Known.{failed}
 use Rattle.node_take.specs.Pieces.{wokenWords}
 
 -- no state: 13, and the words stay

@@ -3,22 +3,29 @@
 use mathlib.Core.Path.{_≡_, ap, _∙_}
 use mathlib.Core.Bool.{true}
 use mathlib.Core.List.{List}
-use Prim.Native.Nat.{ℕ, _≤_, _<_}
+use Prim.Native.Nat.{ℕ, _+_, _≤_, _<_}
+use native.Mathlib.Omega.{arith}
+use lib.ListN.{replicate}
+use borrow.Author.Tests.{le-ltb, ne-eqb}
 use Rattle.base.specs.Choice.{choose}
 use Rattle.base.specs.Limits.{base}
 use Rattle.base.specs.Refusal.{Refusal, number}
 use Rattle.base.proofs.Laws.{choose-yes}
-use Rattle.base.proofs.Limits.{fits-base}
+use Rattle.base.proofs.Limits.{mul-low, fits-base}
+use Rattle.tree.specs.Tree.{dimension}
+use Rattle.tree.proofs.Dimension.{smallest}
 use Rattle.node.specs.Change.{freshIn}
 use Rattle.node.specs.Answers.{Given, Outcome, refused, barred}
 use Rattle.node.specs.Calls.{send, take, idle, frameIn}
 use Rattle.node.specs.Barrier.{barrier}
 use Rattle.node.specs.declared.Node.{Node}
 use Rattle.layout.specs.Held.{unpacked, isWhole, holding}
+use Rattle.layout.proofs.Offsets.{words-closed}
 use Rattle.kept.proofs.Holds.{Holds}
 use Rattle.kept.proofs.Calls.{send-holds, take-holds, idle-holds, frame-holds, step-holds}
-use Rattle.kept.proofs.Fresh.{fresh-holds}
-use Rattle.states.specs.Words.{freshState}
+use Rattle.kept.proofs.Fresh.{fresh-words}
+use Rattle.node_calls.specs.Fresh.{freshWords}
+use Rattle.states.specs.Words.{most, freshState}
 use Rattle.state_calls.specs.On.{Kept, keep, onState, stepOn}
 use Rattle.states.specs.declared.State.{State}
 
@@ -76,6 +83,17 @@ module _ (s : State) (n : Node) (b : Bears s n) where
   step-makes room =
       makes (λ m. barrier base m room) (barred (number Refusal.state)) s n b
       (step-holds base fits-base (s .words) (b .whole) room)
+
+-- a state by value has room for a board of 16 nodes
+fresh-holds : (P a : ℕ) → 1 ≤ P → P ≤ 16 → a < P
+    → (isWhole base (freshWords base P a (replicate most 0)) ≡ true)
+    × (unpacked (freshWords base P a (replicate most 0)) ≡ freshIn P a 0)
+fresh-holds P a one few low =
+    let d : dimension P ≤ 4 = smallest P 4 few in
+    let m = mul-low (dimension P) 4 (dimension P + 9) 13 d (omega arith) in
+    fresh-words base fits-base P a (replicate most 0)
+    (rw (ne-eqb P 0 (λ z. omega arith), le-ltb 256 P (omega arith)))
+    low (omega (arith, words-closed (dimension P), m))
 
 pub fresh-bears : (P a : ℕ) → 1 ≤ P → P ≤ 16 → a < P → Bears (freshState P a) (freshIn P a 0)
 unfolding freshState

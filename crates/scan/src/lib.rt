@@ -9,26 +9,16 @@ ghost use Rattle.base.specs.Limits.{limitsOf, fieldLimit};
 ghost use Rattle.layout.specs.Places.{atFirst, atSecond};
 ghost use Rattle.layout.specs.Held.{unpacked};
 ghost use Rattle.stored.specs.Held.{isLow, heldTest};
-ghost use Rattle.scan.specs.Scan.{noScan, scanned, passes, reach, Gathered};
-ghost use Rattle.scan.specs.Pieces.{Standing, Summed, FirstStep, SecondStep, Steps, Stepped};
-ghost use Rattle.scan.specs.Pieces.{Walking, WalkedAll, Ready, Scanned};
+ghost use Rattle.scanned.specs.Scan.{noScan, scanned, passes, reach, Gathered};
+ghost use Rattle.scanned.specs.Pieces.{Standing, Summed, FirstStep, SecondStep, Steps, Stepped};
+ghost use Rattle.scanned.specs.Pieces.{Walking, WalkedAll, Ready, Scanned};
 use base::Bounds;
 use frame::Sent;
 use frame::Taken;
 use pass_two::Passed;
+use scanned::Past;
+use scanned::Scan;
 use survey::Spot;
-
-// What is known of a state. Where it does not pass the test, all else is 0.
-pub struct Scan {
-    pub ok: bool,
-    // p
-    pub dims: u32,
-    // the node's own total sent and total taken
-    pub sends: Sent,
-    pub takes: Taken,
-    // in pass 2 the own sum of total sent for the node's dimension
-    pub issued: Sent,
-}
 
 fn no_scan() -> Scan
     ensures { λ r. ⌜ r ≡ noScan ⌝ }
@@ -121,12 +111,6 @@ fn second_step(
         ok: stored_ok(s, limit, awaits, at, at + layout::SECOND),
         issued: issued,
     }
-}
-
-// How many steps of each pass are before the position.
-pub struct Past {
-    pub firsts: u32,
-    pub seconds: u32,
 }
 
 // Dimension k in both passes, whose words begin at a place, with the own sum of total sent in pass 2.

@@ -18,8 +18,8 @@ use Rattle.node.specs.declared.Node.{Node}
 use Rattle.node.specs.declared.BarrierAnswer.the-variants.{Refused}
 use Rattle.layout.specs.Places.{atBusy, sumWords}
 use Rattle.layout.specs.Held.{word, dimsOf, unpacked, isWhole, isReady, holding}
-use Rattle.scan.specs.declared.Scan.{Scan}
-use Rattle.scan.proofs.Known.{Known, failed, passed}
+use Rattle.scanned.specs.declared.Scan.{Scan}
+use Rattle.scanned.proofs.Known.{Known, failed, passed}
 use Rattle.node_turn.specs.Turn.{nodeAfter, wordsAfter}
 use Rattle.node_turn.specs.declared.Turn.{Turn}
 use Rattle.node_turn.specs.declared.Turn.the-variants.{Refuses}

@@ -14,7 +14,7 @@ use Rattle.node.specs.declared.Answer.the-variants.{Done}
 use Rattle.node.proofs.Ways.{idle-refuses, idle-does}
 use Rattle.layout.proofs.Writes.{put-busy}
 use Rattle.layout.proofs.Answers.{gives}
-use Rattle.scan.proofs.Known.{Known, passed}
+use Rattle.scanned.proofs.Known.{Known, passed}
 use Rattle.node_take.proofs.Counted.{no-state, tallies-room}
 use Rattle.node_calls.proofs.go_idle.Statement.{statement}
 use Rattle.node_calls.proofs.go_idle.Tie as tie

@@ -9,7 +9,7 @@ use Rattle.base.proofs.Limits.{fits-of}
 use Rattle.base.proofs.Laws.{here}
 use Rattle.node.specs.Calls.{send}
 use Rattle.node.proofs.Ways.{send-refuses}
-use Rattle.scan.proofs.Known.{Known, passed}
+use Rattle.scanned.proofs.Known.{Known, passed}
 use Rattle.node_take.proofs.Counted.{no-state}
 use Rattle.node_calls.proofs.send_to.Statement.{statement}
 use Rattle.node_calls.proofs.send_to.Tie as tie

@@ -12,7 +12,7 @@ use Rattle.node.specs.Calls.{frameIn}
 use Rattle.node.proofs.Ways.{frame-refuses}
 use Rattle.layout.specs.Held.{dimsOf, unpacked}
 use Rattle.layout.proofs.Answers.{fails}
-use Rattle.scan.proofs.Known.{Known, failed, passed}
+use Rattle.scanned.proofs.Known.{Known, failed, passed}
 use Rattle.node_frames.proofs.frame_in.Statement.{statement}
 use Rattle.node_frames.proofs.frame_in.Tie as tie
 

@@ -8,8 +8,8 @@ use Prim.Native.Nat.{ℕ}
 use Rattle.base.specs.Limits.{Limits, limitsOf}
 use Rattle.base.proofs.Laws.{both-true}
 use Rattle.survey.specs.Pieces.{awaitsAt, firstPast}
-use Rattle.scan.proofs.Settled.{near, first-words}
-use Rattle.scan.proofs.Stepping.{first-passed, first-open-done, first-passed-done}
+use Rattle.scanned.proofs.Settled.{near, first-words}
+use Rattle.scanned.proofs.Stepping.{first-passed, first-open-done, first-passed-done}
 use Rattle.scan.proofs.first_step.Statement.{statement}
 use Rattle.scan.proofs.first_step.Tie as tie
 

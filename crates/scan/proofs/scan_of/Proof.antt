@@ -15,8 +15,8 @@ use Rattle.head.specs.Head.{spotIn}
 use Rattle.head.proofs.Heads.{Passing, head-made, missing, passing, spot-known}
 use Rattle.gather.specs.Gather.{tallied}
 use Rattle.gather.proofs.Room as room
-use Rattle.scan.specs.Scan.{passes, scanned}
-use Rattle.scan.proofs.Scanning.{missed, head-fails, tallies-fail}
+use Rattle.scanned.specs.Scan.{passes, scanned}
+use Rattle.scanned.proofs.Scanning.{missed, head-fails, tallies-fail}
 use Rattle.scan.proofs.scan_of.Statement.{statement}
 use Rattle.scan.proofs.scan_of.Tie as tie
 

@@ -14,7 +14,7 @@ use Rattle.base.proofs.Limits.{fits-of}
 use Rattle.survey.specs.declared.Spot.{Spot}
 use Rattle.head.proofs.Heads.{Passing, head-known}
 use Rattle.gather.proofs.Room.{Tallied, tallied-known}
-use Rattle.scan.proofs.Scanning.{missed, walking, settled-not, scanned-all}
+use Rattle.scanned.proofs.Scanning.{missed, walking, settled-not, scanned-all}
 use Rattle.scan.proofs.scan_steps.Statement.{statement}
 use Rattle.scan.proofs.scan_steps.Tie as tie
 

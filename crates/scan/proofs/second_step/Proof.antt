@@ -8,8 +8,8 @@ use Prim.Native.Nat.{ℕ}
 use Rattle.base.specs.Limits.{Limits, limitsOf}
 use Rattle.base.proofs.Laws.{both-true}
 use Rattle.survey.specs.Pieces.{awaitsAt, secondPast}
-use Rattle.scan.proofs.Settled.{near, second-words}
-use Rattle.scan.proofs.Stepping.{second-passed, second-open-done, second-passed-done}
+use Rattle.scanned.proofs.Settled.{near, second-words}
+use Rattle.scanned.proofs.Stepping.{second-passed, second-open-done, second-passed-done}
 use Rattle.scan.proofs.second_step.Statement.{statement}
 use Rattle.scan.proofs.second_step.Tie as tie
 

@@ -10,9 +10,9 @@ use Rattle.base.specs.Limits.{Limits, limitsOf}
 use Rattle.base.proofs.Laws.{clash, both-true}
 use Rattle.survey.specs.Pieces.{awaitsAt, firstPast}
 use Rattle.survey.specs.declared.Spot.{Spot}
-use Rattle.scan.specs.Pieces.{Told, FirstDone, SecondDone}
-use Rattle.scan.proofs.Settled.{near}
-use Rattle.scan.proofs.Walking.{first-told, second-told}
+use Rattle.scanned.specs.Pieces.{Told, FirstDone, SecondDone}
+use Rattle.scanned.proofs.Settled.{near}
+use Rattle.scanned.proofs.Walking.{first-told, second-told}
 use Rattle.scan.proofs.step.Statement.{statement}
 use Rattle.scan.proofs.step.Tie as tie
 

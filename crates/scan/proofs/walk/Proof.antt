@@ -14,9 +14,9 @@ use Rattle.survey.specs.declared.Spot.{Spot}
 use Rattle.survey.proofs.Steps.{few}
 use Rattle.layout.specs.Places.{stepWords, mostWords}
 use Rattle.layout.specs.Held.{unpacked}
-use Rattle.scan.specs.Pieces.{Standing, Stepped}
-use Rattle.scan.proofs.Settled.{near}
-use Rattle.scan.proofs.Walking.{Held, held-start, standing, summed, place, agreed-low, step-stops, step-more, ended}
+use Rattle.scanned.specs.Pieces.{Standing, Stepped}
+use Rattle.scanned.proofs.Settled.{near}
+use Rattle.scanned.proofs.Walking.{Held, held-start, standing, summed, place, agreed-low, step-stops, step-more, ended}
 use Rattle.scan.proofs.walk.Statement.{statement}
 use Rattle.scan.proofs.walk.Tie as tie
 

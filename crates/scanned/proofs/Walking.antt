@@ -42,11 +42,11 @@ use Rattle.layout.proofs.Offsets.{first-more}
 use Rattle.layout.proofs.Reading.{first-word, second-word, first-in, second-in}
 use Rattle.head.specs.Head.{spotIn}
 use Rattle.head.proofs.Heads.{dims-is}
-use Rattle.scan.specs.Scan.{reach, confirmReach, Gathered}
-use Rattle.scan.specs.Pieces.{Standing, Summed, firstWhole, secondWhole, FirstDone, SecondDone, stepIn}
-use Rattle.scan.specs.Pieces.{Told, Stepped, Walking, WalkedAll}
+use Rattle.scanned.specs.Scan.{reach, confirmReach, Gathered}
+use Rattle.scanned.specs.Pieces.{Standing, Summed, firstWhole, secondWhole, FirstDone, SecondDone, stepIn}
+use Rattle.scanned.specs.Pieces.{Told, Stepped, Walking, WalkedAll}
 use Rattle.pass_two.specs.declared.Passed.{Passed}
-use Rattle.scan.proofs.Stepping.{has-room, sums-within, issued-within}
+use Rattle.scanned.proofs.Stepping.{has-room, sums-within, issued-within}
 
 -- ---- the frames of a dimension, by the walk's place
 

@@ -27,7 +27,7 @@ use Rattle.stored.specs.Held.{heldTest}
 use Rattle.stored.proofs.Frames.{first-held, second-held, first-low, second-low}
 use Rattle.pass_one.specs.Tried.{firstTried}
 use Rattle.pass_two.specs.Tried.{secondTried}
-use Rattle.scan.specs.Pieces.{Standing, Summed, firstWhole, secondWhole}
+use Rattle.scanned.specs.Pieces.{Standing, Summed, firstWhole, secondWhole}
 
 -- ---- the places of a step
 

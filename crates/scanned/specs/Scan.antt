@@ -11,7 +11,7 @@ use Rattle.node.specs.Sums.{dims, Field, Has, allSent, allTaken, tally, own, ow
 use Rattle.node.specs.State.{valid}
 use Rattle.node.specs.declared.Node.{Node}
 use Rattle.layout.specs.Held.{unpacked, isReady, sumOf}
-use Rattle.scan.specs.declared.Scan.{Scan}
+use Rattle.scanned.specs.declared.Scan.{Scan}
 
 -- the sums of pass 1 go to the node's dimension, and in pass 2 past the last
 abbrev pub reach : Node → ℕ

@@ -20,9 +20,9 @@ use Rattle.survey.specs.declared.Spot.{Spot}
 use Rattle.head.specs.Head.{spotIn, headPasses}
 use Rattle.gather.specs.Gather.{sentTotal, takenTotal, tallied, Started}
 use Rattle.adding.specs.Adding.{Added}
-use Rattle.scan.specs.Scan.{reach, confirmReach, passes, scanned, Gathered}
-use Rattle.scan.specs.declared.Scan.{Scan}
-use Rattle.scan.specs.declared.Past.{Past}
+use Rattle.scanned.specs.Scan.{reach, confirmReach, passes, scanned, Gathered}
+use Rattle.scanned.specs.declared.Scan.{Scan}
+use Rattle.scanned.specs.declared.Past.{Past}
 use Rattle.pass_two.specs.declared.Passed.{Passed}
 
 -- ---- A step

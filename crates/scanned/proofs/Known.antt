@@ -12,8 +12,8 @@ use Rattle.node.specs.Sums.{dims, allSent, allTaken, tally, ownIssued}
 use Rattle.node.specs.State.{valid}
 use Rattle.node.proofs.Valid.{Valid, valid-known}
 use Rattle.layout.specs.Held.{unpacked, isReady, isWhole}
-use Rattle.scan.specs.Scan.{passes, scanned, confirmReach}
-use Rattle.scan.specs.declared.Scan.{Scan}
+use Rattle.scanned.specs.Scan.{passes, scanned, confirmReach}
+use Rattle.scanned.specs.declared.Scan.{Scan}
 
 scanned-ok : (L : Limits) (room : ℕ) (ws : List ℕ) → scanned L room ws .ok ≡ passes L room ws
 unfolding scanned

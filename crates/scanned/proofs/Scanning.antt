@@ -33,10 +33,10 @@ use Rattle.head.specs.Head.{spotIn}
 use Rattle.head.proofs.Heads.{dims-is, Passing}
 use Rattle.gather.specs.Gather.{sentTotal, takenTotal, Started}
 use Rattle.gather.proofs.Room.{Tallied}
-use Rattle.scan.specs.Scan.{passes, noScan, scanned, Gathered}
+use Rattle.scanned.specs.Scan.{passes, noScan, scanned, Gathered}
 use Rattle.walk_tests.specs.Tests.{totalTested}
-use Rattle.scan.specs.Pieces.{stepIn, Walking, WalkedAll, Scanned}
-use Rattle.scan.specs.declared.Scan.{Scan}
+use Rattle.scanned.specs.Pieces.{stepIn, Walking, WalkedAll, Scanned}
+use Rattle.scanned.specs.declared.Scan.{Scan}
 use Rattle.pass_two.specs.declared.Passed.{Passed}
 
 pub missed : (L : Limits) (ws before after : List ℕ) (r : Scan) → passes L (length before) ws ≡ false → r ≡ noScan

@@ -25,11 +25,11 @@ use Rattle.survey.proofs.Stored.{Has, first-none, first-same, second-none, seco
 use Rattle.stored.specs.Held.{heldTest}
 use Rattle.pass_one.specs.Tried.{firstTried, PassedBy as FirstBy}
 use Rattle.pass_two.specs.Tried.{secondTried, PassedBy}
-use Rattle.scan.specs.Pieces.{Standing, Summed, FirstPassed, SecondPassed, firstWhole, secondWhole}
-use Rattle.scan.specs.Pieces.{FirstDone, SecondDone}
+use Rattle.scanned.specs.Pieces.{Standing, Summed, FirstPassed, SecondPassed, firstWhole, secondWhole}
+use Rattle.scanned.specs.Pieces.{FirstDone, SecondDone}
 use Rattle.pass_two.specs.declared.Passed.{Passed}
-use Rattle.scan.proofs.Settled.{first-tried, second-tried, first-settled, first-open}
-use Rattle.scan.proofs.Settled.{second-settled, second-open}
+use Rattle.scanned.proofs.Settled.{first-tried, second-tried, first-settled, first-open}
+use Rattle.scanned.proofs.Settled.{second-settled, second-open}
 
 -- ---- a step before the position
 
