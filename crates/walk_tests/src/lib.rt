@@ -76,8 +76,8 @@ pub fn total_ok(passed: bool, pass: u8, agreed: u32, received: Taken) -> bool
 // ---- What is stored for a step
 
 // What is stored may be there, by its mark and the largest of its numbers: nothing but 0, or a frame that is awaited.
-pub fn may_stand(mark: u32, most: u32, awaits: bool, limit: u32) -> bool
-    ensures { λ r. ⌜ r ≡ mayStand mark most awaits limit ⌝ }
+pub fn may_stand(mark: u32, most: u32, awaited: bool, limit: u32) -> bool
+    ensures { λ r. ⌜ r ≡ mayStand mark most awaited limit ⌝ }
 {
     if mark == 0 {
         return most == 0;
@@ -85,7 +85,7 @@ pub fn may_stand(mark: u32, most: u32, awaits: bool, limit: u32) -> bool
     if mark != 1 {
         return false;
     }
-    if !awaits {
+    if !awaited {
         return false;
     }
     most <= limit

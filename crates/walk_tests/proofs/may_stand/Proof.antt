@@ -28,7 +28,7 @@ returns-3 c =
     rw (
       ne-eqb _ _ (m .before .if1 .left),
       eq-eqb _ _ (m .if2 .left),
-      not-true (m .before .before .args .awaits) (c .if3 .taken),
+      not-true (m .before .before .args .awaited) (c .if3 .taken),
     )
 
 returns-4 : tie.Need-returns-4
@@ -37,7 +37,7 @@ returns-4 c =
     rw (
       ne-eqb _ _ (m .before .if1 .left),
       eq-eqb _ _ (m .if2 .left),
-      not-false (m .before .before .args .awaits) (c .if3 .left),
+      not-false (m .before .before .args .awaited) (c .if3 .left),
     )
 
 pub may-stand-spec : {M : Type 1} → statement M
