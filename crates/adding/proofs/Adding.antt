@@ -17,7 +17,22 @@ use Rattle.layout.specs.Places.{markWords, sentPlace, takenPlace, issuedPlace, 
 use Rattle.layout.specs.Held.{word, firstFrom, sumOf}
 use Rattle.layout.proofs.Reading.{number-sent, number-taken}
 use Rattle.adding.specs.Adding.{FirstAt, Within, Added}
-use Rattle.adding.specs.Pieces.{Apart, AddedAt, AddedRun, InShells, IsTotal, AddedShells, AddedTotals}
+use Rattle.adding.specs.Pieces.{Apart, AddedAt, AddedRun, IsTotal, AddedTotals}
+
+-- the tallies of the shells above k and below m
+abbrev pub InShells : ℕ → ℕ → Field → Type 0
+InShells k m (sentIn j) = (k < j) × (j < m)
+InShells k m (takenIn j) = (k < j) × (j < m)
+InShells k m allSent = ⊥
+InShells k m allTaken = ⊥
+
+-- the numbers of the shells above k added to the sums, up to the first sum that would come above the limit
+pub record AddedShells (p k : ℕ) (x : Stored) (limit : ℕ) (before after : List ℕ) (r : Bool) : Type 0 where
+  pub within : r ≡ true → (f : Field) → InShells k p f → sumOf p before f + number x f ≤ limit
+  pub over : r ≡ false → ((f : Field) → InShells k p f → sumOf p before f + number x f ≤ limit) → ⊥
+  pub added : r ≡ true → (f : Field) → InShells k p f → sumOf p after f ≡ sumOf p before f + number x f
+  pub others : r ≡ true → (j : ℕ) → sumIssued p ≤ j → word after j ≡ word before j
+  pub length : length after ≡ length before
 
 -- ---- One number
 

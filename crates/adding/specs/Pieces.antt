@@ -28,28 +28,14 @@ pub record AddedRun (before : List ℕ) (to : ℕ) (ws : List ℕ) (from count l
   pub others : r ≡ true → (j : ℕ) → Apart to count j → word after j ≡ word before j
   pub length : length after ≡ length before
 
--- the tallies of the shells above k and below m
-abbrev pub InShells : ℕ → ℕ → Field → Type 0
-InShells k m (sentIn j) = (k < j) × (j < m)
-InShells k m (takenIn j) = (k < j) × (j < m)
-InShells k m allSent = ⊥
-InShells k m allTaken = ⊥
-
+-- a total
 abbrev pub IsTotal : Field → Type 0
 IsTotal (sentIn j) = ⊥
 IsTotal (takenIn j) = ⊥
 IsTotal allSent = Unit {0}
 IsTotal allTaken = Unit {0}
 
--- the numbers of the shells above k added to the sums, up to the first sum that would come above the limit
-pub record AddedShells (p k : ℕ) (x : Stored) (limit : ℕ) (before after : List ℕ) (r : Bool) : Type 0 where
-  pub within : r ≡ true → (f : Field) → InShells k p f → sumOf p before f + number x f ≤ limit
-  pub over : r ≡ false → ((f : Field) → InShells k p f → sumOf p before f + number x f ≤ limit) → ⊥
-  pub added : r ≡ true → (f : Field) → InShells k p f → sumOf p after f ≡ sumOf p before f + number x f
-  pub others : r ≡ true → (j : ℕ) → sumIssued p ≤ j → word after j ≡ word before j
-  pub length : length after ≡ length before
-
--- and the totals
+-- the totals of a frame added to the sums, up to the first sum that would come above the limit
 pub record AddedTotals (p : ℕ) (x : Stored) (limit : ℕ) (before after : List ℕ) (r : Bool) : Type 0 where
   pub within : r ≡ true → (f : Field) → IsTotal f → sumOf p before f + number x f ≤ limit
   pub over : r ≡ false → ((f : Field) → IsTotal f → sumOf p before f + number x f ≤ limit) → ⊥

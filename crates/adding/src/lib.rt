@@ -79,7 +79,13 @@ fn add_totals(sums: &mut [u32], s: &[u32], p: u32, k: u32, at: u32, limit: u32) 
     if !add_sent(&mut *sums, 2 * p, s, totals, limit) {
         return false;
     }
-    add_taken(&mut *sums, 2 * p + 1, s, totals + 1, limit)
+    add_taken(
+        &mut *sums,
+        2 * p + layout::RECEIVED,
+        s,
+        totals + layout::RECEIVED,
+        limit,
+    )
 }
 
 // Adds the numbers of dimension k above its own shell, where no sum comes above the limit. Whether that is so: not where

@@ -10,6 +10,9 @@ ghost use Rattle.wire.specs.Wire.{putNumbers};
 ghost use Rattle.due_frame.specs.Frames.{sentPart, takenPart, firstNumbers, hasSums, putLength, putBytes};
 use frame::Sent;
 
+// Total sent and total taken, after the sums by shell.
+const TOTALS: usize = layout::TOTALS as usize;
+
 // Whether so many words have the sums of a board of p dimensions, which has dimension k.
 fn has_sums(p: u8, k: u32, words: usize) -> bool
     ensures { λ r. ⌜ r ≡ hasSums p k words ⌝ }
@@ -17,7 +20,7 @@ fn has_sums(p: u8, k: u32, words: usize) -> bool
     if (p as u32) < k {
         return false;
     }
-    2 * p as usize + 2 <= words
+    2 * p as usize + TOTALS <= words
 }
 
 // Puts the numbers of the frame of pass 1, dimension k, after its head.
@@ -34,7 +37,7 @@ fn put_sums(buf: &mut [u8], p: u8, k: u8, sums: &[u32])
     wire::put_numbers(
         &mut *buf,
         4 + 4 * (p - k) as u32,
-        &sums[from + end..2 * end + 2],
+        &sums[from + end..2 * end + TOTALS],
     );
 }
 

@@ -88,6 +88,6 @@ pub fn start(b: Bounds, s: &[u32], sums: &mut [u32], p: u32) -> Tallies
         return own;
     }
     sums[(2 * p) as usize] = own.sends.0;
-    sums[(2 * p + 1) as usize] = own.takes.0;
+    sums[(2 * p + layout::RECEIVED) as usize] = own.takes.0;
     own
 }

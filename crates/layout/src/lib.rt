@@ -30,6 +30,8 @@ pub const HEAD: u32 = 8;
 pub const MARK: u32 = 1;
 // total sent and total taken, which stand after the numbers by shell, in a frame of pass 1 and among the sums
 pub const TOTALS: u32 = 2;
+// total taken among these, total sent being first
+pub const RECEIVED: u32 = 1;
 // a stored frame of pass 1 besides its numbers by shell: the mark and the totals
 pub const FIRST: u32 = 3;
 // a stored frame of pass 2, and where T and total sent stand in it, the mark being first

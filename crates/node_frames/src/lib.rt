@@ -13,6 +13,9 @@ ghost use Rattle.layout.specs.Places.{headWords};
 use base::Bounds;
 use node::Answer;
 
+// The mark before the numbers of a stored frame.
+const MARK: usize = layout::MARK as usize;
+
 // A step, counted through both passes.
 fn step_of(p: u32, pass: u32, dim: u32) -> u32
     requires { ⌜ (p ≤ width) × (dim < 256) ⌝ }
@@ -40,7 +43,7 @@ fn put_frame(state: &mut [u32], at: u32, bytes: &[u8])
     ensures { λ r. ⌜ now (state .exit) ≡ pasted (now (state .entry)) at (frameWords (now (bytes .entry))) ⌝ }
 {
     let mark = at as usize;
-    let from = mark + 1;
+    let from = mark + MARK;
     let end = from + (bytes.len() - 4) / 4;
     state[mark] = 1;
     wire_read::copy_numbers(bytes, &mut state[from..end]);

@@ -11,6 +11,9 @@ use frame::Taken;
 use node::BarrierAnswer;
 use node::Receivers;
 
+// Total taken among the totals of the sums.
+const RECEIVED: usize = layout::RECEIVED as usize;
+
 pub enum Turn {
     Refuses(u8),
     // to these receivers, a frame of this length
@@ -50,7 +53,7 @@ pub fn onward(s: &[u32], sums: &[u32], p: u8, k: u8) -> Turn
         return Turn::Moves(pass, k as u32 + 1, word_at(s, layout::AGREED));
     }
     if pass == 1 {
-        let received = Taken(word_at(sums, 2 * p as usize + 1));
+        let received = Taken(word_at(sums, 2 * p as usize + RECEIVED));
         return Turn::Moves(2, 0, received.0);
     }
     Turn::Leaves

@@ -24,7 +24,7 @@ fn last_clauses(b: Bounds, s: &[u32], sums: &mut [u32], p: u32, k: u32, at: u32)
         return Verdict::Fails(3);
     }
     let issued = Sent(sums[(2 * p) as usize]);
-    let received = Taken(sums[(2 * p + 1) as usize]);
+    let received = Taken(sums[(2 * p + layout::RECEIVED) as usize]);
     walk_tests::last_verdict(k + 1 == p, issued, received)
 }
 

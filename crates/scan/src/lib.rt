@@ -177,7 +177,7 @@ fn scan_steps(b: Bounds, s: &[u32], sums: &mut [u32], spot: Spot, sends: Sent, t
     ensures { λ r. ⌜ Scanned (limitsOf b) (now (s .entry)) (now (sums .entry)) (now (sums .exit)) r ⌝ }
 {
     let walked = walk(b, s, &mut *sums, spot, sends);
-    let received = Taken(sums[(2 * spot.dims + 1) as usize]);
+    let received = Taken(sums[(2 * spot.dims + layout::RECEIVED) as usize]);
     if !walk_tests::total_ok(walked.ok, spot.pass, spot.agreed, received) {
         return no_scan();
     }

@@ -15,8 +15,8 @@ use Rattle.node.specs.declared.Stored.{Stored}
 use Rattle.layout.specs.Places.{mostWords}
 use Rattle.layout.specs.Held.{firstFrom, sumOf}
 use Rattle.adding.specs.Adding.{FirstAt, Within, AddedBy}
-use Rattle.adding.specs.Pieces.{InShells, AddedShells, AddedTotals}
-use Rattle.adding.proofs.Adding.{sent-over, taken-over, shells-added, totals-over, shells-fine, within, added}
+use Rattle.adding.specs.Pieces.{AddedTotals}
+use Rattle.adding.proofs.Adding.{InShells, AddedShells, sent-over, taken-over, shells-added, totals-over, shells-fine, within, added}
 use Rattle.adding.proofs.Fitting.{fitting-known, fitting-made}
 use Rattle.adding.proofs.add_frame.Statement.{statement}
 use Rattle.adding.proofs.add_frame.Tie as tie
