@@ -107,7 +107,7 @@ def lanes(layout, shown, events):
 def stroke(item):
     """The classes of an item's stroke, and the name of its arrow head: an open one where it is a frame to the hermit."""
     if item.frame is None:
-        return "work", "workmark"
+        return item.kind, item.kind + "mark"
     name = "first" if item.frame.data[0] == 1 else "second"
     hermit = item.target in item.frame.receivers[1:]
     return name + (" again" if item.frame.before else ""), name + ("openmark" if hermit else "mark")
@@ -206,8 +206,9 @@ def legend_entries():
         return svg.line(x - 22, y, x + 16, y, "first") + svg.circle(x + 19, y, 3, "first ring")
 
     return [
-        (sample("work", "workbare"), "work"), (sample("first", "firstbare"), "frame of pass 1"),
-        (sample("second", "secondbare"), "frame of pass 2"), (sample("first again", "firstbare"), "frame sent again"),
+        (sample("job", "jobbare"), "job"), (sample("note", "notebare"), "note"),
+        (sample("first", "firstbare"), "frame of pass 1"), (sample("second", "secondbare"), "frame of pass 2"),
+        (sample("first again", "firstbare"), "frame sent again"),
         (sample("first", "firstopenbare"), "messenger's frame to the hermit"), (open_end, "still under way at the end"),
         (sample("busy"), "node is busy"), (sample("idle"), "node is idle"),
         (shape("done"), "done, or frame sent"), (shape("waits"), "waits"),

@@ -26,8 +26,11 @@ Place = namedtuple("Place", "kind awaited hermit words")
 # A frame that is sent: its receivers and bytes, and the script line that sent the same step before (0: none did).
 Frame = namedtuple("Frame", "receivers data before")
 
-# An item under way: the script line that sent it, its ends, and its frame (None: work).
-Item = namedtuple("Item", "line source target frame")
+# An item under way: the script line that sent it, its ends, its kind ("job", "note", "frame"), and its frame (None: it is none).
+Item = namedtuple("Item", "line source target kind frame")
+
+# The kind of message that a line of a script sends, by the line's letter.
+MESSAGES = {"s": "job", "t": "note"}
 
 # A line of a script with what it printed. frame: what was sent. item: what was delivered, or stayed for being early.
 Event = namedtuple("Event", "line text printed node answer phase step flag busy frame item")
@@ -154,9 +157,9 @@ def play(path):
             key = (node, phase, data[0], data[2])
             frame = Frame(to, data, sent.get(key, 0))
             sent[key] = line
-            items += [Item(line, node, receiver, frame) for receiver in to]
-        elif parts[0] == "s" and answer == 0:
-            items.append(Item(line, node, int(parts[2]), None))
+            items += [Item(line, node, receiver, "frame", frame) for receiver in to]
+        elif parts[0] in MESSAGES and answer == 0:
+            items.append(Item(line, node, int(parts[2]), MESSAGES[parts[0]], None))
         elif parts[0] == "d":
             item = delivered(items, parts, answer)
         events.append(Event(line, text, said, node, answer, phase, (turn, dimension), flag, busy, frame, item))

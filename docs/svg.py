@@ -19,11 +19,13 @@ text { font-family: sans-serif; font-size: 13px; fill: #1f2328 }
 .idle { stroke-width: 2 } .busy { stroke-width: 8 } .edge { stroke-width: 1 }
 .mark { fill: #1f2328; stroke: #1f2328; stroke-width: 2 } .hollow { fill: #ffffff }
 .cross { fill: none; stroke: #1f2328; stroke-width: 3 }
-.work, .first, .second { fill: none; stroke-width: 2 }
-.work { stroke: #d55e00; stroke-width: 3 } .first { stroke: #0072b2 } .second { stroke: #008760; stroke-dasharray: 6 4 }
+.job, .note, .first, .second { fill: none; stroke-width: 2 }
+.job { stroke: #d55e00; stroke-width: 3 } .note { stroke: #a6407f; stroke-width: 3; stroke-dasharray: 3 3 }
+.first { stroke: #0072b2 } .second { stroke: #008760; stroke-dasharray: 6 4 }
 .again { stroke-width: 4 } .ring { fill: #ffffff; stroke-width: 2; stroke-dasharray: none }
-.workhead { fill: #d55e00; stroke: #d55e00 } .firsthead { fill: #0072b2; stroke: #0072b2 }
-.secondhead { fill: #008760; stroke: #008760 } .open { fill: #ffffff; stroke-width: 2 }
+.jobhead { fill: #d55e00; stroke: #d55e00 } .notehead { fill: #a6407f; stroke: #a6407f }
+.firsthead { fill: #0072b2; stroke: #0072b2 } .secondhead { fill: #008760; stroke: #008760 }
+.open { fill: #ffffff; stroke-width: 2 }
 </style>"""
 
 # How far the tip of an arrow head stops before the end of its line: at a mark, at a node, or past the end of a bare line.
@@ -60,7 +62,7 @@ def group(title, *parts):
 
 def heads():
     """Arrow heads for every place in HEADS; those to a hermit are open."""
-    full = [(name, "M0 1L12 6L0 11z", f"{name}head") for name in ("work", "first", "second")]
+    full = [(name, "M0 1L12 6L0 11z", f"{name}head") for name in ("job", "note", "first", "second")]
     hollow = [(f"{name}open", "M1 2L11 6L1 10z", f"{name}head open") for name in ("first", "second")]
     for where, gap in HEADS.items():
         size = f'refX="{12 + gap}" refY="6" markerWidth="13" markerHeight="12" markerUnits="userSpaceOnUse" orient="auto"'

@@ -17,7 +17,7 @@ import played
 
 SVG = "{http://www.w3.org/2000/svg}"
 EVENT = re.compile(r"line (\d+): .+")
-ITEM = re.compile(r"(work|frame) of line (\d+), (\d+) to (\d+): (still under way|delivered in line (\d+))")
+ITEM = re.compile(r"(job|note|frame) of line (\d+), (\d+) to (\d+): (still under way|delivered in line (\d+))")
 
 # The answers of a rehearsal; crowded, which takes 512 items, has a script of its own.
 ANSWERS = {0, 3, 4, 7, 12, 16, 20, 21, 22, 23}
@@ -25,7 +25,12 @@ CROWDED = 15
 
 # Scripts at the borders, beside those of the repository.
 BORDERS = {"one_node": "nodes 1\ni 0\nb 0\n", "no event & <none>": "nodes 16\n",
-           "far_ends": "nodes 16\ns 0 15\ns 15 0\ni 7\nb 7\nd 0 15\nd 15 0\n"}
+           "far_ends": "nodes 16\ns 0 15\ns 15 0\ni 7\nb 7\nd 0 15\nd 15 0\n",
+           "notes": "nodes 2\nt 0 0\nt 0 1\nt 0 1\ns 0 1\nd 0 1\ni 1\nd 0 1\nd 0 1\nt 1 0\ni 0\nt 0 1\nb 0\nd 1 0\n"}
+
+# What the script "notes" says of its deliveries: a job makes a node busy, a note leaves it as it was.
+NOTED = {6: "the note of line 3 reaches 1, which stays busy", 8: "the note of line 4 reaches 1, which stays idle",
+         9: "the job of line 5 reaches 1, which is busy", 14: "the note of line 10 reaches 0, which stays idle"}
 
 # What is handed to chart.py, and the line it ends with; the script's name stands for {}.
 STOPS = [("nodes 2\ni 0\nx 0\n", "{} stops at line 3 (17, script): 'x 0'"),
@@ -93,8 +98,9 @@ def sent_items(path):
             found += [("frame", line, node, int(to)) for to in receivers]
             continue
         line, node = line + 1, int(words[0])
-        if script[line - 1][0] == "s" and words[1] == "0":
-            found.append(("work", line, node, int(script[line - 1].split()[2])))
+        if script[line - 1][0] in "st" and words[1] == "0":
+            kind = "job" if script[line - 1][0] == "s" else "note"
+            found.append((kind, line, node, int(script[line - 1].split()[2])))
     return found
 
 
@@ -122,7 +128,8 @@ def check_items(name, found, path, printed, places):
     deliveries = [n for n, (text, line) in enumerate(zip(script, printed), 1)
                   if text[0] == "d" and line.split()[1] not in ("7", "16")]
     hold(sorted(int(key[5]) for key in arrows if key[5]) == deliveries, f"{name}: arrows and deliveries differ")
-    for (_, line, _, _, _, end), elements in arrows.items():
+    for (kind, line, _, _, _, end), elements in arrows.items():
+        hold(kind in ("frame", elements[0].get("class")), f"{name}: the {kind} of line {line} is not drawn as one")
         points = corners(elements[0].get("d"))
         ends = [int(at) for at in (line, end) if at]
         hold(points[0] == places[ends[0]], f"{name}: the item of line {line} starts elsewhere")
@@ -142,6 +149,13 @@ def check_chart(path, picture):
     places = check_events(path.name, found, script, printed, columns)
     check_items(path.name, found, path, printed, places)
     return {text[0] for text in script[1:]}, {int(line.split()[1]) for line in printed[1:]}
+
+
+def check_notes(path):
+    """What a delivery did to its receiver is said from what was printed before and after it."""
+    found = groups(chart.chart(path))
+    for line, words in NOTED.items():
+        hold(f"line {line}: {words}" in found, f"{path.name}, line {line}: not said: {words}")
 
 
 def check_answers():
@@ -266,6 +280,7 @@ def test(folder):
     for name, text in BORDERS.items():
         (folder / name).write_text(text, encoding="utf-8")
         check_chart(folder / name, chart.chart(folder / name))
+    check_notes(folder / "notes")
     paths = sorted(path for path in played.SCRIPTS.iterdir() if path.is_file())
     met = {path.name: check_chart(path, chart.chart(path)) for path in paths}
     hold(met["every_answer"] == (set("sibd"), ANSWERS), f"scripts/every_answer has {met['every_answer']}")

@@ -16,7 +16,14 @@ def refused(answer):
 
 
 def item(found):
-    return f"{'work' if found.frame is None else 'frame'} of line {found.line}"
+    return f"{found.kind} of line {found.line}"
+
+
+def state(events, at):
+    """Whether the receiver of a job or a note is busy or idle after it; it stays so where it was so before."""
+    event, last = events[at], played.before(events, at)
+    stays = event.busy == (1 if last is None else last.busy)  # a node starts busy
+    return f"{'stays' if stays else 'is'} {'busy' if event.busy else 'idle'}"
 
 
 def delivery(events, at):
@@ -27,7 +34,7 @@ def delivery(events, at):
         return words + (": early, it stays" if event.answer == 7 else ": late, dropped")
     if event.answer != 0:
         return f"{words}: {refused(event.answer)}"
-    busy = "is busy" if event.item.frame is None else ""
+    busy = state(events, at) if event.item.frame is None else ""
     back = f"falls back to {step(event.step)}" if played.fell_back(events, at) else ""
     effect = " and ".join(x for x in (busy, back) if x)
     return words + (f", which {effect}" if effect else "")
@@ -42,8 +49,8 @@ def event(events, at):
     if found.item is not None:
         return delivery(events, at)
     if found.answer == 0:
-        to = found.text.split()[-1]
-        return f"{found.node} is out of work: idle" if found.text[0] == "i" else f"{found.node} sends work to {to}"
+        letter, *_, to = found.text.split()
+        return f"{found.node} is out of work: idle" if letter == "i" else f"{found.node} sends a {played.MESSAGES[letter]} to {to}"
     if found.answer == 21:
         return f"{found.node} waits in {step(found.step)}"
     if found.answer == 22:
@@ -58,10 +65,9 @@ def short(events, at):
     found = events[at]
     words = played.names()[found.answer]
     if found.answer == 0 and found.item is not None:
-        kind = "work in" if found.item.frame is None else "frame in"
-        words = kind + (", falls back" if played.fell_back(events, at) else "")
+        words = f"{found.item.kind} in" + (", falls back" if played.fell_back(events, at) else "")
     elif found.answer == 0:
-        words = {"i": "idle", "s": "work out"}[found.text[0]]
+        words = "idle" if found.text[0] == "i" else f"{played.MESSAGES[found.text[0]]} out"
     elif found.answer == 7:
         words = "early, stays"
     elif found.answer < 20:
