@@ -127,7 +127,7 @@ def costs():
     if played.code_size() >= CODE_LIMIT:
         raise played.Trouble(f"docs/BARRIER.md: the C library has {played.code_size()} bytes of code")
     cycles = [("worked", "without work"), ("empty_cycle_of_five", "without work"),
-              ("rollback_of_five", "with one piece of work, which comes late")]
+              ("rollback_of_five", "with one job, which comes late")]
     for name, words in cycles:
         count, size = frames_of(name)
         rows.append((f"a cycle {words}, on a board of {played.play(played.SCRIPTS / name).size} (`scripts/{name}`)",
@@ -204,8 +204,10 @@ def pictures():
         "partners_of_five": partners_picture(5),
         "partners_of_six": partners_picture(6),
         "worked": chart(played.SCRIPTS / "worked", "Two nodes end a cycle"),
-        "rollback_of_five": chart(rollback, "Five nodes: work reaches node 0 after it has signed in"),
+        "rollback_of_five": chart(rollback, "Five nodes: a job reaches node 0 after it has signed in"),
         "rollback_of_five_again": chart(rollback, "Five nodes: what node 0 sends again", 40, 61),
+        "note_after_signing_in": chart(played.SCRIPTS / "note_after_signing_in",
+                                       "Three nodes: a note reaches node 0 after it has signed in", 2, 27),
         "trap_of_four": chart(played.SCRIPTS / "trap_of_four", "Four nodes: why there is a second pass"),
     }
 
