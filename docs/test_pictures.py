@@ -284,6 +284,7 @@ def test(folder):
     paths = sorted(path for path in played.SCRIPTS.iterdir() if path.is_file())
     met = {path.name: check_chart(path, chart.chart(path)) for path in paths}
     hold(met["every_answer"] == (set("sibd"), ANSWERS), f"scripts/every_answer has {met['every_answer']}")
+    hold(set().union(*(letters for letters, _ in met.values())) == set("stibd"), "the scripts have not every letter of a line")
     hold(CROWDED in met["crowded"][1], f"scripts/crowded is not answered {CROWDED}")
     check_answers()
     sizes = [*range(1, 19), 100, 255, 256]
