@@ -39,7 +39,10 @@ HEADLINE = {
     "crates/promises/proofs/Whole.antt": ["pub promises : Promises"],
     "crates/runs/specs/Claim.antt": [
         "pub busySend :", "pub busyIs :", "pub wakes :", "pub leavesTaken :", "pub leavesIdle :", "pub leavesReached :",
-        "pub leftSend :", "pub leftTake :", "pub record Demand3 : Type 0 where"],
+        "pub leftSend :", "pub leftTake :", "pub record Demand3 : Type 0 where",
+        # who wakes has taken a job; what is not taken any more is of any kind
+        "→ step L P w e .count a ≡ w .count a → TakeDone w Job a (w .count a) e",
+        "pub leftTake : (a : ℕ) → a < P → (n : ℕ) → n < w .count a → (kind : Kind) (b : ℕ) (e : Event)"],
     "crates/runs/proofs/Whole.antt": ["pub demand3 : Demand3"],
     "crates/rehearsed/proofs/Whole.antt": ["pub every-rehearsal : EveryRehearsal"],
     "crates/starred/proofs/Starred.antt": ["pub starred : All table"],
