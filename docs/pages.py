@@ -126,7 +126,7 @@ def costs():
              ("code of the C library, on x86-64", f"less than {CODE_LIMIT // 1024} KB")]
     if played.code_size() >= CODE_LIMIT:
         raise played.Trouble(f"docs/BARRIER.md: the C library has {played.code_size()} bytes of code")
-    cycles = [("worked", "without work"), ("empty_cycle_of_five", "without work"),
+    cycles = [("worked", "without messages"), ("empty_cycle_of_five", "without messages"),
               ("rollback_of_five", "with one job, which comes late")]
     for name, words in cycles:
         count, size = frames_of(name)
@@ -134,7 +134,7 @@ def costs():
                      f"{count} frames on links, {size} bytes"))
     for nodes in (5, 6):
         awaiting = sum(place.awaited is not None for place in played.places(nodes).values())
-        words = f"a cycle without work, by the partners of a board of {nodes}: {awaiting} frames are awaited in a pass"
+        words = f"a cycle without messages, by the partners of a board of {nodes}: {awaiting} frames are awaited in a pass"
         rows.append((words, f"{2 * awaiting} frames on links"))
     return table(["What", "How much"], rows)
 
