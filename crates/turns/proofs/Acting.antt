@@ -24,8 +24,8 @@ module _ (st : Stage) (headers : ℕ) (bytes : List ℕ) (at : ℕ) (it : Item) 
 
   -- neither work sent nor idle writes any bytes
   pub send-any : (a b : ℕ)
-      → (sendAct st headers bytes a b ≡ acted st headers bytes (Sends a b) at it)
-      × (bytes ≡ actedBytes st headers bytes (Sends a b) at it)
+      → (sendAct st headers bytes a b ≡ acted st headers bytes (Sends kind a b) at it)
+      × (bytes ≡ actedBytes st headers bytes (Sends kind a b) at it)
   unfolding acted actedBytes
   send-any a b = (refl, refl)
 

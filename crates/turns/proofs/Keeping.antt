@@ -77,7 +77,7 @@ module _ (st : Stage) (headers : ℕ) (bytes : List ℕ) (h : st .under ≤ room
   pub line-keeps : (line : Line) (at : ℕ) (it : Item) → Keeps st headers bytes (acted st headers bytes line at it)
   unfolding acted idleAct deliverAct callAct
   line-keeps (Nodes P) at it = record { size = refl; lent = h }
-  line-keeps (Sends a b) at it = let r = onState (λ n. send base n b) (stateAt st a) in send-keeps a b r (r .answer)
+  line-keeps (Sends kind a b) at it = let r = onState (λ n. send base n b) (stateAt st a) in send-keeps a b r (r .answer)
   line-keeps (Delivers a b) at it =
       let r = itemCall st headers bytes a b at it in
       cases Stays (isThere st headers bytes at) _ _ (λ e. deliver-keeps b at r (outcomeNumber (r .answer)))

@@ -193,7 +193,7 @@ module _ (st : Stage) (items : List Item) (bytes : List ℕ) where
   -- ---- the turns
 
   pub send-turns : (a b at : ℕ) (it : Item)
-      → sees (acted st (length items) bytes (Sends a b) at it) (actedBytes st (length items) bytes (Sends a b) at it)
+      → sees (acted st (length items) bytes (Sends kind a b) at it) (actedBytes st (length items) bytes (Sends kind a b) at it)
       ≡ sendTurn st items bytes a b
   unfolding acted actedBytes sendTurn
   send-turns a b at it = let r = onState (λ n. send base n b) (stateAt st a) in sent-same a b r (r .answer)
