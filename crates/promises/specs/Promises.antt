@@ -13,6 +13,7 @@ use lib.ListN.{length}
 use Rattle.base.specs.Choice.{choose}
 use Rattle.base.specs.Limits.{base}
 use Rattle.base.specs.Refusal.{found}
+use Rattle.base.specs.declared.Kind.{Kind}
 use Rattle.tree.specs.Tree.{dimension, runOf, alone, hermit, neighbour, messenger, place, awaited, receivers}
 use Rattle.tree.specs.Tree.{inside, distance, InShell}
 use Rattle.tree.specs.Lookups.{dimensionLookup, placeLookup, distanceLookup}
@@ -52,7 +53,8 @@ pub record AnyInput : Type 0 where
   pub fresh : (P a : ℕ) (ws : List ℕ) → OneOf (1 ∷ 2 ∷ 13 ∷ 0 ∷ []) (outcomeNumber (freshOn base P a ws))
   pub freshStays : (P a : ℕ) (ws : List ℕ) → outcomeNumber (freshOn base P a ws) ≢ 0 → freshWords base P a ws ≡ ws
   pub sends : (to : ℕ) → Answers (13 ∷ 2 ∷ 3 ∷ 4 ∷ 5 ∷ 0 ∷ []) (λ n. send base n to)
-  pub takes : (from phase : ℕ) → Answers (13 ∷ 2 ∷ 3 ∷ 7 ∷ 8 ∷ 6 ∷ 0 ∷ []) (λ n. take base n from phase)
+  pub takes : (kind : Kind) (from phase : ℕ)
+      → Answers (13 ∷ 2 ∷ 3 ∷ 7 ∷ 8 ∷ 6 ∷ 0 ∷ []) (λ n. take base n kind from phase)
   pub idles : Answers (13 ∷ 0 ∷ []) (idle base)
   pub frames : (bs : List ℕ)
       → Answers (13 ∷ 9 ∷ 10 ∷ 2 ∷ 3 ∷ 11 ∷ 7 ∷ 8 ∷ 24 ∷ 0 ∷ []) (λ n. frameIn base n bs)

@@ -160,8 +160,8 @@ module _ (st : Stage) (items : List Item) (bytes : List ℕ) (within : st .under
       → read E S (actOf st items bytes raw) ≡ choose (stops (taken (st .size) raw)) S (E (Event (taken (st .size) raw)))
   acts h E S (Nodes P) = refl
   acts h E S (Sends kind a b) =
-      by-test E S (both (ltb a (st .size)) (ltb b (st .size))) (sendTurn st items bytes a b) (Sends kind a b) refl
-      (λ e. sym (send-turns st items bytes a b _ _) ∙ event-is (Sends kind a b))
+      by-test E S (both (ltb a (st .size)) (ltb b (st .size))) (sendTurn st items bytes kind a b) (Sends kind a b) refl
+      (λ e. sym (send-turns st items bytes kind a b _ _) ∙ event-is (Sends kind a b))
   acts h E S (Delivers a b) =
       by-test E S (both (ltb a (st .size)) (ltb b (st .size))) (deliverTurn st items bytes a b) (Delivers a b) refl
       (λ e.

@@ -36,7 +36,7 @@ pub data Act : Type 0 where
 abbrev pub actOf : Stage → List Item → List ℕ → Line → Act
 actOf st items bytes (Nodes P) = stop
 actOf st items bytes (Sends kind a b) =
-    choose (both (ltb a (st .size)) (ltb b (st .size))) (event (sendTurn st items bytes a b)) stop
+    choose (both (ltb a (st .size)) (ltb b (st .size))) (event (sendTurn st items bytes kind a b)) stop
 actOf st items bytes (Delivers a b) =
     choose (both (ltb a (st .size)) (ltb b (st .size))) (event (deliverTurn st items bytes a b)) stop
 actOf st items bytes (Idles a) = choose (ltb a (st .size)) (event (idleTurn st items bytes a)) stop

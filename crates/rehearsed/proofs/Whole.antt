@@ -140,8 +140,8 @@ module _ (P : ℕ) (one : 1 ≤ P) (few : P ≤ 16) where
   does st items bytes w s r (Sends kind a b) =
       cases (Does w (Sends kind a b)) (both (ltb a (st .size)) (ltb b (st .size))) _ _
       (λ e.
-      turns (sends a b) _ refl
-      (send-follows few s (facts-of w r) a (within s a (both-true (ltb a (st .size)) (ltb b (st .size)) e .0)) b))
+      turns (sends kind a b) _ refl
+      (send-follows few s (facts-of w r) a (within s a (both-true (ltb a (st .size)) (ltb b (st .size)) e .0)) kind b))
       (λ e. stops)
   does st items bytes w s r (Delivers a b) =
       cases (Does w (Delivers a b)) (both (ltb a (st .size)) (ltb b (st .size))) _ _

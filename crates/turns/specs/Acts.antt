@@ -18,7 +18,7 @@ use Rattle.turn_call.specs.Calling.{callAct, callActBytes}
 module _ (st : Stage) (headers : ℕ) (bytes : List ℕ) where
   unfoldable pub acted : Line → ℕ → Item → Acted
   acted (Nodes P) at it = quiet st headers st 0 17
-  acted (Sends kind a b) at it = sendAct st headers bytes a b
+  acted (Sends kind a b) at it = sendAct st headers bytes kind a b
   acted (Delivers a b) at it = deliverAct st headers bytes a b at it
   acted (Idles a) at it = idleAct st headers a
   acted (Calls a) at it = callAct st headers bytes a
