@@ -55,7 +55,15 @@ fn wake(state: &mut [u32], kind: Kind)
 }
 
 // A message from a node is taken, by a state of p dimensions that passes the test.
-fn take_on(b: Bounds, state: &mut [u32], kind: Kind, p: u32, takes: Taken, from: u32, phase: u8) -> Answer
+fn take_on(
+    b: Bounds,
+    state: &mut [u32],
+    kind: Kind,
+    p: u32,
+    takes: Taken,
+    from: u32,
+    phase: u8,
+) -> Answer
     requires { ⌜ Passed (limitsOf b) (now state)
         × (p ≡ dims (unpacked (now state)))
         × (takes .0 ≡ tally (unpacked (now state)) allTaken) ⌝ }
@@ -75,7 +83,14 @@ fn take_on(b: Bounds, state: &mut [u32], kind: Kind, p: u32, takes: Taken, from:
 }
 
 // A job or a note from a node, with its phase byte, is taken. Refuses 13, 2, 3, 7 or 8, 6.
-pub fn take_from(b: Bounds, state: &mut [u32], sums: &mut [u32], kind: Kind, from: u32, phase: u8) -> Answer
+pub fn take_from(
+    b: Bounds,
+    state: &mut [u32],
+    sums: &mut [u32],
+    kind: Kind,
+    from: u32,
+    phase: u8,
+) -> Answer
     ensures answer { λ r.
         ⌜ outcomeOf r
         ≡ answerOn (limitsOf b) (length (now (sums .entry))) (λ n. take (limitsOf b) n kind from phase) (now (state .entry)) ⌝ }
