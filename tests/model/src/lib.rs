@@ -15,6 +15,10 @@
 //! - An idle node of a board of one leaves whatever its flag is (rule N13).
 //! - Every lookup in a dimension, the run too, wants k below p (rule R3).
 //! - The writer refuses with 10 a number that is not 0 where the pass, k or p lacks it (rule F4).
+//! - Send is the same for a job and a note, 4 for an idle node too (rule N5); the takes differ in whether
+//!   the node is busy then, and in nothing else (rule N6).
+//! - An idle node that takes a note has flag 1 again, so its next barrier call signs in, without an idle
+//!   call before it.
 //! - A late frame is dropped only when no number from 9 to 11 was given before (rule R7).
 //! - Any refusal of a delivered item but 7 takes it off its link (rule H4).
 //! - A busy node keeps a board going (rule P5) by being busy, not by what a barrier call would do.
