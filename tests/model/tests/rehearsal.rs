@@ -5,6 +5,8 @@ use model::node::Work;
 use model::random::{self, Habits, Random};
 use model::rehearsal::{rehearse, rehearse_in, Header, Kind, PLACES, SCRIPT_LIMIT};
 use model::LONGEST;
+use std::fs;
+use std::path::Path;
 
 const HEADER: &str = "node answer phase pass dim flag busy\n";
 
@@ -42,6 +44,19 @@ node answer phase pass dim flag busy
 1 23 1 1 0 1 1
 ";
     assert_eq!(play(&script), expected);
+}
+
+/// Every script of the repository prints what stands beside it.
+#[test]
+fn the_scripts_of_the_repository() {
+    let folder = Path::new(env!("CARGO_MANIFEST_DIR")).join("../../scripts");
+    let mut played = 0;
+    for entry in fs::read_dir(&folder).unwrap().map(Result::unwrap).filter(|entry| entry.path().is_file()) {
+        let printed = fs::read(folder.join("printed").join(entry.file_name())).unwrap();
+        assert!(rehearse(&fs::read(entry.path()).unwrap()) == printed, "{:?} prints otherwise", entry.path());
+        played += 1;
+    }
+    assert_eq!(played, fs::read_dir(folder.join("printed")).unwrap().count());
 }
 
 #[test]
