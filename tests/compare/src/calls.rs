@@ -58,9 +58,6 @@ pub fn send(report: &mut Report, words: &mut Words, to: u32) -> Result<u32, Diff
     agree("send", &before, (answer, words.clone()), model, || format!("ocb_send(state, words, {to}u);"))
 }
 
-/// Both kinds of work message.
-pub const KINDS: [Work; 2] = [Work::Job, Work::Note];
-
 /// What the report calls a take.
 pub fn name_of(work: Work) -> &'static str {
     match work {
@@ -73,14 +70,15 @@ pub fn take(report: &mut Report, words: &mut Words, work: Work, from: u32, phase
     let (before, name) = (words.clone(), name_of(work));
     let answer = library::take(words, work, from, phase);
     report.answer(name, answer);
-    if work == Work::Note && answer == 0 {
-        report.count(taker(&before));
-    }
     let model = modelled(&before, |state| node::take(state, work, from, phase));
     agree(name, &before, (answer, words.clone()), model, || {
         let function = if work == Work::Job { "ocb_take" } else { "ocb_take_note" };
         format!("{function}(state, words, {from}u, {phase});")
-    })
+    })?;
+    if work == Work::Note && answer == 0 {
+        report.count(taker(&before));
+    }
+    Ok(answer)
 }
 
 /// Who takes notes: what a take has to leave, or to put back, differs between them.
@@ -177,7 +175,7 @@ pub fn every(report: &mut Report, random: &mut Random, words: &Words, frames: &[
     };
     must(send(report, &mut words.clone(), other));
     let phase = (words.get(at::PHASE).copied().unwrap_or(0) as u8).wrapping_add([0, 0, 0, 1, 255, 2][random.below(6) as usize]);
-    for work in KINDS {
+    for work in Work::BOTH {
         must(take(report, &mut words.clone(), work, other, phase));
     }
     must(idle(report, &mut words.clone()));

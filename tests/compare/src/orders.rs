@@ -238,7 +238,7 @@ fn writer(report: &mut Report, board: u32, number: u32) {
 fn phases(report: &mut Report) {
     for (node, item) in (0..=255).flat_map(|node| (0..=255).map(move |item| (node, item))) {
         let state = fresh(2, 0, node, false);
-        for work in calls::KINDS {
+        for work in Work::BOTH {
             must(calls::take(report, &mut state.clone(), work, 1, item));
         }
         let parts = Parts { pass: 1, dim: 0, sender: 1, phase: item, largest: 0, longer: 0 };
@@ -264,7 +264,7 @@ pub fn boundaries(report: &mut Report, state: &Words) {
 pub fn compare(report: &mut Report) {
     for (board, number) in PLACES {
         send(report, board, number);
-        for work in calls::KINDS {
+        for work in Work::BOTH {
             take(report, board, number, work);
         }
         barrier(report, board, number);

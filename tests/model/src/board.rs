@@ -4,7 +4,7 @@
 use crate::node::{self, Answer, Barrier, Node, Work};
 use crate::{no, LONGEST};
 
-/// What an item carries: a work message with its sender's phase byte, or a frame.
+/// What an item carries: a job or a note, with its sender's phase byte, or a frame.
 #[derive(Clone, Debug, PartialEq, Eq, Hash)]
 pub enum Load {
     Work { work: Work, message: u64, byte: u8 },

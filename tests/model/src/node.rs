@@ -45,6 +45,10 @@ pub enum Work {
     Note,
 }
 
+impl Work {
+    pub const BOTH: [Work; 2] = [Work::Job, Work::Note];
+}
+
 /// The answer of send, take, idle and frame in.
 #[derive(Clone, Copy, Debug, PartialEq, Eq)]
 pub enum Answer {
@@ -426,8 +430,8 @@ fn take_refusal(node: &Node, from: u32, phase: u8) -> Option<u8> {
     None
 }
 
-/// One message more from the sender's shell; the node is at (1, 0, 1), without T. A job makes it busy, a
-/// note leaves it busy or idle.
+/// One message more from the sender's shell; the node is at (1, 0, 1), without T. A job makes it busy; a
+/// note leaves it busy or idle as it was.
 fn with_taken(node: Node, work: Work, from: u32) -> Node {
     let mut after = node;
     after.taken[shell_of(&node, from)] += 1;

@@ -41,7 +41,8 @@ impl Random {
     }
 }
 
-/// How often each kind of event comes; `job` and `note` are sends. `odd` events have arguments that call for a refusal.
+/// How often each kind of event comes; `job` and `note` are sends. `odd` events have arguments that call for
+/// a refusal.
 #[derive(Clone, Copy, Debug)]
 pub struct Habits {
     pub job: u32,
@@ -80,7 +81,7 @@ fn delivery(random: &mut Random, board: &Board, at: u32) -> Event {
 
 /// A job or a note, the one as often as the other.
 pub fn work(random: &mut Random) -> Work {
-    [Work::Job, Work::Note][random.below(2) as usize]
+    Work::BOTH[random.below(2) as usize]
 }
 
 fn odd_event(random: &mut Random, size: u32, at: u32) -> Event {

@@ -54,7 +54,7 @@ fn send_order_of_refusals() {
 /// Take: 13, 2, 3, 7, 8, 6 (rule R3), of a job and of a note, at a busy node and at an idle one.
 #[test]
 fn take_order_of_refusals() {
-    for (work, busy) in [(Work::Job, false), (Work::Job, true), (Work::Note, false), (Work::Note, true)] {
+    for (work, busy) in Work::BOTH.into_iter().flat_map(|work| [(work, false), (work, true)]) {
         for bad in [false, true] {
             for from in [1, 2, 6, 255, u32::MAX] {
                 for difference in [0u8, 1, 2, 3, 128, 254, 255] {
@@ -205,7 +205,7 @@ fn takes_to_the_limit() {
         assert_eq!(answer, Answer::Done);
         node = after;
     }
-    for work in [Work::Job, Work::Note] {
+    for work in Work::BOTH {
         assert_eq!(take(node, work, 1, 0), (node, Answer::Refused(6)));
         assert_eq!(take(node, work, 4, 0), (node, Answer::Refused(6)));
         let mut over = node;

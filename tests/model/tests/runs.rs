@@ -6,8 +6,6 @@ use model::random::{self, Habits, Random};
 use model::LONGEST;
 use std::collections::{BTreeMap, HashSet};
 
-const KINDS: [Work; 2] = [Work::Job, Work::Note];
-
 /// Half the messages are notes.
 const CALM: Habits = Habits { job: 2, note: 2, idle: 8, barrier: 40, deliver: 40, lose: 0, odd: 1 };
 
@@ -135,7 +133,7 @@ fn many_short_runs_with_losses() {
 #[test]
 fn a_lost_message_is_untaken_for_good() {
     let mut random = Random::new(5);
-    for (size, work) in (2..=9).flat_map(|size| KINDS.map(|work| (size, work))) {
+    for (size, work) in (2..=9).flat_map(|size| Work::BOTH.map(|work| (size, work))) {
         let mut board = Board::new(size);
         board.play(Event::Send { work, at: 0, to: size - 1 });
         board.play(Event::Lose { item: 0 });
@@ -164,7 +162,7 @@ fn boards_up_to_256() {
         let mut board = Board::new(size);
         for at in 0..size {
             let other = (at * 7 + 3) % size;
-            board.play(Event::Send { work: KINDS[at as usize % 2], at, to: other });
+            board.play(Event::Send { work: Work::BOTH[at as usize % 2], at, to: other });
         }
         let mut rounds = 0;
         while board.oldest() < 2 {
@@ -221,7 +219,7 @@ fn events(board: &Board, sends: u64, losses: bool) -> Vec<Event> {
         for other in (0..size).filter(|&other| other != at) {
             events.push(Event::Deliver { from: other, to: at });
             if board.messages < sends {
-                events.extend(KINDS.map(|work| Event::Send { work, at, to: other }));
+                events.extend(Work::BOTH.map(|work| Event::Send { work, at, to: other }));
             }
         }
     }
@@ -300,7 +298,7 @@ fn the_checker_notices_a_leaving_too_soon() {
     let mut behind = board.clone();
     (behind.phases[0], behind.nodes[0].phase) = (1, 1);
     assert!(faults(&mut behind, leave).contains("before 1 reached it"));
-    for work in KINDS {
+    for work in Work::BOTH {
         let mut untaken = Board::new(2);
         untaken.play(Event::Send { work, at: 1, to: 0 });
         untaken.play(Event::Idle { at: 1 });
@@ -311,7 +309,7 @@ fn the_checker_notices_a_leaving_too_soon() {
 
 #[test]
 fn the_checker_notices_work_of_a_left_phase() {
-    for work in KINDS {
+    for work in Work::BOTH {
         let send = Event::Send { work, at: 1, to: 0 };
         let mut board = Board::new(2);
         board.play(send);
@@ -353,7 +351,7 @@ fn refused_calls_change_nothing() {
     let nodes = board.nodes.clone();
     assert_eq!(board.play(Event::Deliver { from: 0, to: 1 }), Outcome::Nothing);
     assert_eq!(board.play(Event::Lose { item: 0 }), Outcome::Nothing);
-    for work in KINDS {
+    for work in Work::BOTH {
         assert_eq!(board.play(Event::Send { work, at: 0, to: 1 }), Outcome::Call(Answer::Refused(4)));
         assert_eq!(board.play(Event::Send { work, at: 0, to: 0 }), Outcome::Call(Answer::Refused(3)));
         assert_eq!(board.play(Event::Send { work, at: 0, to: 2 }), Outcome::Call(Answer::Refused(2)));

@@ -32,7 +32,7 @@ fn changed(base: Node, change: fn(&mut Node)) -> Node {
 fn assert_13(node: Node) {
     assert!(!state_stands(&node), "{node:?}");
     assert_eq!(send(node, 1), (node, Answer::Refused(13)));
-    for work in [Work::Job, Work::Note] {
+    for work in Work::BOTH {
         assert_eq!(take(node, work, 1, node.phase), (node, Answer::Refused(13)));
     }
     assert_eq!(idle(node), (node, Answer::Refused(13)));
