@@ -1,9 +1,10 @@
 /*
  * The optimistic cycle barrier: tells a node of a board when a cycle is over.
  *
- * Up to 256 nodes work in cycles. In a cycle nodes send each other work. The cycle is over when every node has run out
- * of work and no work is on its way; then each node leaves it. A node counts what it sends and takes, passes its counts
- * on in small frames while it has nothing to do, and comes back to work whenever work comes in.
+ * Up to 256 nodes work in cycles. In a cycle nodes send each other work messages: a job is work for the node that takes
+ * it, a note only tells it something. The cycle is over when every node has run out of work and no job or note is on
+ * its way; then each node leaves it. A node counts what it sends and takes, passes its counts on in small frames while
+ * it has nothing to do, and comes back to work whenever a job comes in. A note is counted like a job, and wakes nobody.
  *
  * The functions hold no memory of their own. The caller lends each call what it reads and writes: for each node a state
  * of OCB_STATE_WORDS(nodes) words, which the calls read and change in place, frames as bytes, a few words for an answer.
@@ -14,25 +15,29 @@
  *
  * - Memory. Pointers are aligned and not null, also where a count is 0, and what they point to does not overlap. One
  *   call at a time on a state, which nobody else writes. On a Cortex-M0 a call takes up to OCB_STACK_BYTES of stack.
- * - Links, one from each node to each other, each a single queue for work and frames. They keep order, and neither lose,
- *   double nor alter what they carry.
- * - Room. A frame or a piece of work that does not fit its link is lost, and after a loss the board may stop for good:
- *   no node leaves too soon, but all may wait for ever. So look for room before ocb_barrier, for one frame to each of up
- *   to two receivers, and before ocb_send. Room for one item on each link is enough, as long as a node that finds none
- *   goes on taking in what comes. A link that has room whatever happens holds the work that its sender sends over it in
- *   one cycle, at most 65,535 pieces, and OCB_LINK_FRAMES(woken) frames.
+ * - Links, one from each node to each other, each a single queue for jobs, notes and frames. They keep order, and
+ *   neither lose, double nor alter what they carry.
+ * - Kinds. Whether a work message is a job or a note travels with it on its link, as its phase does, and tells the
+ *   receiver which call takes it, ocb_take or ocb_take_note.
+ * - Room. An item, work message or frame, that does not fit its link is lost, and after a loss the board may stop for
+ *   good: no node leaves too soon, but all may wait for ever. So look for room before ocb_barrier, for one frame to each
+ *   of up to two receivers, and before ocb_send. Room for one item on each link is enough, as long as a node that finds
+ *   none goes on taking in what comes. A link that has room whatever happens holds the jobs and notes that its sender
+ *   sends over it in one cycle, at most 65,535, and OCB_LINK_FRAMES(taken_idle) frames.
  * - Early items. What is answered with OCB_EARLY is of the next cycle. It stays on its link, with all that is behind it,
  *   and is not handed in again before OCB_LEFT: until then it gets the same answer. So a node that waits can sleep.
- * - Work that is refused. It must not be sent. 4: the node is idle; what turns up there, other than by ocb_take, is kept
- *   for the next cycle. 5: 65,535 pieces are sent; the rest is kept for the next cycle.
+ * - Jobs and notes that are refused. They must not be sent. 4: the node is idle; what turns up there, other than by
+ *   ocb_take, is kept for the next cycle, an answer to a note too. 5: 65,535 are sent; the rest is kept likewise.
  * - Starting anew. After a lost item, after a refusal that the example takes for a fault, and where a node has started
  *   alone, the whole board is started: all nodes are made fresh together, and all links are empty.
  *
  * The cycle of a kernel, whole: tests/example compiles it as it stands here, and runs it. kernel.h is the kernel's:
  *
- * - struct item is a frame (bytes, count), or a piece of work with the phase byte of its sender (is_work, phase).
+ * - struct item is of a kind: a JOB or a NOTE, with the phase byte of its sender (phase), or a FRAME (bytes, count).
+ *   struct work is a job or a note that is to be sent, and knows which of them it is.
  * - link_oldest gives the oldest item of the link from a node, or null, and link_drop_oldest takes it off that link.
- *   work_queue takes over an item: it is the queue's then, and the link drops no more than its reference.
+ *   work_queue takes over a job: it is the queue's then, and the link drops no more than its reference. note_read hands
+ *   a note to the application, which is done with it when the call comes back, and has no work from it.
  * - link_room says whether one more item fits on the link to a node; link_send_work and link_send_frame put it there.
  * - link_wait_item comes back when there is an item on a link that is not held, link_wait_room also when there is room
  *   on a link that was full: places to sleep.
@@ -59,8 +64,8 @@
  *         memset(held, 0, sizeof held);
  *     }
  *
- *     // Work for another node: look for room, count it, send it. Answered NO_ROOM, it is tried again in this cycle.
- *     // Refused with OCB_RESTING or OCB_SENT_OUT, it is kept for the next one.
+ *     // A job or a note for another node: look for room, count it, send it. Answered NO_ROOM, it is tried again in this
+ *     // cycle. Refused with OCB_RESTING or OCB_SENT_OUT, it is kept for the next one.
  *     uint32_t send_work(uint32_t to, const struct work *work)
  *     {
  *         if (!link_room(to)) return NO_ROOM;
@@ -69,18 +74,21 @@
  *         return answer;
  *     }
  *
- *     // The oldest item on the link from a node.
+ *     // The oldest item on the link from a node. A note is read and not queued: a node that was idle still is, and its
+ *     // barrier calls go on.
  *     void item_in(uint32_t from)
  *     {
  *         struct item *item = link_oldest(from);
- *         uint32_t answer = item->is_work ? ocb_take(state, WORDS, from, item->phase)
- *                                         : ocb_frame_in(state, WORDS, item->bytes, item->count);
+ *         uint32_t answer = item->kind == JOB    ? ocb_take(state, WORDS, from, item->phase)
+ *                           : item->kind == NOTE ? ocb_take_note(state, WORDS, from, item->phase)
+ *                                                : ocb_frame_in(state, WORDS, item->bytes, item->count);
  *         if (answer == OCB_EARLY) {
  *             held[from] = true;
  *             return;
  *         }
  *         if (answer != OCB_DONE && answer != OCB_DROPPED) fault();
- *         if (item->is_work) work_queue(item);
+ *         if (item->kind == JOB) work_queue(item);
+ *         if (item->kind == NOTE) note_read(item);
  *         link_drop_oldest(from);
  *     }
  *
@@ -141,8 +149,11 @@
 extern "C" {
 #endif
 
-/* Grows by 1 with each change that a caller can see. In 1 every state had 200 words, and no call was told how many. */
-#define OCB_VERSION 2
+/*
+ * Grows by 1 with each change that a caller can see. In 1 every state had 200 words, and no call was told how many; in 2
+ * every work message was a job.
+ */
+#define OCB_VERSION 3
 
 /* Nodes of the largest board, bytes of its longest frame. */
 #define OCB_NODES 256
@@ -157,12 +168,12 @@ extern "C" {
 #define OCB_STATE_WORDS(nodes) (8 + OCB_DIMENSION(nodes) * (OCB_DIMENSION(nodes) + 9))
 
 /*
- * Frames that are on one link at once, at most, where work has woken idle nodes of the board so often in the sender's
- * cycle and the one before: two nodes have one step in each pass in common, and a frame of it goes out again only after
- * work has woken a node whose counts are in it. Found by reasoning (docs/BARRIER.md) and by playing boards
- * (tests/example/links.c); it is not proved by machine, and neither is that room for one item is enough.
+ * Frames that are on one link at once, at most, where idle nodes of the board have taken so many jobs and notes in the
+ * sender's cycle and the one before: two nodes have one step in each pass in common, and a frame of it goes out again
+ * only after a node whose counts are in it has taken one while idle. Found by reasoning (docs/BARRIER.md) and by playing
+ * boards (tests/example/links.c); it is not proved by machine, and neither is that room for one item is enough.
  */
-#define OCB_LINK_FRAMES(woken) (2 + (woken))
+#define OCB_LINK_FRAMES(taken_idle) (2 + (taken_idle))
 
 /*
  * Bytes of stack that any call takes on a Cortex-M0, at -O2 and at -Os, at most: a bound, rounded up. What is there
@@ -203,11 +214,11 @@ enum {
     OCB_BOARD = 1,      /* board: no nodes, or more than OCB_NODES */
     OCB_STRANGER = 2,   /* stranger: a node number that the board does not have */
     OCB_SELF = 3,       /* self: the other end is the node itself */
-    OCB_RESTING = 4,    /* resting: send while idle; keep the work for the next cycle */
-    OCB_SENT_OUT = 5,   /* sent out: 65,535 sent in this cycle; keep the work for the next */
+    OCB_RESTING = 4,    /* resting: send while idle; keep it for the next cycle */
+    OCB_SENT_OUT = 5,   /* sent out: 65,535 sent in this cycle; keep it for the next */
     OCB_TAKEN_FULL = 6, /* taken full: 16,711,425 taken in this cycle */
     OCB_EARLY = 7,      /* early: of the next cycle; leave it on its link until OCB_LEFT, then hand it in again */
-    OCB_FOREIGN = 8,    /* foreign: of another cycle; for work also of the one before */
+    OCB_FOREIGN = 8,    /* foreign: of another cycle; for a job or a note also of the one before */
     OCB_LENGTH = 9,     /* length: under 4 bytes, or not the frame's stated length */
     OCB_FIELD = 10,     /* field: a pass, a dimension or a number that a frame or a board cannot have */
     OCB_PARTNER = 11,   /* partner: the frame is not from the node awaited in its dimension */
@@ -231,17 +242,25 @@ enum {
 uint32_t ocb_fresh(uint32_t *state, size_t words, uint32_t nodes, uint32_t number);
 
 /*
- * Counts one piece of work sent to a node. Call it when the link has room, before the work goes out, and send the work
- * with the state's phase.
+ * Counts one job or note sent to a node. Call it when the link has room, before the message goes out, and send that with
+ * the state's phase.
  * Refusals: 13, 2, 3, 4, 5.
  */
 uint32_t ocb_send(uint32_t *state, size_t words, uint32_t to);
 
 /*
- * Counts one piece of work taken from a node, with the phase byte it was sent with; the node is busy then.
+ * Counts one job taken from a node, with the phase byte it was sent with. The node is busy then, and its position that
+ * of a fresh node: pass 1, dimension 0, flag 1.
  * Refusals: 13, 2, 3, 7 or 8, 6.
  */
 uint32_t ocb_take(uint32_t *state, size_t words, uint32_t from, uint8_t phase);
+
+/*
+ * Counts one note in the same way, and the position is the same then, but busy or idle stays as it was. A node that took
+ * it while idle needs no ocb_idle, and has to go on calling ocb_barrier, also after OCB_WAITS: it signs in again.
+ * Refusals: 13, 2, 3, 7 or 8, 6.
+ */
+uint32_t ocb_take_note(uint32_t *state, size_t words, uint32_t from, uint8_t phase);
 
 /*
  * Says that the node has run out of work. It may be said again.
@@ -260,7 +279,7 @@ uint32_t ocb_frame_in(uint32_t *state, size_t words, const uint8_t *bytes, size_
  * the links to the receivers have room.
  * OCB_SENT: a frame stands at the buffer's start and goes to one or two receivers; OCB_WAITS; OCB_MOVED; OCB_LEFT.
  * details, by word: how many receivers, the first, the second, the frame's length, and for OCB_WAITS the number of a
- * clause that fails (0: no frame has come; 1, 2: counts of sent and taken work differ; 3: a sum is above the limit; 4:
+ * clause that fails (0: no frame has come; 1, 2: counts of sent and taken differ; 3: a sum is above the limit; 4:
  * the totals of sent and taken differ; 5, 6: the second pass does not confirm the first). What an answer lacks is 0.
  * Refusals: 13, 12, 14. State, buffer and details stay then.
  */
@@ -284,7 +303,7 @@ uint32_t ocb_dimension(uint32_t nodes, uint32_t found[1]);
 uint32_t ocb_place(uint32_t nodes, uint32_t dimension, uint32_t node, uint32_t found[OCB_PLACE_WORDS]);
 
 /*
- * The distance of two nodes: the shell in which each counts work for the other.
+ * The distance of two nodes: the shell in which each counts jobs and notes for the other.
  * Refusals: 1, 2, 3.
  */
 uint32_t ocb_distance(uint32_t nodes, uint32_t a, uint32_t b, uint32_t found[1]);

@@ -1,7 +1,7 @@
 /*
  * A ROM image with the library: a board of five nodes inside one controller, so that it needs no wires. Each node sends a
- * piece of work to the next one, idles, and steps through the barrier until it has left its cycle; three cycles are played.
- * In a product each controller has one state, and its links take the place of the list here.
+ * job to the next one and a note to the one behind that, idles, and steps through the barrier until it has left its cycle;
+ * three cycles are played. In a product each controller has one state, and its links take the place of the list here.
  */
 #include "machine.h"
 #include "ocb.h"
@@ -13,8 +13,11 @@
 #define ITEMS 64
 #define WORDS OCB_STATE_WORDS(NODES)
 
-/* An item under way; work has no bytes. */
+enum kind { JOB, FRAME, NOTE };
+
+/* An item under way; only a frame has bytes. */
 struct item {
+    enum kind kind;
     uint32_t from, to, count;
     uint8_t phase, bytes[OCB_FRAME_BYTES];
 };
@@ -23,10 +26,11 @@ static uint32_t states[NODES][WORDS];
 static struct item items[ITEMS]; /* of all links, oldest first */
 static uint32_t under_way, left;
 
-static void put(uint32_t from, uint32_t to, const uint8_t *bytes, uint32_t count)
+static void put(enum kind kind, uint32_t from, uint32_t to, const uint8_t *bytes, uint32_t count)
 {
     if (under_way == ITEMS) stop("too many items under way");
     struct item *item = &items[under_way++];
+    item->kind = kind;
     item->from = from;
     item->to = to;
     item->count = count;
@@ -34,14 +38,19 @@ static void put(uint32_t from, uint32_t to, const uint8_t *bytes, uint32_t count
     if (count > 0) memcpy(item->bytes, bytes, count);
 }
 
+static uint32_t hand_in(const struct item *item)
+{
+    uint32_t *state = states[item->to];
+    if (item->kind == JOB) return ocb_take(state, WORDS, item->from, item->phase);
+    if (item->kind == NOTE) return ocb_take_note(state, WORDS, item->from, item->phase);
+    return ocb_frame_in(state, WORDS, item->bytes, item->count);
+}
+
 /* Hands in the oldest item that is not early. */
 static void deliver(void)
 {
     for (uint32_t at = 0; at < under_way; at++) {
-        const struct item *item = &items[at];
-        uint32_t *state = states[item->to];
-        uint32_t answer = item->count == 0 ? ocb_take(state, WORDS, item->from, item->phase)
-                                           : ocb_frame_in(state, WORDS, item->bytes, item->count);
+        uint32_t answer = hand_in(&items[at]);
         if (answer == OCB_EARLY) continue;
         if (answer != OCB_DONE && answer != OCB_DROPPED) stop("an item is refused");
         under_way--;
@@ -50,21 +59,26 @@ static void deliver(void)
     }
 }
 
+static void send(enum kind kind, uint32_t node, uint32_t to)
+{
+    if (ocb_send(states[node], WORDS, to) != OCB_DONE) stop("a send is refused");
+    put(kind, node, to, 0, 0);
+}
+
 static void work(uint32_t node)
 {
-    uint32_t to = (node + 1) % NODES;
-    if (ocb_send(states[node], WORDS, to) != OCB_DONE) stop("a send is refused");
-    put(node, to, 0, 0);
+    send(JOB, node, (node + 1) % NODES);
+    send(NOTE, node, (node + 2) % NODES);
 }
 
 static void step(uint32_t node)
 {
     uint8_t frame[OCB_FRAME_BYTES];
     uint32_t details[OCB_DETAIL_WORDS];
-    if (ocb_idle(states[node], WORDS) != OCB_DONE) stop("an idle call is refused");
+    if (states[node][OCB_AT_BUSY] && ocb_idle(states[node], WORDS) != OCB_DONE) stop("an idle call is refused");
     switch (ocb_barrier(states[node], WORDS, frame, sizeof frame, details)) {
     case OCB_SENT:
-        for (uint32_t i = 0; i < details[0]; i++) put(node, details[1 + i], frame, details[3]);
+        for (uint32_t i = 0; i < details[0]; i++) put(FRAME, node, details[1 + i], frame, details[3]);
         break;
     case OCB_LEFT:
         left++;

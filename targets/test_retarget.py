@@ -116,8 +116,9 @@ COPIED = "call void @llvm.memmove.p0.p0.i64(ptr %p, ptr %a, i64 16, i1 false)"
 
 
 # Which parameters of an exported function are counts, by their places.
-COUNTS = {"ocb_fresh": [1], "ocb_send": [1], "ocb_take": [1], "ocb_idle": [1], "ocb_frame_in": [1, 3], "ocb_barrier": [1, 3],
-          "ocb_frame_write": [3], "ocb_frame_read": [2], "ocb_dimension": [], "ocb_place": [], "ocb_distance": []}
+COUNTS = {"ocb_fresh": [1], "ocb_send": [1], "ocb_take": [1], "ocb_take_note": [1], "ocb_idle": [1], "ocb_frame_in": [1, 3],
+          "ocb_barrier": [1, 3], "ocb_frame_write": [3], "ocb_frame_read": [2], "ocb_dimension": [], "ocb_place": [],
+          "ocb_distance": []}
 
 
 def check_counts(made):

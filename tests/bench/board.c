@@ -6,9 +6,11 @@
 
 #define ITEMS 16384
 
+enum item_kind { JOB, FRAME, NOTE };
+
 struct item {
     uint32_t from, to;
-    bool is_work;
+    enum item_kind kind;
     uint8_t phase;
     uint8_t bytes[OCB_FRAME_BYTES];
     size_t count;
@@ -18,7 +20,7 @@ static struct {
     uint32_t nodes, cycles;
     struct states states[OCB_NODES];
     uint32_t left[OCB_NODES]; /* how many cycles a node has left */
-    uint32_t work[OCB_NODES]; /* messages that a node will still send before it idles */
+    uint32_t work[OCB_NODES]; /* jobs and notes that a node will still send before it idles */
     struct item items[ITEMS]; /* all links in one list, oldest first */
     uint32_t under_way;
     uint32_t round;
@@ -83,19 +85,19 @@ static void must(uint32_t at, struct call *call, uint32_t wanted)
 
 /* ---- The schedule */
 
-static struct item *put_item(uint32_t from, uint32_t to, bool is_work)
+static struct item *put_item(uint32_t from, uint32_t to, enum item_kind kind)
 {
     if (board.under_way == ITEMS) stop("too many items under way");
     struct item *item = &board.items[board.under_way++];
     item->from = from;
     item->to = to;
-    item->is_work = is_work;
+    item->kind = kind;
     item->phase = (uint8_t)board.states[from].words[OCB_AT_PHASE];
     item->count = 0;
     return item;
 }
 
-/* How many messages a node sends before it idles. */
+/* How many jobs and notes a node sends before it idles. */
 static uint32_t some_work(void)
 {
     return board.nodes == 1 ? 0 : below(5);
@@ -105,7 +107,7 @@ static void send_work(uint32_t at)
 {
     uint32_t to = (at + 1 + below(board.nodes - 1)) % board.nodes;
     must(at, &(struct call){.kind = SEND, .other = to}, OCB_DONE);
-    put_item(at, to, true);
+    put_item(at, to, below(2) ? JOB : NOTE);
     board.work[at]--;
 }
 
@@ -116,7 +118,7 @@ static void barrier_step(uint32_t at)
     switch (call_all(at, &call)) {
     case OCB_SENT:
         for (uint32_t i = 0; i < call.found[0]; i++) {
-            struct item *item = put_item(at, call.found[1 + i], false);
+            struct item *item = put_item(at, call.found[1 + i], FRAME);
             item->count = call.found[3];
             memcpy(item->bytes, call.bytes, item->count);
         }
@@ -144,15 +146,16 @@ static void turn(uint32_t at)
         must(at, &(struct call){.kind = IDLE}, OCB_DONE);
 }
 
-/* The item reaches its node; false where it is early and stays. */
+/* The item reaches its node, which may send more after a job; false where it is early and stays. */
 static bool deliver(const struct item *item)
 {
-    struct call call = {.kind = item->is_work ? TAKE : FRAME_IN, .other = item->from, .phase = item->phase};
+    static const enum kind calls[] = {[JOB] = TAKE, [FRAME] = FRAME_IN, [NOTE] = TAKE_NOTE};
+    struct call call = {.kind = calls[item->kind], .other = item->from, .phase = item->phase};
     call.count = item->count;
     memcpy(call.bytes, item->bytes, item->count);
     uint32_t answer = call_all(item->to, &call);
     if (answer == OCB_EARLY) return false;
-    if (answer == OCB_DONE && item->is_work && below(4) == 0) board.work[item->to]++;
+    if (answer == OCB_DONE && item->kind == JOB && below(2)) board.work[item->to]++;
     if (answer == OCB_DONE || answer == OCB_DROPPED) return true;
     fail(&call, "an item is refused");
 }

@@ -13,7 +13,7 @@ void perform(enum side side, struct call *call);
 /* Told of each call of the schedule: the states before it, the call, and the library's answer. */
 void saw(const struct states *before, const struct call *call, uint32_t answer);
 
-/* Plays whole cycles of a board from a phase on, with work sent and taken. */
+/* Plays whole cycles of a board from a phase on, with jobs and notes sent and taken. */
 void play_board(uint32_t nodes, uint8_t phase, uint32_t cycles);
 
 /* The same from phase 0, over as many cycles as the benchmark measures. */

@@ -191,7 +191,8 @@ uint32_t compact_send(uint32_t *state, size_t words, uint32_t to)
     return OCB_DONE;
 }
 
-uint32_t compact_take(uint32_t *state, size_t words, uint32_t from, uint8_t phase)
+/* What taking a job and taking a note have in common. */
+static uint32_t take(uint32_t *state, size_t words, uint32_t from, uint8_t phase)
 {
     struct survey survey;
     if (!state_stands(state, words, &survey)) return OCB_STATE;
@@ -202,10 +203,21 @@ uint32_t compact_take(uint32_t *state, size_t words, uint32_t from, uint8_t phas
     if (difference != 0) return difference == 1 ? OCB_EARLY : OCB_FOREIGN;
     if (survey.total_taken == TAKEN_LIMIT) return OCB_TAKEN_FULL;
     state[HEAD_WORDS + survey.p + distance(nodes, survey.p, number, from)]++;
-    state[OCB_AT_BUSY] = 1;
     state[OCB_AT_TOTAL] = 0;
     put_position(state, 1, 0, 1);
     return OCB_DONE;
+}
+
+uint32_t compact_take(uint32_t *state, size_t words, uint32_t from, uint8_t phase)
+{
+    uint32_t answer = take(state, words, from, phase);
+    if (answer == OCB_DONE) state[OCB_AT_BUSY] = 1;
+    return answer;
+}
+
+uint32_t compact_take_note(uint32_t *state, size_t words, uint32_t from, uint8_t phase)
+{
+    return take(state, words, from, phase);
 }
 
 uint32_t compact_idle(uint32_t *state, size_t words)

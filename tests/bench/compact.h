@@ -14,6 +14,7 @@
 uint32_t compact_fresh(uint32_t *state, size_t words, uint32_t nodes, uint32_t number);
 uint32_t compact_send(uint32_t *state, size_t words, uint32_t to);
 uint32_t compact_take(uint32_t *state, size_t words, uint32_t from, uint8_t phase);
+uint32_t compact_take_note(uint32_t *state, size_t words, uint32_t from, uint8_t phase);
 uint32_t compact_idle(uint32_t *state, size_t words);
 uint32_t compact_frame_in(uint32_t *state, size_t words, const uint8_t *bytes, size_t count);
 uint32_t compact_barrier(uint32_t *state, size_t words, uint8_t *buffer, size_t count,

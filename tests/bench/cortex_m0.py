@@ -28,9 +28,6 @@ OUT = sheet.OUT / NAME
 MEMORY = OUT / "memory.o"
 MHZ = 48
 RAM = 64 * 1024
-FUNCTIONS = ["send", "take", "idle", "frame_in", "barrier", "fresh", "dimension", "place", "distance", "frame_write",
-             "frame_read"]
-STATE_CALLS = FUNCTIONS[:6]
 WAYS = [("average", "", 1), ("most", "-most", 2)]  # in words, in a table's name, and where it stands in a line
 EXACT = ["-icount", "shift=10"]  # as measure.c has it
 COPY = "call void @llvm.memmove."
@@ -103,7 +100,7 @@ def bounds(level):
 def check_bound(measured, bound):
     """No call that was played went deeper than the bound of its function."""
     for level, figures in measured.items():
-        for name in FUNCTIONS:
+        for name in sheet.FUNCTIONS:
             if most(figures, "library", name, 3) > bound[level][f"ocb_{name}"]:
                 raise tools.Trouble(f"-{level}: ocb_{name} takes more stack than its bound")
 
@@ -112,7 +109,7 @@ def print_stack(measured, bound):
     titles = ["Function", *(f"{name}, -{level}" for name in sheet.NAMES for level in measured),
               *(f"library's bound, -{level}" for level in measured)]
     rows = [[f"`ocb_{name}`", *(most(figures, side, name, 3) for side in sheet.SIDES for figures in measured.values()),
-             *(bound[level][f"ocb_{name}"] for level in measured)] for name in FUNCTIONS]
+             *(bound[level][f"ocb_{name}"] for level in measured)] for name in sheet.FUNCTIONS]
     sheet.table("m0-stack", "Cortex-M0: deepest stack of a call in bytes, refused calls included", titles, rows)
     enough = [f"{max(bound[level].values())} bytes at -{level}" for level in measured]
     sheet.save("m0-stack-most", "Cortex-M0: stack that is enough for any call", " and ".join(enough) + ".\n")
@@ -172,17 +169,17 @@ def size(path):
 
 def needed(level):
     """The library without what the calls on a state do not need."""
-    made = OUT / f"six.{level}"
-    entries = [word for name in STATE_CALLS for word in ("-u", f"ocb_{name}")]
+    made = OUT / f"state_calls.{level}"
+    entries = [word for name in sheet.STATE_CALLS for word in ("-u", f"ocb_{name}")]
     tools.run(["arm-none-eabi-ld", "--gc-sections", "-e", "ocb_barrier", *entries, "--unresolved-symbols=ignore-all",
                library(level), "-o", made])
     return made
 
 
 def print_code(by_hand):
-    rows = [["library, all eleven functions", *(size(library(level)) for level in by_hand)],
-            ["library, what the six calls on a state need", *(size(needed(level)) for level in by_hand)],
-            *([f"{words}, the same six calls", *(size(made[side]) for made in by_hand.values())]
+    rows = [[f"library, {sheet.ALL_CODE}", *(size(library(level)) for level in by_hand)],
+            [f"library, what the {sheet.STATE_CODE} need", *(size(needed(level)) for level in by_hand)],
+            *([f"{words}, the same calls", *(size(made[side]) for made in by_hand.values())]
               for side, (words, _) in sheet.BY_HAND.items()),
             ["memory functions, `memory.S`, beside each", *[size(MEMORY)] * len(by_hand)]]
     sheet.table("m0-code", "Cortex-M0: code and constants in bytes", ["Code", *(f"-{level}" for level in by_hand)], rows)
@@ -190,8 +187,8 @@ def print_code(by_hand):
 
 def stack_aim(level, figures, bound):
     """The deepest of the library's calls on a state that were played, beside the bound of any such call."""
-    deepest, call = max((most(figures, "library", call, 3), call) for call in STATE_CALLS)
-    any_call = max(bound[f"ocb_{call}"] for call in STATE_CALLS)
+    deepest, call = max((most(figures, "library", call, 3), call) for call in sheet.STATE_CALLS)
+    any_call = max(bound[f"ocb_{call}"] for call in sheet.STATE_CALLS)
     return aims.row(f"bytes of stack at -{level}, refused calls included", aims.STACK_BYTES, deepest,
                     f"{call.replace('_', ' ')}; bound of any call {any_call}")
 
@@ -203,7 +200,7 @@ def print_aims(measured, bound):
             counts = {tuple(key): numbers[at] for (what, *key), numbers in figures.items() if what == "scheduled"}
             rows += aims.of_instructions(f"instructions at -{level}, {words}", counts)
         rows.append(stack_aim(level, figures, bound[level]))
-    rows.append(aims.row("bytes of code of the six calls at -Os", aims.CODE_BYTES, size(needed("Os")), ""))
+    rows.append(aims.row(f"bytes of code of the {sheet.STATE_CODE} at -Os", aims.CODE_BYTES, size(needed("Os")), ""))
     aims.save("m0-aims", "Cortex-M0", rows)
 
 

@@ -13,6 +13,8 @@
     CASE(send_full, SEND, OCB_DONE, 0, true)      \
     CASE(take_bare, TAKE, OCB_DONE, 0, false)     \
     CASE(take_full, TAKE, OCB_DONE, 0, true)      \
+    CASE(note_bare, TAKE_NOTE, OCB_DONE, 0, false) \
+    CASE(note_full, TAKE_NOTE, OCB_DONE, 0, true) \
     CASE(idle_bare, IDLE, OCB_DONE, 0, false)     \
     CASE(idle_full, IDLE, OCB_DONE, 0, true)      \
     CASE(frame_bare, FRAME_IN, OCB_DONE, 1, false) \

@@ -206,7 +206,8 @@ uint32_t inplace_send(struct inplace_node *n, uint32_t to)
     return OCB_DONE;
 }
 
-uint32_t inplace_take(struct inplace_node *n, uint32_t from, uint8_t phase)
+/* What taking a job and taking a note have in common. */
+static uint32_t take(struct inplace_node *n, uint32_t from, uint8_t phase)
 {
     struct survey survey;
     if (!state_stands(n, &survey)) return OCB_STATE;
@@ -216,10 +217,21 @@ uint32_t inplace_take(struct inplace_node *n, uint32_t from, uint8_t phase)
     if (difference != 0) return difference == 1 ? OCB_EARLY : OCB_FOREIGN;
     if (survey.total_taken == TAKEN_LIMIT) return OCB_TAKEN_FULL;
     n->taken[distance(n->nodes, survey.p, n->number, from)]++;
-    n->busy = 1;
     n->agreed = 0;
     put_position(n, 1, 0, 1);
     return OCB_DONE;
+}
+
+uint32_t inplace_take(struct inplace_node *n, uint32_t from, uint8_t phase)
+{
+    uint32_t answer = take(n, from, phase);
+    if (answer == OCB_DONE) n->busy = 1;
+    return answer;
+}
+
+uint32_t inplace_take_note(struct inplace_node *n, uint32_t from, uint8_t phase)
+{
+    return take(n, from, phase);
 }
 
 uint32_t inplace_idle(struct inplace_node *n)

@@ -46,6 +46,7 @@ struct inplace_node {
 uint32_t inplace_fresh(struct inplace_node *n, uint32_t nodes, uint32_t number);
 uint32_t inplace_send(struct inplace_node *n, uint32_t to);
 uint32_t inplace_take(struct inplace_node *n, uint32_t from, uint8_t phase);
+uint32_t inplace_take_note(struct inplace_node *n, uint32_t from, uint8_t phase);
 uint32_t inplace_idle(struct inplace_node *n);
 uint32_t inplace_frame_in(struct inplace_node *n, const uint8_t *bytes, size_t count);
 uint32_t inplace_barrier(struct inplace_node *n, uint8_t *buffer, size_t count, uint32_t details[INPLACE_DETAILS]);

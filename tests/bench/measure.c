@@ -26,9 +26,9 @@ typedef void any_function(void);
 uint32_t timed(any_function *function, const uint32_t arguments[ARGUMENTS], uint32_t *stack_top, uint32_t ticks[2]);
 
 #define ANY(function) (any_function *)(function)
-#define STATE_FUNCTIONS(prefix)                                                                                 \
-    ANY(prefix##_send), ANY(prefix##_take), ANY(prefix##_idle), ANY(prefix##_frame_in), ANY(prefix##_barrier), \
-        ANY(prefix##_fresh)
+#define STATE_FUNCTIONS(prefix)                                                                       \
+    ANY(prefix##_send), ANY(prefix##_take), ANY(prefix##_take_note), ANY(prefix##_idle),             \
+        ANY(prefix##_frame_in), ANY(prefix##_barrier), ANY(prefix##_fresh)
 static any_function *const functions[SIDES][KINDS] = {
     [LIBRARY] = {STATE_FUNCTIONS(ocb), ANY(ocb_dimension), ANY(ocb_place), ANY(ocb_distance), ANY(ocb_frame_write),
                  ANY(ocb_frame_read)},
@@ -68,6 +68,7 @@ static void put_arguments(enum side side, struct call *c, uint32_t a[ARGUMENTS])
     const uint32_t all[KINDS][ARGUMENTS] = {
         [SEND] = {state, words, c->other},
         [TAKE] = {state, words, c->other, c->phase},
+        [TAKE_NOTE] = {state, words, c->other, c->phase},
         [IDLE] = {state, words},
         [FRAME_IN] = {state, words, bytes, count},
         [BARRIER] = {state, words, bytes, count, found},

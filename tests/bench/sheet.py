@@ -6,7 +6,9 @@ ROOT = pathlib.Path(__file__).resolve().parent.parent.parent
 OUT = ROOT / "target" / "bench"
 TABLES = OUT / "tables"
 
-CALLS = ["send", "take", "idle", "frame_in", "barrier"]  # of a node's cycle, and so of the schedule
+CALLS = ["send", "take", "take_note", "idle", "frame_in", "barrier"]  # of a node's cycle, and so of the schedule
+STATE_CALLS = [*CALLS, "fresh"]
+FUNCTIONS = [*STATE_CALLS, "dimension", "place", "distance", "frame_write", "frame_read"]
 NAMED = 5  # functions in a table of shares
 TITLES = [call.replace("_", " ") for call in CALLS]
 
@@ -14,6 +16,10 @@ TITLES = [call.replace("_", " ") for call in CALLS]
 SIDES = {"library": "ocb_", "in_place": "inplace_", "compact": "compact_"}
 NAMES = [side.replace("_", " ") for side in SIDES]
 COMPARED = NAMES[0] + "".join(f" / {name} = ratio" for name in NAMES[1:])
+
+# What code is measured: the whole library, and what a kernel calls.
+ALL_CODE = f"all {len(FUNCTIONS)} functions"
+STATE_CODE = f"{len(STATE_CALLS)} calls on a state"
 
 # The sides by hand: what they are, and their files.
 BY_HAND = {"in_place": ("version on a struct", "inplace.c"), "compact": ("version on the library's words", "compact.c")}

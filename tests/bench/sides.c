@@ -5,8 +5,8 @@
 #include <string.h>
 
 const char *const side_names[SIDES] = {"library", "in_place", "compact"};
-const char *const kind_names[KINDS] = {"send",      "take",  "idle",     "frame_in",    "barrier",  "fresh",
-                                       "dimension", "place", "distance", "frame_write", "frame_read"};
+const char *const kind_names[KINDS] = {"send",  "take",      "take_note", "idle",     "frame_in",    "barrier",
+                                       "fresh", "dimension", "place",     "distance", "frame_write", "frame_read"};
 
 /* The compiler neither inlines the function nor joins it with another. */
 #define APART __attribute__((noipa))

@@ -19,6 +19,7 @@ enum side { LIBRARY, IN_PLACE, COMPACT, SIDES };
 enum kind {
     SEND,
     TAKE,
+    TAKE_NOTE,
     IDLE,
     FRAME_IN,
     BARRIER,
@@ -85,6 +86,9 @@ const char *difference(const struct call *ours, const struct call *theirs);
     case TAKE:                                                                            \
         c->answer = prefix##_take(c->state, c->words, c->other, c->phase);                \
         break;                                                                            \
+    case TAKE_NOTE:                                                                       \
+        c->answer = prefix##_take_note(c->state, c->words, c->other, c->phase);           \
+        break;                                                                            \
     case IDLE:                                                                            \
         c->answer = prefix##_idle(c->state, c->words);                                    \
         break;                                                                            \
@@ -130,6 +134,9 @@ INSIDE void in_place_inside(struct call *c)
         break;
     case TAKE:
         c->answer = inplace_take(c->state, c->other, c->phase);
+        break;
+    case TAKE_NOTE:
+        c->answer = inplace_take_note(c->state, c->other, c->phase);
         break;
     case IDLE:
         c->answer = inplace_idle(c->state);

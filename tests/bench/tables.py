@@ -17,6 +17,8 @@ CASES = {
     "send_full": "send, most stored",
     "take_bare": "take, nothing stored",
     "take_full": "take, most stored",
+    "note_bare": "take note, nothing stored",
+    "note_full": "take note, most stored",
     "idle_bare": "idle, nothing stored",
     "idle_full": "idle, most stored",
     "frame_bare": "frame in, pass 1, nothing stored",
@@ -154,9 +156,9 @@ def size(path):
 
 
 def print_code():
-    rows = [["library, all eleven functions", size(LIBRARY)],
-            ["library, what the six calls on a state need", size(sheet.OUT / "six")]]
-    rows += [[f"{words}, the same six calls, -{level}", size(sheet.OUT / f"{side}.{level}.o")]
+    rows = [[f"library, {sheet.ALL_CODE}", size(LIBRARY)],
+            [f"library, what the {sheet.STATE_CODE} need", size(sheet.OUT / "state_calls")]]
+    rows += [[f"{words}, the same calls, -{level}", size(sheet.OUT / f"{side}.{level}.o")]
              for side, (words, _) in sheet.BY_HAND.items() for level in ("Os", "O2", "O3")]
     sheet.table("x86-code", "x86-64: code and constants in bytes", ["Code", "text"], rows)
 

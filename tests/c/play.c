@@ -12,8 +12,11 @@
 #define PLACES 512
 #define WORDS OCB_STATE_WORDS(NODES)
 
-/* An item under way. Work has no bytes: its count is 0. */
+enum kind { JOB, FRAME, NOTE };
+
+/* An item under way. Only a frame has bytes. */
 struct item {
+    enum kind kind;
     uint32_t from, to, count;
     uint8_t phase, bytes[OCB_FRAME_BYTES];
 };
@@ -57,11 +60,11 @@ static uint32_t crowded(uint32_t node, const uint32_t before[WORDS])
     return OCB_CROWDED;
 }
 
-static uint32_t send_work(uint32_t from, uint32_t to)
+static uint32_t send_work(enum kind kind, uint32_t from, uint32_t to)
 {
     uint32_t before[WORDS];
     memcpy(before, states[from], sizeof before);
-    struct item work = {.from = from, .phase = (uint8_t)states[from][OCB_AT_PHASE]};
+    struct item work = {.kind = kind, .from = from, .phase = (uint8_t)states[from][OCB_AT_PHASE]};
     uint32_t answer = ocb_send(states[from], WORDS, to);
     if (answer != OCB_DONE) return answer;
     if (under_way == PLACES) return crowded(from, before);
@@ -76,6 +79,7 @@ static uint32_t barrier(uint32_t node)
     uint32_t answer = ocb_barrier(states[node], WORDS, written.bytes, sizeof written.bytes, details);
     if (answer != OCB_SENT) return answer;
     if (PLACES - under_way < details[0]) return crowded(node, before);
+    written.kind = FRAME;
     written.from = node;
     written.count = details[3];
     for (uint32_t i = 0; i < details[0]; i++)
@@ -83,13 +87,18 @@ static uint32_t barrier(uint32_t node)
     return answer;
 }
 
+static uint32_t hand_in(uint32_t to, const struct item *item)
+{
+    if (item->kind == JOB) return ocb_take(states[to], WORDS, item->from, item->phase);
+    if (item->kind == NOTE) return ocb_take_note(states[to], WORDS, item->from, item->phase);
+    return ocb_frame_in(states[to], WORDS, item->bytes, item->count);
+}
+
 static uint32_t deliver(uint32_t from, uint32_t to)
 {
     uint32_t at = oldest(from, to);
     if (at == under_way) return OCB_NOTHING;
-    const struct item *item = &items[at];
-    uint32_t answer = item->count == 0 ? ocb_take(states[to], WORDS, from, item->phase)
-                                       : ocb_frame_in(states[to], WORDS, item->bytes, item->count);
+    uint32_t answer = hand_in(to, &items[at]);
     if (answer != OCB_EARLY) drop(at);
     return answer;
 }
@@ -119,10 +128,11 @@ static int play(const char *line, uint32_t nodes, int frames)
     unsigned a, b = 0;
     char act;
     int parts = sscanf(line, "%c %u %u", &act, &a, &b);
-    int two = act == 's' || act == 'd';
+    int two = act == 's' || act == 't' || act == 'd';
     if (parts != 2 + two || a >= nodes || b >= nodes) return 0;
     uint32_t answer;
-    if (act == 's') answer = send_work(a, b);
+    if (act == 's') answer = send_work(JOB, a, b);
+    else if (act == 't') answer = send_work(NOTE, a, b);
     else if (act == 'd') answer = deliver(a, b);
     else if (act == 'i') answer = ocb_idle(states[a], WORDS);
     else if (act == 'b') answer = barrier(a);

@@ -2,14 +2,18 @@
  * A board whose nodes each run the example of include/ocb.h: harness NODES ROOM SEED. A link has room for so many items.
  *
  * A node is a coroutine with a copy of the example's variables, which stand in a section of their own (node_memory).
- * Time is a number: items take a random time on their links, slow and quick ones, and work takes time too. A seed gives
- * the same run again. The calls of the example come through here (the linker's --wrap), so that they are seen. Each node
- * goes through CYCLES cycles, past phase 255. The program ends with status 1 where
+ * Time is a number: items take a random time on their links, slow and quick ones, and work takes time too. Half of the
+ * work messages are jobs, half are notes. A seed gives the same run again. The calls of the example come through here
+ * (the linker's --wrap), so that they are seen. Each node goes through CYCLES cycles, past phase 255. The program ends
+ * with status 1 where
  *
- * - the example calls fault, puts an item on a link without room, or takes work off its link that is in no queue;
+ * - the example calls fault, puts an item on a link without room, or takes a job off its link that is in no queue, or a
+ *   note that the application has not read;
+ * - a message is taken as one of the other kind, a note is in the queue or makes an idle node busy, or a node that took
+ *   notes while idle says idle again;
  * - the board stops, or an item is left over;
- * - a node leaves a cycle with work in its queue, or while work of that cycle is untaken, or while a node is busy in it
- *   or has not reached it, or work of a cycle that a node has left is sent or taken;
+ * - a node leaves a cycle with work in its queue, or while a job or note of that cycle is untaken, or while a node is
+ *   busy in it or has not reached it, or a job or note of a cycle that a node has left is sent or taken;
  * - an early item is handed in again before its receiver has left, or a node that waits makes another barrier call
  *   before an item was handed in.
  */
@@ -40,9 +44,10 @@ struct node {
     bool sleeps, for_room;            /* until an item comes in, or also until there is room */
     bool held[NODES];                 /* the links that its sleep is not for */
     bool busy, waits, handed;         /* by its calls; handed: an item was, since it waits */
+    bool unread;                      /* a note is taken, and the application does not have it yet */
     bool early[NODES];                /* links from which an item was early in this cycle */
     uint32_t cycle;                   /* without end */
-    struct item *first, *last, *kept; /* its work, and work for the next cycle */
+    struct item *first, *last, *kept; /* its jobs, and those for the next cycle */
 };
 
 extern char __start_node_memory[], __stop_node_memory[];
@@ -53,7 +58,7 @@ static ucontext_t scheduler;
 static uint32_t nodes, room, me, done, untaken[CYCLES + 1];
 static uint64_t now, seed, items; /* items: those that someone holds */
 /* what was met, so often */
-static unsigned long long calls, sleeps, pieces, resting, sent_out, early, no_room;
+static unsigned long long calls, sleeps, jobs, notes, notes_idle, resting, sent_out, early, no_room;
 
 static _Noreturn void stop(const char *why)
 {
@@ -83,10 +88,11 @@ static uint32_t another(void)
 
 /* ---- Items */
 
-static struct item *new_item(void)
+static struct item *new_item(enum kind kind)
 {
     struct item *item = calloc(1, sizeof *item);
     if (item == NULL) stop("no memory");
+    item->kind = kind;
     item->holders = 1;
     item->cycle = board[me].cycle;
     items++;
@@ -103,6 +109,7 @@ static void release(struct item *item)
 static void queue(struct item *item)
 {
     struct node *node = &board[me];
+    check(item->kind == JOB, "a note is in the queue");
     item->queued = NULL;
     item->work.to = another();
     if (node->first == NULL) node->first = item;
@@ -110,12 +117,18 @@ static void queue(struct item *item)
     node->last = item;
 }
 
-static struct item *new_work(uint32_t sends, uint32_t depth)
+static struct item *new_job(uint32_t sends, uint32_t depth)
 {
-    struct item *item = new_item();
-    item->is_work = true;
-    item->work = (struct work){.sends = sends, .depth = depth};
+    struct item *item = new_item(JOB);
+    item->work = (struct work){.kind = JOB, .sends = sends, .depth = depth};
     return item;
+}
+
+/* A note, or a job behind which a chain of so many may follow. */
+static struct work some_message(uint32_t depth)
+{
+    if (below(2) == 0) return (struct work){.kind = NOTE};
+    return (struct work){.kind = JOB, .sends = depth == 0 ? 0 : below(5), .depth = depth == 0 ? 0 : depth - 1};
 }
 
 static void keep(struct item *item)
@@ -167,7 +180,8 @@ void link_drop_oldest(uint32_t from)
 {
     struct link *link = &links[from][me];
     struct item *item = link->oldest;
-    check(!item->is_work || item->holders == 2, "work is off its link, and in no queue");
+    check(item->kind != JOB || item->holders == 2, "a job is off its link, and in no queue");
+    check(item->kind != NOTE || item->read, "a note is off its link, and was not read");
     link->oldest = item->behind;
     if (link->count-- == room && board[from].for_room) wake(&board[from], now);
     release(item);
@@ -196,14 +210,15 @@ static void put(uint32_t to, struct item *item)
 
 void link_send_work(uint32_t to, uint8_t phase, const struct work *work)
 {
-    struct item *item = new_work(work->sends, work->depth);
+    struct item *item = new_item(work->kind);
+    item->work = *work;
     item->phase = phase;
     put(to, item);
 }
 
 void link_send_frame(uint32_t to, const uint8_t *bytes, size_t count)
 {
-    struct item *item = new_item();
+    struct item *item = new_item(FRAME);
     memcpy(item->bytes, bytes, count);
     item->count = count;
     put(to, item);
@@ -213,12 +228,12 @@ void link_send_frame(uint32_t to, const uint8_t *bytes, size_t count)
 void link_wait_item(const bool *held)
 {
     if (below(8) == 0) {
-        /* work that turns up at an idle node */
-        struct item *item = new_work(1, 0);
-        uint32_t answer = send_work(another(), &item->work);
-        check(answer == OCB_RESTING || answer == NO_ROOM, "an idle node sends work");
+        /* a job or a note that turns up at an idle node: one is sent in the next cycle */
+        struct work work = some_message(0);
+        uint32_t answer = send_work(another(), &work);
+        check(answer == OCB_RESTING || answer == NO_ROOM, "an idle node sends");
         resting += answer == OCB_RESTING;
-        keep(item);
+        keep(new_job(1, 0));
     }
     sleep_on(held, false);
 }
@@ -243,7 +258,7 @@ bool work_run(void)
     struct work *work = &item->work;
     pause_until(now + below(4));
     if (work->sends > 0) {
-        struct work next = {.sends = work->depth == 0 ? 0 : below(3), .depth = work->depth == 0 ? 0 : work->depth - 1};
+        struct work next = some_message(work->depth);
         uint32_t answer = send_work(work->to, &next);
         if (answer == NO_ROOM) return false;
         check(answer == OCB_DONE || answer == OCB_SENT_OUT, "a busy node's send is refused");
@@ -266,6 +281,13 @@ void work_queue(struct item *item)
     queue(item);
 }
 
+void note_read(struct item *item)
+{
+    check(item->kind == NOTE && board[me].unread, "what is read is no note, or was not taken");
+    item->read = true;
+    board[me].unread = false;
+}
+
 _Noreturn void fault(void)
 {
     stop("the example calls fault");
@@ -276,12 +298,12 @@ _Noreturn void fault(void)
 static void no_one_has_left(uint32_t cycle)
 {
     for (uint32_t node = 0; node < nodes; node++)
-        check(board[node].cycle <= cycle, "work of a cycle that a node has left");
+        check(board[node].cycle <= cycle, "a job or note of a cycle that a node has left");
 }
 
 static void may_leave(uint32_t cycle)
 {
-    check(untaken[cycle] == 0, "leaves while work is untaken");
+    check(untaken[cycle] == 0, "leaves while a job or note is untaken");
     for (uint32_t node = 0; node < nodes; node++) {
         check(board[node].cycle >= cycle, "leaves before a node has reached the cycle");
         check(board[node].cycle > cycle || !board[node].busy, "leaves while a node is busy");
@@ -297,8 +319,18 @@ static void handed_in(uint32_t from, uint32_t answer)
     calls++;
 }
 
+static void taken(uint32_t from, enum kind kind)
+{
+    const struct item *item = links[from][me].oldest;
+    check(item->kind == kind, "a job is taken as a note, or a note as a job");
+    check(item->cycle == board[me].cycle, "a job or note of another cycle is taken");
+    no_one_has_left(board[me].cycle);
+    untaken[board[me].cycle]--;
+}
+
 uint32_t __real_ocb_send(uint32_t *state, size_t words, uint32_t to);
 uint32_t __real_ocb_take(uint32_t *state, size_t words, uint32_t from, uint8_t phase);
+uint32_t __real_ocb_take_note(uint32_t *state, size_t words, uint32_t from, uint8_t phase);
 uint32_t __real_ocb_idle(uint32_t *state, size_t words);
 uint32_t __real_ocb_frame_in(uint32_t *state, size_t words, const uint8_t *bytes, size_t count);
 uint32_t __real_ocb_barrier(uint32_t *state, size_t words, uint8_t *buffer, size_t count, uint32_t *details);
@@ -311,7 +343,6 @@ uint32_t __wrap_ocb_send(uint32_t *state, size_t words, uint32_t to)
     check(board[me].busy, "sends while idle");
     no_one_has_left(board[me].cycle);
     untaken[board[me].cycle]++;
-    pieces++;
     return answer;
 }
 
@@ -320,15 +351,28 @@ uint32_t __wrap_ocb_take(uint32_t *state, size_t words, uint32_t from, uint8_t p
     uint32_t answer = __real_ocb_take(state, words, from, phase);
     handed_in(from, answer);
     if (answer != OCB_DONE) return answer;
-    check(links[from][me].oldest->cycle == board[me].cycle, "work of another cycle is taken");
-    no_one_has_left(board[me].cycle);
-    untaken[board[me].cycle]--;
+    taken(from, JOB);
     board[me].busy = true;
+    jobs++;
+    return answer;
+}
+
+uint32_t __wrap_ocb_take_note(uint32_t *state, size_t words, uint32_t from, uint8_t phase)
+{
+    uint32_t answer = __real_ocb_take_note(state, words, from, phase);
+    handed_in(from, answer);
+    if (answer != OCB_DONE) return answer;
+    taken(from, NOTE);
+    check(state[OCB_AT_BUSY] == board[me].busy, "a note makes a node busy or idle");
+    board[me].unread = true;
+    notes++;
+    notes_idle += !board[me].busy;
     return answer;
 }
 
 uint32_t __wrap_ocb_idle(uint32_t *state, size_t words)
 {
+    check(board[me].busy, "an idle node says idle");
     uint32_t answer = __real_ocb_idle(state, words);
     calls++;
     if (answer == OCB_DONE) board[me].busy = false;
@@ -346,6 +390,7 @@ uint32_t __wrap_ocb_barrier(uint32_t *state, size_t words, uint8_t *buffer, size
 {
     struct node *node = &board[me];
     check(!node->waits || node->handed, "a node that waits is called again before an item was handed in");
+    check(!node->busy && !node->unread, "a barrier call while busy, or before a taken note was read");
     uint32_t answer = __real_ocb_barrier(state, words, buffer, count, details);
     calls++;
     node->waits = answer == OCB_WAITS;
@@ -362,7 +407,7 @@ uint32_t __wrap_ocb_barrier(uint32_t *state, size_t words, uint8_t *buffer, size
 
 /* ---- The nodes */
 
-/* The work that a node has when a cycle begins: what it kept, and some more. */
+/* The jobs that a node has when a cycle begins: what it kept, and some more. */
 static void begin_cycle(void)
 {
     struct node *node = &board[me];
@@ -371,8 +416,8 @@ static void begin_cycle(void)
         queue(item);
     }
     node->kept = NULL;
-    for (uint32_t i = below(3); i > 0; i--) queue(new_work(below(3), below(5)));
-    if (nodes == 5 && me == 0 && node->cycle == BURST_CYCLE) queue(new_work(BURST, 0));
+    for (uint32_t i = below(3); i > 0; i--) queue(new_job(below(5), below(5)));
+    if (nodes == 5 && me == 0 && node->cycle == BURST_CYCLE) queue(new_job(BURST, 0));
 }
 
 static void run_node(void)
@@ -427,8 +472,8 @@ int main(int count, char **words)
             release(item);
         }
     check(items == 0, "an item is left over");
-    check(resting > 0 && early > 0 && (nodes != 5 || sent_out > 0), "not everything was met");
-    printf("example: board of %u, room for %u on a link: %u cycles, %llu calls, %llu pieces of work, %llu sleeps,"
-           " %llu times no room\n", nodes, room, CYCLES, calls, pieces, sleeps, no_room);
+    check(resting > 0 && early > 0 && notes_idle > 0 && (nodes != 5 || sent_out > 0), "not everything was met");
+    printf("example: board of %u, room for %u on a link: %u cycles, %llu calls, %llu jobs, %llu notes (%llu while idle),"
+           " %llu sleeps, %llu times no room\n", nodes, room, CYCLES, calls, jobs, notes, notes_idle, sleeps, no_room);
     return 0;
 }

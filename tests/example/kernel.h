@@ -10,17 +10,25 @@
 
 enum { NO_ROOM = 100 };
 
-/* A piece of work: how many pieces it still sends, to whom the next one goes, and how long a chain may follow it. */
+enum kind { JOB, FRAME, NOTE };
+
+/*
+ * A job or a note: how many work messages it still sends, to whom the next one goes, and how long a chain may follow it.
+ * A note sends none.
+ */
 struct work {
+    enum kind kind;
     uint32_t sends, to, depth;
 };
 
 /*
- * An item on a link, or work in a node's queue; it is freed when nobody holds it. Of the simulation: when it arrives,
- * the cycle of its sender counted without end, and the items behind it on its link and in its queue.
+ * An item on a link, or a job in a node's queue; it is freed when nobody holds it. Of the simulation: whether the
+ * application has read it, when it arrives, the cycle of its sender counted without end, and the items behind it on its
+ * link and in its queue.
  */
 struct item {
-    bool is_work;
+    enum kind kind;
+    bool read;
     uint8_t phase, bytes[OCB_FRAME_BYTES];
     size_t count;
     struct work work;
@@ -39,6 +47,7 @@ void link_wait_room(const bool *held);
 bool work_left(void);
 bool work_run(void);
 void work_queue(struct item *item);
+void note_read(struct item *item);
 _Noreturn void fault(void);
 
 void start(uint32_t nodes, uint32_t me);

@@ -3,7 +3,7 @@
  * than OCB_LINK_FRAMES has, and on some link as many. A line is printed; status 1 where that does not hold.
  *
  * Of each board one link is shut, or all links to a node, or all links from one: an item there is handed in only where
- * nothing else can happen, or seldom. A node is woken where it takes work while it is idle.
+ * nothing else can happen, or seldom. Half of the work messages are jobs, half are notes.
  */
 #include "ocb.h"
 
@@ -18,10 +18,12 @@
 #define CYCLES 512
 #define BOARDS 5000
 #define TURNS 4000
-#define REACHED 3 /* so often, at least, nodes were woken somewhere where the most is reached */
+#define REACHED 3 /* so many jobs and notes, at least, were taken while idle somewhere where the most is reached */
 
-/* Work has no bytes. */
+enum kind { JOB, FRAME, NOTE };
+
 struct item {
+    enum kind kind;
     uint32_t count;
     uint8_t phase, bytes[OCB_FRAME_BYTES];
 };
@@ -31,7 +33,7 @@ struct link {
     uint32_t oldest, end, frames;
 };
 
-static uint32_t states[NODES][WORDS], cycles[NODES], woken[CYCLES + 1];
+static uint32_t states[NODES][WORDS], cycles[NODES], taken_idle[CYCLES + 1];
 static struct link links[NODES][NODES];
 static uint32_t nodes, most, most_reached;
 static uint64_t seed;
@@ -51,24 +53,33 @@ static void check(bool holds, const char *why)
     exit(1);
 }
 
-static void put(uint32_t from, uint32_t to, const uint8_t *bytes, uint32_t count)
+static struct item *put(uint32_t from, uint32_t to, enum kind kind)
 {
     struct link *link = &links[from][to];
     struct item *item = &link->items[link->end++ % ITEMS];
     check(link->end - link->oldest <= ITEMS, "more items on a link than this program has places for");
-    item->count = count;
+    item->kind = kind;
     item->phase = (uint8_t)states[from][OCB_AT_PHASE];
-    if (count > 0) memcpy(item->bytes, bytes, count);
+    return item;
 }
 
 static void put_frame(uint32_t from, uint32_t to, const uint8_t *bytes, uint32_t count)
 {
-    put(from, to, bytes, count);
+    struct item *item = put(from, to, FRAME);
+    memcpy(item->bytes, bytes, count);
+    item->count = count;
     uint32_t frames = ++links[from][to].frames, cycle = cycles[from];
-    uint32_t times = woken[cycle] + (cycle > 0 ? woken[cycle - 1] : 0);
+    uint32_t times = taken_idle[cycle] + (cycle > 0 ? taken_idle[cycle - 1] : 0);
     check(frames <= OCB_LINK_FRAMES(times), "more frames on a link than OCB_LINK_FRAMES has");
     if (frames > most) most = frames;
     if (frames == OCB_LINK_FRAMES(times) && times > most_reached) most_reached = times;
+}
+
+static uint32_t hand_in(uint32_t from, uint32_t to, const struct item *item)
+{
+    if (item->kind == JOB) return ocb_take(states[to], WORDS, from, item->phase);
+    if (item->kind == NOTE) return ocb_take_note(states[to], WORDS, from, item->phase);
+    return ocb_frame_in(states[to], WORDS, item->bytes, item->count);
 }
 
 /* Whether the oldest item of a link was handed in and is off it. */
@@ -78,13 +89,12 @@ static bool deliver(uint32_t from, uint32_t to)
     if (link->oldest == link->end) return false;
     const struct item *item = &link->items[link->oldest % ITEMS];
     bool idle = states[to][OCB_AT_BUSY] == 0;
-    uint32_t answer = item->count == 0 ? ocb_take(states[to], WORDS, from, item->phase)
-                                       : ocb_frame_in(states[to], WORDS, item->bytes, item->count);
+    uint32_t answer = hand_in(from, to, item);
     if (answer == OCB_EARLY) return false;
     check(answer == OCB_DONE || answer == OCB_DROPPED, "an item is refused");
     link->oldest++;
-    if (item->count > 0) link->frames--;
-    else woken[cycles[to]] += idle;
+    if (item->kind == FRAME) link->frames--;
+    else taken_idle[cycles[to]] += idle;
     return true;
 }
 
@@ -101,14 +111,14 @@ static bool step(uint32_t node)
     return answer != OCB_WAITS;
 }
 
-/* A busy node sends a piece of work, or goes idle; an idle one makes a barrier call. */
+/* A busy node sends a job or a note, or goes idle; an idle one makes a barrier call. */
 static bool act(uint32_t node, uint32_t sends)
 {
     if (!states[node][OCB_AT_BUSY]) return step(node);
     uint32_t to = (node + 1 + below(nodes - 1)) % nodes;
     if (below(100) < sends) {
         check(ocb_send(states[node], WORDS, to) == OCB_DONE, "a send is refused");
-        put(node, to, NULL, 0);
+        put(node, to, below(2) ? JOB : NOTE);
     } else {
         check(ocb_idle(states[node], WORDS) == OCB_DONE, "an idle call is refused");
     }
@@ -120,7 +130,7 @@ static void start(void)
     nodes = 2 + below(NODES - 1);
     memset(links, 0, sizeof links);
     memset(cycles, 0, sizeof cycles);
-    memset(woken, 0, sizeof woken);
+    memset(taken_idle, 0, sizeof taken_idle);
     for (uint32_t node = 0; node < nodes; node++)
         check(ocb_fresh(states[node], WORDS, nodes, node) == OCB_DONE, "a fresh state is refused");
 }
@@ -147,7 +157,7 @@ int main(void)
         play_board();
     }
     check(most_reached >= REACHED, "OCB_LINK_FRAMES is never reached");
-    printf("links: %u boards, up to %u frames on a link; with %u wakings a link has had all of OCB_LINK_FRAMES\n", BOARDS,
-           most, most_reached);
+    printf("links: %u boards, up to %u frames on a link; with %u jobs and notes taken while idle a link has had all of"
+           " OCB_LINK_FRAMES\n", BOARDS, most, most_reached);
     return 0;
 }

@@ -3,6 +3,7 @@ ghost use mathlib.Core.Path.{_≡_};
 ghost use mathlib.Core.Bool.{true};
 ghost use lib.ListN.{length, getD};
 ghost use Rattle.base.specs.Limits.{base};
+ghost use Rattle.base.specs.declared.Kind.the-variants.{Job, Note};
 ghost use Rattle.tree.specs.Lookups.{dimensionLookup, placeLookup, distanceLookup};
 ghost use Rattle.frame.specs.Frame.{readFrame};
 ghost use Rattle.field_words.specs.Words.{frameWords};
@@ -12,6 +13,7 @@ ghost use Rattle.node.specs.Calls.{send, take, idle, frameIn};
 ghost use Rattle.node_calls.specs.Fresh.{freshOn, freshWords};
 ghost use Rattle.answers.specs.Words.{lookupNumber, numberWords, placeWords, detailWords};
 ghost use Rattle.barrier_c.specs.Exports.{answerOn, wordsOn, barrierOn, barrierState, barrierBuffer, isClause};
+use base::Kind;
 
 // ---- Exported: the calls on a state
 
@@ -33,13 +35,22 @@ pub extern "C" fn ocb_send(state: &mut [u32], to: u32) -> u32
     answers::number_of(calls::send_to(base::of_build(), state, to))
 }
 
-// A message from a node, with its phase byte, is taken. Refuses 13, 2, 3, 7 or 8, 6.
+// A job from a node, with its phase byte, is taken. Refuses 13, 2, 3, 7 or 8, 6.
 #[no_mangle]
 pub extern "C" fn ocb_take(state: &mut [u32], from: u32, phase: u8) -> u32
-    ensures answer { λ r. ⌜ r ≡ answerOn base (λ n. take base n from phase) (now (state .entry)) ⌝ }
-    ensures memory { λ r. ⌜ now (state .exit) ≡ wordsOn base (λ n. take base n from phase) (now (state .entry)) ⌝ }
+    ensures answer { λ r. ⌜ r ≡ answerOn base (λ n. take base n Job from phase) (now (state .entry)) ⌝ }
+    ensures memory { λ r. ⌜ now (state .exit) ≡ wordsOn base (λ n. take base n Job from phase) (now (state .entry)) ⌝ }
 {
-    answers::number_of(calls::take_from(base::of_build(), state, from, phase))
+    answers::number_of(calls::take_from(base::of_build(), state, Kind::Job, from, phase))
+}
+
+// A note from a node, with its phase byte, is taken. Refuses 13, 2, 3, 7 or 8, 6.
+#[no_mangle]
+pub extern "C" fn ocb_take_note(state: &mut [u32], from: u32, phase: u8) -> u32
+    ensures answer { λ r. ⌜ r ≡ answerOn base (λ n. take base n Note from phase) (now (state .entry)) ⌝ }
+    ensures memory { λ r. ⌜ now (state .exit) ≡ wordsOn base (λ n. take base n Note from phase) (now (state .entry)) ⌝ }
+{
+    answers::number_of(calls::take_from(base::of_build(), state, Kind::Note, from, phase))
 }
 
 // The node has run out of work. Refuses 13.

@@ -1,4 +1,4 @@
-// The limits of a build as its calls are handed them.
+// What every crate shares: the limits of a build as its calls are handed them, and the kinds of work messages.
 ghost use mathlib.Core.Path.{_≡_};
 ghost use Rattle.base.specs.Limits.{base, limitsOf, fieldLimit, takenLimit};
 
@@ -8,6 +8,12 @@ pub struct Bounds {
     pub last: u8,
     // how many messages a node may send in a phase
     pub sends: u16,
+}
+
+// A work message is a job, which wakes an idle node that takes it, or a note, which does not.
+pub enum Kind {
+    Job,
+    Note,
 }
 
 // The limits of this build.

@@ -10,6 +10,7 @@ ghost use Rattle.node.specs.Calls.{send, take, idle, frameIn};
 ghost use Rattle.layout.specs.Held.{unpacked};
 ghost use Rattle.calls.specs.OnWords.{answerOn, wordsOn, barrierOn, barrierState, barrierBuffer};
 use base::Bounds;
+use base::Kind;
 use node::Answer;
 use node::BarrierAnswer;
 
@@ -26,15 +27,15 @@ pub fn send_to(b: Bounds, state: &mut [u32], to: u32) -> Answer
     node_calls::send_to(b, state, &mut sums, to)
 }
 
-// A message from a node, with its phase byte, is taken. Refuses 13, 2, 3, 7 or 8, 6.
-pub fn take_from(b: Bounds, state: &mut [u32], from: u32, phase: u8) -> Answer
+// A job or a note from a node, with its phase byte, is taken. Refuses 13, 2, 3, 7 or 8, 6.
+pub fn take_from(b: Bounds, state: &mut [u32], kind: Kind, from: u32, phase: u8) -> Answer
     ensures answer { λ r.
-        ⌜ outcomeOf r ≡ answerOn (limitsOf b) (λ n. take (limitsOf b) n from phase) (now (state .entry)) ⌝ }
+        ⌜ outcomeOf r ≡ answerOn (limitsOf b) (λ n. take (limitsOf b) n kind from phase) (now (state .entry)) ⌝ }
     ensures memory { λ r.
-        ⌜ now (state .exit) ≡ wordsOn (limitsOf b) (λ n. take (limitsOf b) n from phase) (now (state .entry)) ⌝ }
+        ⌜ now (state .exit) ≡ wordsOn (limitsOf b) (λ n. take (limitsOf b) n kind from phase) (now (state .entry)) ⌝ }
 {
     let mut sums = [0u32; SUMS];
-    node_calls::take_from(b, state, &mut sums, from, phase)
+    node_calls::take_from(b, state, &mut sums, kind, from, phase)
 }
 
 // The node has run out of work. Refuses 13.

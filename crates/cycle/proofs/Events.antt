@@ -1,7 +1,7 @@
 -- What an event does to the ledger is a step of it, kind by kind: what the proof about boards cites.
 use mathlib.Core.Path.{_≡_, refl, sym, ap, _∙_, subst}
 use mathlib.Core.Logic.{_⊎_}
-use mathlib.Core.Bool.{true, false}
+use mathlib.Core.Bool.{Bool, true, false}
 use mathlib.Core.Option.{some}
 use mathlib.Core.List.{List, [], _∷_, _++_}
 use Prim.Native.Nat.{ℕ, suc, _+_, _≤_, _<_}
@@ -186,18 +186,18 @@ module _ {P p : ℕ} {tree : Tree P p} {limit : ℕ} {b : Ledger} (r : Reached t
         (λ z. q (sym z)) ∙ ap (ofPhase k) (sym e))
         (update-all (λ y u. u ≡ b .pages n .nodes y) (b .pages n .nodes) c (b .pages n .nodes c) refl (λ y q. refl))
 
-    pub act-take : (j : ℕ) → b .items ≡ xs ++ record { phase = n; item = record { from = a; to = c; load = message } }
+    pub act-take : (j : ℕ) (busy : Bool) → b .items ≡ xs ++ record { phase = n; item = record { from = a; to = c; load = message } }
         ∷ ys → n ≡ b .phase c → a < P → c < P → j < p → Shell tree c a j
         → Step tree limit b (ledgerWith b (b .phase c)
         (pageTaken (b .pages (b .phase c)) a c
-        (atStep (withTallies (stateOf b c) true (bumpTaken (stateOf b c .tallies) j)) 0 true 0)) (xs ++ ys))
-    act-take j e ph ha hc jp s =
+        (atStep (withTallies (stateOf b c) busy (bumpTaken (stateOf b c .tallies) j)) 0 true 0)) (xs ++ ys))
+    act-take j busy e ph ha hc jp s =
         Step.acts c _ (xs ++ ys) hc
         (subst (λ is. Turn tree limit (phaseOf b m)
         (boardOf (pageTaken (b .pages m) a c
-        (atStep (withTallies (stateOf b c) true (bumpTaken (stateOf b c .tallies) j)) 0 true 0)) is))
+        (atStep (withTallies (stateOf b c) busy (bumpTaken (stateOf b c .tallies) j)) 0 true 0)) is))
         (sym (phase-append m xs ys))
-        (Turn.takes (ofPhase m xs) (ofPhase m ys) a c j ha hc jp s (ap (ofPhase m) e ∙ phase-mid m xs ys _ ph) (now c)))
+        (Turn.takes (ofPhase m xs) (ofPhase m ys) a c j busy ha hc jp s (ap (ofPhase m) e ∙ phase-mid m xs ys _ ph) (now c)))
         (λ k q. phase-mid-else k xs ys (record { phase = n; item = record { from = a; to = c; load = message } })
         (λ z. q (sym z ∙ ph)) ∙ ap (ofPhase k) (sym e)) (λ y q. update-other (b .pages m .nodes) c _ y q)
         (there c _ m (omega arith))

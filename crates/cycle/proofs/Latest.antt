@@ -121,15 +121,15 @@ module _ {P p : ℕ} (tree : Tree P p) where
       v : State
       v = withTallies (b .nodes a) false (b .nodes a .tallies)
 
-  go-takes : (b : PhaseBoard) → Latest b → (xs ys : List Parcel) (a c : ℕ) (t : Entries)
+  go-takes : (b : PhaseBoard) → Latest b → (xs ys : List Parcel) (a c : ℕ) (busy : Bool) (t : Entries)
       → b .items ≡ xs ++ record { from = a; to = c; load = message } ∷ ys
-      → b .nodes c .step < p + p → Latest (placed b c (atStep (withTallies (b .nodes c) true t) 0 true 0) (xs ++ ys))
-  go-takes b j xs ys a c t e l =
+      → b .nodes c .step < p + p → Latest (placed b c (atStep (withTallies (b .nodes c) busy t) 0 true 0) (xs ++ ys))
+  go-takes b j xs ys a c busy t e l =
       latest-keep b j c v (xs ++ ys) (λ w d s h q. receives-same b c v (xs ++ ys) (λ s. refl) (λ u. l) tell w d s)
       (λ d s h q sd. absurd (none-stands v s refl refl sd))
     where
       v : State
-      v = atStep (withTallies (b .nodes c) true t) 0 true 0
+      v = atStep (withTallies (b .nodes c) busy t) 0 true 0
 
       tell : (w d s : ℕ) (o : Option Entries) → latest s w d (xs ++ ys) o ≡ latest s w d (b .items) o
       tell w d s o =
@@ -336,8 +336,8 @@ module _ {P p : ℕ} (tree : Tree P p) where
   latest-keeps limit b b′ (Turn.sends a c j h hc l sl bu lm) z i q =
       go-sends b (i q) z a c (bumpSent (b .nodes a .tallies) j) bu
   latest-keeps limit b b′ (Turn.rests a h) z i q = go-rests b (i q) a
-  latest-keeps limit b b′ (Turn.takes xs ys a c j ha h l sl e u) z i q =
-      go-takes b (i q) xs ys a c (bumpTaken (b .nodes c .tallies) j) e u
+  latest-keeps limit b b′ (Turn.takes xs ys a c j busy ha h l sl e u) z i q =
+      go-takes b (i q) xs ys a c busy (bumpTaken (b .nodes c .tallies) j) e u
   latest-keeps limit b b′ (Turn.stores xs ys a c s x h sp e f l aw m) z i q = go-stores b (i q) xs ys a c s x e f l aw m
   latest-keeps limit b b′ (Turn.falls xs ys a c s x T h sp e f l aw m t) z i q =
       go-falls b (i q) xs ys a c s x T e f l aw m t

@@ -170,10 +170,11 @@ module _ {P p : ℕ} (tree : Tree P p) where
         (b .items ++ posts a message (c ∷ [])) (snoc (b .senders) a) (oneMore (b .sentBetween) a c) (b .takenBetween))
     rests : (a : ℕ) → a < P → Turn limit b
         (placed b a (withTallies (b .nodes a) false (b .nodes a .tallies)) (b .items))
-    takes : (xs ys : List Parcel) (a c j : ℕ) → a < P → c < P → j < p → Shell c a j
+    -- c is busy after it, or not
+    takes : (xs ys : List Parcel) (a c j : ℕ) (busy : Bool) → a < P → c < P → j < p → Shell c a j
         → b .items ≡ xs ++ record { from = a; to = c; load = message } ∷ ys → b .nodes c .step < p + p
         → Turn limit b (changed b c (atStep
-        (withTallies (b .nodes c) true (bumpTaken (b .nodes c .tallies) j)) 0 true 0) (xs ++ ys) (b .senders)
+        (withTallies (b .nodes c) busy (bumpTaken (b .nodes c .tallies) j)) 0 true 0) (xs ++ ys) (b .senders)
         (b .sentBetween) (oneMore (b .takenBetween) a c))
     stores : (xs ys : List Parcel) (a c s : ℕ) (x : Entries) → c < P → s < p + p
         → b .items ≡ xs ++ record { from = a; to = c; load = report s x } ∷ ys → First xs a c

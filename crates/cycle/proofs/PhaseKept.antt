@@ -117,7 +117,7 @@ module _ {P p : ℕ} (tree : Tree P p) (limit : ℕ) where
           → (b′ .lossy ≡ false → Latest tree b′) → PhaseInvariant tree limit b′
       by b b′ (Turn.sends a c j h hc l sl bu lm) i la = send-keep tree limit b i a c j h hc l sl bu lm la
       by b b′ (Turn.rests a h) i la = rests-keep tree limit b i a h la
-      by b b′ (Turn.takes xs ys a c j ha h l sl e u) i la = take-keep tree limit b i xs ys a c j h l sl e u la
+      by b b′ (Turn.takes xs ys a c j t ha h l sl e u) i la = take-keep tree limit b i xs ys a c j t h l sl e u la
       by b b′ (Turn.stores xs ys a c s x h sp e f l aw m) i la =
           stores-keep tree limit b i xs ys a c s x (b .nodes c .step) (b .nodes c .flag)
           (b .nodes c .agreed) h sp e l aw m

@@ -1,7 +1,7 @@
 -- A send and a take keep the invariant of a phase.
 use mathlib.Core.Path.{_≡_, refl, sym, _∙_}
 use mathlib.Core.Logic.{_⊎_, inl, inr}
-use mathlib.Core.Bool.{true, false}
+use mathlib.Core.Bool.{Bool, true, false}
 use mathlib.Core.List.{List, [], _∷_, _++_}
 use Prim.Native.Nat.{ℕ, suc, _+_, _≤_, _<_, zero-le}
 use native.Mathlib.Decide.{decLt, ℕ-discrete}
@@ -180,15 +180,15 @@ module _ {P p : ℕ} (tree : Tree P p) (limit : ℕ) where
       at y (yes d) = refl
       at y (no d) = refl
 
-  pub take-keep : (b : PhaseBoard) → PhaseInvariant tree limit b → (xs ys : List Parcel) (a c j : ℕ) → c < P → j < p
+  pub take-keep : (b : PhaseBoard) → PhaseInvariant tree limit b → (xs ys : List Parcel) (a c j : ℕ) (busy : Bool) → c < P → j < p
       → Shell tree c a j → b .items ≡ xs ++ record { from = a; to = c; load = message } ∷ ys → b .nodes c .step < p + p
       → (b .lossy ≡ false → Latest tree
-      (changed b c (atStep (withTallies (b .nodes c) true (bumpTaken (b .nodes c .tallies) j)) 0 true 0) (xs ++ ys)
+      (changed b c (atStep (withTallies (b .nodes c) busy (bumpTaken (b .nodes c .tallies) j)) 0 true 0) (xs ++ ys)
       (b .senders) (b .sentBetween) (oneMore (b .takenBetween) a c)))
       → PhaseInvariant tree limit (changed b c
-      (atStep (withTallies (b .nodes c) true (bumpTaken (b .nodes c .tallies) j)) 0 true 0) (xs ++ ys) (b .senders)
+      (atStep (withTallies (b .nodes c) busy (bumpTaken (b .nodes c .tallies) j)) 0 true 0) (xs ++ ys) (b .senders)
       (b .sentBetween) (oneMore (b .takenBetween) a c))
-  take-keep b i xs ys a c j h jp sl e u la =
+  take-keep b i xs ys a c j busy h jp sl e u la =
       phase-keep tree limit b i c v (xs ++ ys) (b .senders) (b .sentBetween) (oneMore (b .takenBetween) a c) (
       record {
         here = h;
@@ -243,7 +243,7 @@ module _ {P p : ℕ} (tree : Tree P p) (limit : ℕ) where
       t = record { from = a; to = c; load = message }
 
       v : State
-      v = atStep (withTallies (b .nodes c) true (bumpTaken (b .nodes c .tallies) j)) 0 true 0
+      v = atStep (withTallies (b .nodes c) busy (bumpTaken (b .nodes c .tallies) j)) 0 true 0
 
       b′ : PhaseBoard
       b′ = changed b c v (xs ++ ys) (b .senders) (b .sentBetween) (oneMore (b .takenBetween) a c)

@@ -5,7 +5,14 @@ use Prim.Native.Nat.{ℕ, zero, suc, _+_, _-_, min}
 use lib.Dec.{eqb, leb}
 use lib.ListN.{length, getD, set}
 use Rattle.base.specs.Choice.{choose, both}
+use Rattle.base.specs.declared.Kind.the-variants.{Job, Note}
+use Rattle.base.specs.declared.Kind.{Kind}
 use Rattle.items.specs.declared.Item.{Item}
+
+-- the number by which a header tells that its item is a job or a note; a frame has 1
+abbrev pub mark : Kind → ℕ
+mark Job = 0
+mark Note = 2
 
 abbrev pub noItem : Item
 noItem = record { from = 0; to = 0; kind = 0; phase = 0 }

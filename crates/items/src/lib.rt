@@ -5,16 +5,27 @@ ghost use Prim.Native.Nat.{_-_, min};
 ghost use lib.Dec.{leb};
 ghost use lib.ListN.{getD, set};
 ghost use Rattle.base.specs.Choice.{choose};
-ghost use Rattle.items.specs.Places.{noItem, onLink, oldestWithin, removedWithin};
+ghost use Rattle.items.specs.Places.{mark, noItem, onLink, oldestWithin, removedWithin};
+use base::Kind;
 
 // The header of an item under way.
 pub struct Item {
     pub from: u8,
     pub to: u8,
-    // 0 a work message, 1 a frame
+    // 0 a job, 1 a frame, 2 a note
     pub kind: u8,
     // the sender's phase byte
     pub phase: u8,
+}
+
+// The number by which a header tells that its item is a job or a note.
+pub fn mark_of(kind: Kind) -> u8
+    ensures { λ r. ⌜ r ≡ mark kind ⌝ }
+{
+    match kind {
+        Kind::Job => 0,
+        Kind::Note => 2,
+    }
 }
 
 // The header at a place; all zeros where there is no such place.

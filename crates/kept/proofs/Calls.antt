@@ -6,6 +6,7 @@ use mathlib.Core.List.{List}
 use Prim.Native.Nat.{ℕ, suc, _+_, _%_, _<_}
 use native.Mathlib.Omega.{arith}
 use Rattle.base.specs.Limits.{Limits, Fits, width}
+use Rattle.base.specs.declared.Kind.{Kind}
 use Rattle.tree.specs.Tree.{distance}
 use Rattle.tree.proofs.Distances.{distance-below}
 use Rattle.node.specs.Sums.{dims, allTaken, own}
@@ -22,7 +23,7 @@ use Rattle.layout.proofs.Whole.{whole, few}
 use Rattle.layout.proofs.Becomes.{Becomes, becomes-same}
 use Rattle.layout.proofs.Writes.{put-busy, put-flag, put-position}
 use Rattle.layout.proofs.Fresh.{put-fresh}
-use Rattle.node_take.proofs.Counted.{put-one-sent, put-woken}
+use Rattle.node_take.proofs.Counted.{put-one-sent, put-taken-one}
 use Rattle.node_frames.proofs.Storing.{put-read}
 use Rattle.kept.proofs.Holds.{Holds, becomes-holds}
 
@@ -55,13 +56,13 @@ module _ (L : Limits) (fit : Fits L) (ws : List ℕ) (e : isWhole L ws ≡ true)
   pub send-holds : (b : ℕ) → Holds L ws (send L n b .node)
   send-holds b = after-send b (send-way L n b)
 
-  after-take : (a phase : ℕ) {r : Given Outcome} → TakeWay L n a phase r → Holds L ws (r .node)
-  after-take a phase (TakeWay.refused x s) = same
-  after-take a phase (TakeWay.done ok h z d r) =
-      let l = shell-low a ok h z in holds (put-woken L ws e _ (l .0) (l .1))
+  after-take : (kind : Kind) (a phase : ℕ) {r : Given Outcome} → TakeWay L n kind a phase r → Holds L ws (r .node)
+  after-take kind a phase (TakeWay.refused x s) = same
+  after-take kind a phase (TakeWay.done ok h z d r) =
+      let l = shell-low a ok h z in holds (put-taken-one L ws e _ (l .0) (l .1) kind)
 
-  pub take-holds : (a phase : ℕ) → Holds L ws (take L n a phase .node)
-  take-holds a phase = after-take a phase (take-way L n a phase)
+  pub take-holds : (kind : Kind) (a phase : ℕ) → Holds L ws (take L n kind a phase .node)
+  take-holds kind a phase = after-take kind a phase (take-way L n kind a phase)
 
   after-idle : {r : Given Outcome} → IdleWay L n r → Holds L ws (r .node)
   after-idle (IdleWay.refused x s) = same

@@ -13,7 +13,7 @@ use Rattle.lines.specs.Told.{taken, stops, endsOf}
 
 pub stopping : (l : Line) → OneOf (0 ∷ 5 ∷ []) (tagOf LineT.the-type l) → stops l ≡ true
 stopping (Nodes P) h = refl
-stopping (Sends a b) h = absurd (miss (0 ∷ 5 ∷ []) 1 tt h)
+stopping (Sends kind a b) h = absurd (miss (0 ∷ 5 ∷ []) 1 tt h)
 stopping (Delivers a b) h = absurd (miss (0 ∷ 5 ∷ []) 2 tt h)
 stopping (Idles a) h = absurd (miss (0 ∷ 5 ∷ []) 3 tt h)
 stopping (Calls a) h = absurd (miss (0 ∷ 5 ∷ []) 4 tt h)
@@ -21,7 +21,7 @@ stopping Bad h = refl
 
 pub going : (l : Line) → OneOf (1 ∷ 2 ∷ 3 ∷ 4 ∷ []) (tagOf LineT.the-type l) → stops l ≡ false
 going (Nodes P) h = absurd (miss (1 ∷ 2 ∷ 3 ∷ 4 ∷ []) 0 tt h)
-going (Sends a b) h = refl
+going (Sends kind a b) h = refl
 going (Delivers a b) h = refl
 going (Idles a) h = refl
 going (Calls a) h = refl
@@ -29,7 +29,7 @@ going Bad h = absurd (miss (1 ∷ 2 ∷ 3 ∷ 4 ∷ []) 5 tt h)
 
 pub taken-stop : (l : Line) (size : ℕ) → stops l ≡ true → taken size l ≡ Bad
 taken-stop (Nodes P) size h = refl
-taken-stop (Sends a b) size h = clash (sym h)
+taken-stop (Sends kind a b) size h = clash (sym h)
 taken-stop (Delivers a b) size h = clash (sym h)
 taken-stop (Idles a) size h = clash (sym h)
 taken-stop (Calls a) size h = clash (sym h)
@@ -38,7 +38,7 @@ taken-stop Bad size h = refl
 pub no-link : (l : Line) → OneOf (0 ∷ 1 ∷ 3 ∷ 4 ∷ 5 ∷ []) (tagOf LineT.the-type l)
     → endsOf l ≡ record { from = 0; to = 0 }
 no-link (Nodes P) h = refl
-no-link (Sends a b) h = refl
+no-link (Sends kind a b) h = refl
 no-link (Delivers a b) h = absurd (miss (0 ∷ 1 ∷ 3 ∷ 4 ∷ 5 ∷ []) 2 tt h)
 no-link (Idles a) h = refl
 no-link (Calls a) h = refl

@@ -14,7 +14,7 @@ use Rattle.lines.specs.declared.Ends.{Ends}
 -- the line as a board of so many nodes takes it
 abbrev pub taken : ℕ → Line → Line
 taken size (Nodes P) = Bad
-taken size (Sends a b) = choose (both (ltb a size) (ltb b size)) (Sends a b) Bad
+taken size (Sends kind a b) = choose (both (ltb a size) (ltb b size)) (Sends kind a b) Bad
 taken size (Delivers a b) = choose (both (ltb a size) (ltb b size)) (Delivers a b) Bad
 taken size (Idles a) = choose (ltb a size) (Idles a) Bad
 taken size (Calls a) = choose (ltb a size) (Calls a) Bad
@@ -22,7 +22,7 @@ taken size Bad = Bad
 
 abbrev pub stops : Line → Bool
 stops (Nodes P) = true
-stops (Sends a b) = false
+stops (Sends kind a b) = false
 stops (Delivers a b) = false
 stops (Idles a) = false
 stops (Calls a) = false
@@ -38,7 +38,7 @@ toldAt script at size =
 -- the ends of the link that it delivers on, as bytes
 abbrev pub endsOf : Line → Ends
 endsOf (Nodes P) = record { from = 0; to = 0 }
-endsOf (Sends a b) = record { from = 0; to = 0 }
+endsOf (Sends kind a b) = record { from = 0; to = 0 }
 endsOf (Delivers a b) = record { from = a % 256; to = b % 256 }
 endsOf (Idles a) = record { from = 0; to = 0 }
 endsOf (Calls a) = record { from = 0; to = 0 }

@@ -31,9 +31,9 @@ fn taken_by(line: Line, size: u32) -> Line
     ensures { λ r. ⌜ r ≡ taken size line ⌝ }
 {
     match line {
-        Line::Sends(a, b) => {
+        Line::Sends(kind, a, b) => {
             if both_below(a, b, size) {
-                return Line::Sends(a, b);
+                return Line::Sends(kind, a, b);
             }
             Line::Bad
         }

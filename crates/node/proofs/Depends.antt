@@ -13,6 +13,7 @@ use lib.Seq.{getD-set-same, getD-set-other, set-out}
 use borrow.Author.Tests.{ltb-true, ltb-false, eq-eqb, ne-eqb}
 use Rattle.base.specs.Choice.{choose, list}
 use Rattle.base.specs.Limits.{Limits, width}
+use Rattle.base.specs.declared.Kind.{Kind}
 use Rattle.base.proofs.Laws.{choose-yes, choose-no, cases}
 use Rattle.tree.specs.Tree.{dimension, awaited}
 use Rattle.frame.specs.Frame.{sentNumber, takenNumber, sentAt, takenAt, hasShell}
@@ -23,7 +24,7 @@ use Rattle.node.specs.Sums.{dims, firstAt, secondAt, Field, sentIn, take
 use Rattle.node.specs.Sums.{tally, number, own, ownIssued}
 use Rattle.node.specs.Agree.{isNone, firstClauses, secondClauses, allHold, agrees}
 use Rattle.node.specs.Change.{withBusy, at, withFirst, withSecond}
-use Rattle.node.specs.Calls.{oneSent, woken, stepNumber, firstOf, secondOf, stored, gotten}
+use Rattle.node.specs.Calls.{oneSent, counted, stepNumber, firstOf, secondOf, stored, gotten}
 use Rattle.node.specs.Barrier.{frameDue}
 use Rattle.node.specs.declared.Stored.{Stored}
 use Rattle.node.specs.declared.Confirm.{Confirm}
@@ -228,17 +229,17 @@ module _ (n : Node) (m : ℕ) where
   sent-up allTaken = omega arith
 
 -- one message more taken from shell m
-module _ (n : Node) (m : ℕ) where
+module _ (n : Node) (kind : Kind) (m : ℕ) where
   abbrev takes : Taken → ℕ
   takes x = x .0
 
   abbrev takenOne : Taken
   takenOne = takenNumber (tally n (takenIn m) + 1)
 
-  pub taken-else : (j : ℕ) → j ≢ m → tally (woken n m) (takenIn j) ≡ tally n (takenIn j)
+  pub taken-else : (j : ℕ) → j ≢ m → tally (counted n kind m) (takenIn j) ≡ tally n (takenIn j)
   taken-else j h = count-else takes (n .taken) m takenOne (takenNumber 0) refl j h
 
-  pub taken-up : Up (tally n) (tally (woken n m))
+  pub taken-up : Up (tally n) (tally (counted n kind m))
   taken-up (sentIn j) = omega arith
   taken-up (takenIn j) = count-up takes (n .taken) m takenOne (takenNumber 0) refl j
   taken-up allSent = omega arith

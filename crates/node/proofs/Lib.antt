@@ -8,4 +8,5 @@ pub mod Moving
 pub mod Storing
 pub mod ValidOut
 pub mod Passes
+pub mod Taken
 pub mod Sizes

@@ -7,6 +7,7 @@ use native.Mathlib.Decide.{ℕ-discrete}
 use native.Mathlib.Omega.{arith}
 use borrow.Author.Tests.{eq-eqb}
 use Rattle.base.specs.Limits.{Limits, fieldLimit, takenLimit, width}
+use Rattle.base.specs.declared.Kind.{Kind}
 use Rattle.base.proofs.Laws.{clash, list-at, list-one}
 use Rattle.tree.specs.Tree.{dimension}
 use Rattle.tree.specs.Lookups.{badBoard}
@@ -18,7 +19,7 @@ use Rattle.node.specs.Sums.{tally, number as numberIn, own}
 use Rattle.node.specs.Agree.{agrees}
 use Rattle.node.specs.State.{firstOk, secondOk}
 use Rattle.node.specs.Change.{withBusy, at, freshIn, noFirst, noSecond}
-use Rattle.node.specs.Calls.{oneSent, woken, stepNumber, idle}
+use Rattle.node.specs.Calls.{oneSent, counted, stepNumber, idle}
 use Rattle.node.specs.declared.Node.{Node}
 use Rattle.node.proofs.Totals.{total-zero}
 use Rattle.node.proofs.Valid.{Valid, stepOf, step-first, step-second, Room}
@@ -110,9 +111,9 @@ module _ (L : Limits) (n : Node) (v : Valid L n) where
         busy = v .busy;
       }
 
-  pub taken-facts : (m : ℕ) → m < dims n → tally n allTaken < takenLimit L → Valid L (woken n m)
+  pub taken-facts : (kind : Kind) (m : ℕ) → m < dims n → tally n allTaken < takenLimit L → Valid L (counted n kind m)
   unfolding firstOk secondOk
-  taken-facts m low room =
+  taken-facts kind m low room =
       record {
         board = v .board;
         number = v .number;
@@ -120,8 +121,8 @@ module _ (L : Limits) (n : Node) (v : Valid L n) where
         dim = λ h. h;
         lone = λ e. (refl, refl);
         sent = v .sent;
-        taken = omega (arith, taken-up n m allTaken);
-        others = λ j l r. (v .others j l r .0, taken-else n m j (λ e. omega arith) ∙ v .others j l r .1);
+        taken = omega (arith, taken-up n kind m allTaken);
+        others = λ j l r. (v .others j l r .0, taken-else n kind m j (λ e. omega arith) ∙ v .others j l r .1);
         agreed = omega arith;
         agreed-first = λ e. refl;
         agreed-second = λ e. absurd (omega arith);

@@ -9,6 +9,7 @@ use Prim.Native.Nat.{ℕ, zero, suc, _+_, _%_, _^_, _≤_, _<_}
 use native.Mathlib.Decide.{ℕ-discrete}
 use native.Mathlib.Omega.{arith}
 use Rattle.base.specs.Limits.{Limits, width}
+use Rattle.base.specs.declared.Kind.{Kind}
 use Rattle.base.proofs.Laws.{clash, choose-yes}
 use Rattle.tree.specs.Tree.{dimension, runOf, awaited}
 use Rattle.tree.specs.declared.Run.{Run}
@@ -118,12 +119,12 @@ module _ (L : Limits) (n : Node) where
       go (SendWay.refused x s) = same
       go (SendWay.done o h z w r) = λ f. sent-up n _ f .0
 
-  pub take-keeps : (a phase : ℕ) → NoLess n (take L n a phase .node)
-  take-keeps a phase = go (take-way L n a phase)
+  pub take-keeps : (kind : Kind) (a phase : ℕ) → NoLess n (take L n kind a phase .node)
+  take-keeps kind a phase = go (take-way L n kind a phase)
     where
-      go : {r : Given Outcome} → TakeWay L n a phase r → NoLess n (r .node)
+      go : {r : Given Outcome} → TakeWay L n kind a phase r → NoLess n (r .node)
       go (TakeWay.refused x s) = same
-      go (TakeWay.done o h z d r) = λ f. taken-up n _ f .0
+      go (TakeWay.done o h z d r) = λ f. taken-up n kind _ f .0
 
   pub idle-keeps : NoLess n (idle L n .node)
   idle-keeps = go (idle-way L n)
@@ -180,10 +181,11 @@ module _ (L : Limits) (n : Node) where
       go (SendWay.refused x s) h = refl
       go (SendWay.done o l z w r) h = clash (sym h)
 
-  pub take-back : (a phase x : ℕ) → take L n a phase .answer ≡ refused x → take L n a phase .node ≡ n
-  take-back a phase x h = go (take-way L n a phase) (ap isRefused h)
+  pub take-back : (kind : Kind) (a phase x : ℕ) → take L n kind a phase .answer ≡ refused x
+      → take L n kind a phase .node ≡ n
+  take-back kind a phase x h = go (take-way L n kind a phase) (ap isRefused h)
     where
-      go : {r : Given Outcome} → TakeWay L n a phase r → isRefused (r .answer) ≡ true → r .node ≡ n
+      go : {r : Given Outcome} → TakeWay L n kind a phase r → isRefused (r .answer) ≡ true → r .node ≡ n
       go (TakeWay.refused x s) h = refl
       go (TakeWay.done o l z d r) h = clash (sym h)
 

@@ -5,6 +5,7 @@ use mathlib.Core.List.{List}
 use Prim.Native.Nat.{ℕ, _+_, _%_, _^_, _≤_, _<_}
 use native.Mathlib.Omega.{arith}
 use Rattle.base.specs.Limits.{Limits, width}
+use Rattle.base.specs.declared.Kind.{Kind}
 use Rattle.tree.specs.Lookups.{badBoard}
 use Rattle.tree.proofs.Distances.{distance-below}
 use Rattle.node.specs.Agree.{isNone}
@@ -48,13 +49,13 @@ module _ (L : Limits) (n : Node) (ok : valid L n ≡ true) where
   pub send-valid : (b : ℕ) → valid L (send L n b .node) ≡ true
   send-valid b = valid-good L _ (send-kept b (send-way L n b))
 
-  take-kept : (a phase : ℕ) {r : Given Outcome} → TakeWay L n a phase r → Valid L (r .node)
-  take-kept a phase (TakeWay.refused x s) = v
-  take-kept a phase (TakeWay.done o h z d r) =
-      taken-facts L n v _ (distance-below (n .nodes) (n .number) a (v .number) (λ q. z (sym q)) h) r
+  take-kept : (kind : Kind) (a phase : ℕ) {r : Given Outcome} → TakeWay L n kind a phase r → Valid L (r .node)
+  take-kept kind a phase (TakeWay.refused x s) = v
+  take-kept kind a phase (TakeWay.done o h z d r) =
+      taken-facts L n v kind _ (distance-below (n .nodes) (n .number) a (v .number) (λ q. z (sym q)) h) r
 
-  pub take-valid : (a phase : ℕ) → valid L (take L n a phase .node) ≡ true
-  take-valid a phase = valid-good L _ (take-kept a phase (take-way L n a phase))
+  pub take-valid : (kind : Kind) (a phase : ℕ) → valid L (take L n kind a phase .node) ≡ true
+  take-valid kind a phase = valid-good L _ (take-kept kind a phase (take-way L n kind a phase))
 
   idle-kept : {r : Given Outcome} → IdleWay L n r → Valid L (r .node)
   idle-kept (IdleWay.refused x s) = v

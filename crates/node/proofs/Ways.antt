@@ -13,6 +13,7 @@ use borrow.Author.Tests.{le-ltb, lt-leb, eq-eqb, ne-eqb}
 use Rattle.base.specs.Choice.{choose, both}
 use Rattle.base.specs.Limits.{Limits, takenLimit}
 use Rattle.base.specs.Refusal.{Refusal, refused as unread, found, Check, when}
+use Rattle.base.specs.declared.Kind.{Kind}
 use Rattle.base.proofs.Laws.{clash, choose-yes, choose-no, cases}
 use Rattle.base.proofs.Laws.{Passes, Stops, order-passes, order-stops, order-cases, checks-known}
 use Rattle.tree.specs.Tree.{awaited, distance}
@@ -29,7 +30,7 @@ use Rattle.node.specs.State.{valid}
 use Rattle.node.specs.Change.{withBusy, at, freshIn, noNode}
 use Rattle.node.specs.Answers.{Given, give, Outcome, Barrier}
 use Rattle.node.specs.Answers.{dropped, moved, barred}
-use Rattle.node.specs.Calls.{refusal, badState, fresh, oneSent, send, woken, isEarly, isForeignWork, take, idle}
+use Rattle.node.specs.Calls.{refusal, badState, fresh, oneSent, send, counted, isEarly, isForeignWork, take, idle}
 use Rattle.node.specs.Calls.{gotten, isAwaited, byTiming, frameIn}
 use Rattle.node.specs.Barrier.{lengthDue, receiversDue, isEmpty, isDue}
 use Rattle.node.specs.Barrier.{sending, leaving, waiting, looking, barrier}
@@ -151,11 +152,11 @@ module _ (L : Limits) (n : Node) where
       ∷ when (leb (takenLimit L) (tally n allTaken)) Refusal.takenFull
       ∷ []
 
-  pub data TakeWay (a phase : ℕ) : Given Outcome → Type 0 where
-    refused : (x : ℕ) → Stops (takeChecks a phase) x → TakeWay a phase (refusal n x)
+  pub data TakeWay (kind : Kind) (a phase : ℕ) : Given Outcome → Type 0 where
+    refused : (x : ℕ) → Stops (takeChecks a phase) x → TakeWay kind a phase (refusal n x)
     done : valid L n ≡ true → a < n .nodes → a ≢ n .number → difference phase (n .phase) ≡ 0
         → tally n allTaken < takenLimit L
-        → TakeWay a phase (give (woken n (distance (n .nodes) (n .number) a)) Outcome.done)
+        → TakeWay kind a phase (give (counted n kind (distance (n .nodes) (n .number) a)) Outcome.done)
 
   -- work that is neither early nor foreign is of now
   now-work : {a b : ℕ} {t : Timing} → Differs a b t → isEarly t ≡ false → isForeignWork t ≡ false → difference a b ≡ 0
@@ -164,17 +165,18 @@ module _ (L : Limits) (n : Node) where
   now-work (late d) e f = clash f
   now-work (foreign d u v) e f = clash f
 
-  pub take-way : (a phase : ℕ) → TakeWay a phase (take L n a phase)
+  pub take-way : (kind : Kind) (a phase : ℕ) → TakeWay kind a phase (take L n kind a phase)
   unfolding take
-  take-way a phase =
-      order-cases (refusal n) (TakeWay a phase) (takeChecks a phase) _ (λ x s. refused x s)
+  take-way kind a phase =
+      order-cases (refusal n) (TakeWay kind a phase) (takeChecks a phase) _ (λ x s. refused x s)
       (λ c.
       done (not-false _ (c .0)) (leb-false _ _ (c .1 .0)) (eqb-false _ _ (c .1 .1 .0))
       (now-work (timing-is phase (n .phase)) (c .1 .1 .1 .0) (c .1 .1 .1 .1 .0)) (leb-false _ _ (c .1 .1 .1 .1 .1 .0)))
 
-  pub take-refuses : (a phase : ℕ) {x : ℕ} → Stops (takeChecks a phase) x → take L n a phase ≡ refusal n x
+  pub take-refuses : (kind : Kind) (a phase : ℕ) {x : ℕ} → Stops (takeChecks a phase) x
+      → take L n kind a phase ≡ refusal n x
   unfolding take
-  take-refuses a phase s = order-stops (refusal n) _ s
+  take-refuses kind a phase s = order-stops (refusal n) _ s
 
   -- ---- idle
 

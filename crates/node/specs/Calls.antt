@@ -8,6 +8,8 @@ use lib.ListN.{set}
 use Rattle.base.specs.Choice.{choose}
 use Rattle.base.specs.Limits.{Limits, takenLimit}
 use Rattle.base.specs.Refusal.{Refusal, Check, when, inOrder}
+use Rattle.base.specs.declared.Kind.{Kind}
+use Rattle.base.specs.declared.Kind.the-variants.{Job, Note}
 use Rattle.tree.specs.Tree.{awaited, distance}
 use Rattle.tree.specs.Lookups.{badBoard}
 use Rattle.frame.specs.Frame.{sentNumber, takenNumber, fieldsOf, readChecks}
@@ -61,9 +63,14 @@ send L n b =
 abbrev pub oneTaken : Node → ℕ → Node
 oneTaken n m = withTaken n (set (n .taken) m (takenNumber (tally n (takenIn m) + 1)))
 
--- the node is busy, and will sign in anew with flag 1, so that its new tally goes out
-abbrev pub woken : Node → ℕ → Node
-woken n m = at (withBusy (oneTaken n m) true) 1 0 true 0
+-- a job makes the node busy; with a note it is busy or idle as it was
+abbrev pub wakes : Kind → Bool → Bool
+wakes Job busy = true
+wakes Note busy = busy
+
+-- the node will sign in anew with flag 1, so that its new tally goes out
+abbrev pub counted : Node → Kind → ℕ → Node
+counted n kind m = at (withBusy (oneTaken n m) (wakes kind (n .busy))) 1 0 true 0
 
 abbrev pub isEarly : Timing → Bool
 isEarly Now = false
@@ -78,8 +85,8 @@ isForeignWork Early = false
 isForeignWork Late = true
 isForeignWork Foreign = true
 
-unfoldable pub take : Limits → Node → ℕ → ℕ → Given Outcome
-take L n a phase =
+unfoldable pub take : Limits → Node → Kind → ℕ → ℕ → Given Outcome
+take L n kind a phase =
     inOrder (refusal n)
     (badState L n
     ∷ when (leb (n .nodes) a) Refusal.stranger
@@ -88,7 +95,7 @@ take L n a phase =
     ∷ when (isForeignWork (timing phase (n .phase))) Refusal.foreign
     ∷ when (leb (takenLimit L) (tally n allTaken)) Refusal.takenFull
     ∷ [])
-    (give (woken n (distance (n .nodes) (n .number) a)) done)
+    (give (counted n kind (distance (n .nodes) (n .number) a)) done)
 
 -- ---- Idle (rule N7)
 

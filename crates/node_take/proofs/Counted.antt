@@ -1,20 +1,22 @@
 -- Laws of the calls on words: what is answered where the words hold no state, and what they become where a message is
 -- counted.
-use mathlib.Core.Path.{_≡_, sym, ap, _∙_}
+use mathlib.Core.Path.{_≡_, refl, sym, ap, _∙_}
 use mathlib.Core.Bool.{true, not}
 use mathlib.Core.List.{List}
 use Prim.Native.Nat.{ℕ, _+_, _≤_, _<_}
 use native.Mathlib.Omega.{arith}
-use lib.ListN.{length, set}
+use lib.ListN.{length, set, length-set}
 use borrow.Author.Tests.{lt-ltb}
 use Rattle.base.specs.Limits.{Limits, Fits, width}
+use Rattle.base.specs.declared.Kind.{Kind}
+use Rattle.base.specs.declared.Kind.the-variants.{Job, Note}
 use Rattle.base.proofs.Laws.{choose-yes}
 use Rattle.frame.specs.Frame.{sentNumber, takenNumber, sentAt, takenAt}
 use Rattle.node.specs.Sums.{allSent, allTaken, tally}
 use Rattle.node.specs.Change.{withBusy, withSent, withTaken, at}
 use Rattle.node.specs.State.{valid}
 use Rattle.node.specs.Answers.{Given, Outcome, refused}
-use Rattle.node.specs.Calls.{refusal, oneSent, oneTaken, woken}
+use Rattle.node.specs.Calls.{refusal, oneSent, oneTaken, counted}
 use Rattle.node.specs.declared.Node.{Node}
 use Rattle.survey.proofs.Lists.{total-has}
 use Rattle.layout.specs.Places.{atSent, atTaken, headWords}
@@ -28,7 +30,7 @@ use Rattle.layout.proofs.Answers.{fails}
 use Rattle.scanned.specs.Scan.{scanned}
 use Rattle.scanned.specs.declared.Scan.{Scan}
 use Rattle.scanned.proofs.Known.{failed}
-use Rattle.node_take.specs.Pieces.{wokenWords}
+use Rattle.node_take.specs.Pieces.{countedWords, wokenWords}
 
 -- no state: 13, and the words stay
 pub no-state : (L : Limits) → Fits L → (room : ℕ) (ws : List ℕ) (s : Scan) → s ≡ scanned L room ws
@@ -36,6 +38,9 @@ pub no-state : (L : Limits) → Fits L → (room : ℕ) (ws : List ℕ) (s : Sca
     → (not (valid L (unpacked ws)) ≡ true → call (unpacked ws) ≡ refusal (unpacked ws) 13)
     → (refused 13 ≡ answerOn L room call ws) × (ws ≡ wordsOn L room call ws)
 no-state L fit room ws s r call o f = fails L fit call ws room (failed L room ws s r o) f
+
+pub counted-length : (ws : List ℕ) (at : ℕ) → length (countedWords ws at) ≡ length ws
+counted-length ws at = simp length-set refl
 
 -- the same words, the same state
 becomes-is : {L : Limits} {ws after : List ℕ} {n m : Node} → n ≡ m → Becomes L ws after n → Becomes L ws after m
@@ -73,8 +78,14 @@ module _ (L : Limits) (ws : List ℕ) (e : isWhole L ws ≡ true) where
         becomes-is (ap (λ x. withTaken (unpacked ws) (set (unpacked ws .taken) m (takenNumber (x + 1)))) (sym taken-is))
         (put-taken L ws e m (word ws (atTaken (dimsOf ws) m) + 1) h l)
 
-    pub put-woken : Becomes L ws (wokenWords ws (atTaken (dimsOf ws) m)) (woken (unpacked ws) m)
-    put-woken =
+    put-counted : Becomes L ws (countedWords ws (atTaken (dimsOf ws) m)) (at (oneTaken (unpacked ws) m) 1 0 true 0)
+    put-counted =
         let a = put-one-taken in
-        let b = becomes-then L a (becomes-is (ap (λ n. withBusy n true) (a .node)) (put-busy L _ (a .whole) true)) in
-        becomes-then L b (becomes-is (ap (λ n. at n 1 0 true 0) (b .node)) (put-position L _ (b .whole) 1 0 true 0))
+        becomes-then L a (becomes-is (ap (λ n. at n 1 0 true 0) (a .node)) (put-position L _ (a .whole) 1 0 true 0))
+
+    pub put-taken-one : (kind : Kind) → Becomes L ws (wokenWords kind (countedWords ws (atTaken (dimsOf ws) m)))
+        (counted (unpacked ws) kind m)
+    put-taken-one Job =
+        let a = put-counted in
+        becomes-then L a (becomes-is (ap (λ n. withBusy n true) (a .node)) (put-busy L _ (a .whole) true))
+    put-taken-one Note = put-counted

@@ -13,8 +13,9 @@ ghost use Rattle.layout.specs.Held.{unpacked, answerOn, wordsOn};
 ghost use Rattle.layout.specs.Pieces.{Passed, Answers};
 ghost use Rattle.layout.specs.Places.{headWords};
 ghost use Rattle.node_take.specs.Shell.{shellOf};
-ghost use Rattle.node_take.specs.Pieces.{wokenWords};
+ghost use Rattle.node_take.specs.Pieces.{countedWords, wokenWords};
 use base::Bounds;
+use base::Kind;
 use frame::Taken;
 use node::Answer;
 use tree::Found;
@@ -29,27 +30,45 @@ pub fn shell_of(b: Bounds, nodes: u32, number: u32, other: u32) -> u32
     m
 }
 
-// Counts a message in the taken tally at a place, and makes the node busy, at (1, 0, 1) and with T 0.
-fn wake(state: &mut [u32], at: u32)
+// Counts a message in the taken tally at a place, and puts the node to (1, 0, 1), with T 0.
+fn count(state: &mut [u32], at: u32)
     requires { ⌜ (headWords ≤ at) × (at < length (now state)) × (getD (now state) at 0 < 4294967295) ⌝ }
-    ensures { λ r. ⌜ now (state .exit) ≡ wokenWords (now (state .entry)) at ⌝ }
+    ensures { λ r. ⌜ now (state .exit) ≡ countedWords (now (state .entry)) at ⌝ }
 {
     let taken = Taken(state[at as usize]);
     state[at as usize] = taken.0 + 1;
-    state[layout::BUSY] = 1;
     state[layout::PASS] = 1;
     state[layout::DIM] = 0;
     state[layout::FLAG] = 1;
     state[layout::AGREED] = 0;
 }
 
+// A job makes the node busy.
+fn wake(state: &mut [u32], kind: Kind)
+    requires { ⌜ headWords ≤ length (now state) ⌝ }
+    ensures { λ r. ⌜ now (state .exit) ≡ wokenWords kind (now (state .entry)) ⌝ }
+{
+    match kind {
+        Kind::Job => state[layout::BUSY] = 1,
+        Kind::Note => {}
+    }
+}
+
 // A message from a node is taken, by a state of p dimensions that passes the test.
-fn take_on(b: Bounds, state: &mut [u32], p: u32, takes: Taken, from: u32, phase: u8) -> Answer
+fn take_on(
+    b: Bounds,
+    state: &mut [u32],
+    kind: Kind,
+    p: u32,
+    takes: Taken,
+    from: u32,
+    phase: u8,
+) -> Answer
     requires { ⌜ Passed (limitsOf b) (now state)
         × (p ≡ dims (unpacked (now state)))
         × (takes .0 ≡ tally (unpacked (now state)) allTaken) ⌝ }
     ensures { λ r.
-        ⌜ Answers (limitsOf b) (λ n. take (limitsOf b) n from phase) (now (state .entry)) (now (state .exit)) r ⌝ }
+        ⌜ Answers (limitsOf b) (λ n. take (limitsOf b) n kind from phase) (now (state .entry)) (now (state .exit)) r ⌝ }
 {
     let nodes = state[layout::NODES];
     let number = state[layout::NUMBER];
@@ -58,22 +77,30 @@ fn take_on(b: Bounds, state: &mut [u32], p: u32, takes: Taken, from: u32, phase:
     if no != 0 {
         return Answer::Refused(no);
     }
-    wake(state, layout::HEAD + p + shell_of(b, nodes, number, from));
+    count(state, layout::HEAD + p + shell_of(b, nodes, number, from));
+    wake(state, kind);
     Answer::Done
 }
 
-// A message from a node, with its phase byte, is taken. Refuses 13, 2, 3, 7 or 8, 6.
-pub fn take_from(b: Bounds, state: &mut [u32], sums: &mut [u32], from: u32, phase: u8) -> Answer
+// A job or a note from a node, with its phase byte, is taken. Refuses 13, 2, 3, 7 or 8, 6.
+pub fn take_from(
+    b: Bounds,
+    state: &mut [u32],
+    sums: &mut [u32],
+    kind: Kind,
+    from: u32,
+    phase: u8,
+) -> Answer
     ensures answer { λ r.
         ⌜ outcomeOf r
-        ≡ answerOn (limitsOf b) (length (now (sums .entry))) (λ n. take (limitsOf b) n from phase) (now (state .entry)) ⌝ }
+        ≡ answerOn (limitsOf b) (length (now (sums .entry))) (λ n. take (limitsOf b) n kind from phase) (now (state .entry)) ⌝ }
     ensures memory { λ r.
         ⌜ now (state .exit)
-        ≡ wordsOn (limitsOf b) (length (now (sums .entry))) (λ n. take (limitsOf b) n from phase) (now (state .entry)) ⌝ }
+        ≡ wordsOn (limitsOf b) (length (now (sums .entry))) (λ n. take (limitsOf b) n kind from phase) (now (state .entry)) ⌝ }
 {
     let known = scan::scan_of(b, &*state, sums);
     if !known.ok {
         return Answer::Refused(13);
     }
-    take_on(b, state, known.dims, known.takes, from, phase)
+    take_on(b, state, kind, known.dims, known.takes, from, phase)
 }

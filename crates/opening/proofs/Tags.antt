@@ -12,7 +12,7 @@ use Rattle.opening.specs.Opens.{shut, openedBy}
 pub no-board : (l : Line) (len next : ℕ) → OneOf (1 ∷ 2 ∷ 3 ∷ 4 ∷ 5 ∷ []) (tagOf LineT.the-type l)
     → openedBy len next l ≡ shut len 17 1
 no-board (Nodes P) len next h = absurd (miss (1 ∷ 2 ∷ 3 ∷ 4 ∷ 5 ∷ []) 0 tt h)
-no-board (Sends a b) len next h = refl
+no-board (Sends kind a b) len next h = refl
 no-board (Delivers a b) len next h = refl
 no-board (Idles a) len next h = refl
 no-board (Calls a) len next h = refl

@@ -20,7 +20,7 @@ abbrev pub openedBy : ℕ → ℕ → Line → Opened
 openedBy len next (Nodes P) =
     choose (either (eqb P 0) (ltb 16 P)) (shut len (number Refusal.board) 1)
     (record { stage = opening P; at = next; why = 0; line = 0 })
-openedBy len next (Sends a b) = shut len (number Refusal.script) 1
+openedBy len next (Sends kind a b) = shut len (number Refusal.script) 1
 openedBy len next (Delivers a b) = shut len (number Refusal.script) 1
 openedBy len next (Idles a) = shut len (number Refusal.script) 1
 openedBy len next (Calls a) = shut len (number Refusal.script) 1

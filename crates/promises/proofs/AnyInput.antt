@@ -9,6 +9,7 @@ use lib.ListN.{length, getD}
 use Rattle.base.specs.Choice.{choose, both, either}
 use Rattle.base.specs.Limits.{base}
 use Rattle.base.specs.Refusal.{Refusal, Check, number, Answered, refused as noAnswer, found, when, inOrder}
+use Rattle.base.specs.declared.Kind.{Kind}
 use Rattle.base.proofs.Laws.{cases, both-true, Stops, order-cases}
 use Rattle.base.proofs.Limits.{fits-base}
 use Rattle.tree.specs.Tree.{Place, dimension, place, distance}
@@ -78,16 +79,17 @@ sends to = answers _ (λ n. send base n to) refl (λ n. ours (send-way base n to
     back (SendWay.refused x s) z = refl
     back (SendWay.done v h o w r) z = absurd (z refl)
 
-pub takes : (from phase : ℕ) → Answers (13 ∷ 2 ∷ 3 ∷ 7 ∷ 8 ∷ 6 ∷ 0 ∷ []) (λ n. take base n from phase)
-takes from phase =
-    answers _ (λ n. take base n from phase) refl (λ n. ours (take-way base n from phase))
-    (λ n. back (take-way base n from phase))
+pub takes : (kind : Kind) (from phase : ℕ)
+    → Answers (13 ∷ 2 ∷ 3 ∷ 7 ∷ 8 ∷ 6 ∷ 0 ∷ []) (λ n. take base n kind from phase)
+takes kind from phase =
+    answers _ (λ n. take base n kind from phase) refl (λ n. ours (take-way base n kind from phase))
+    (λ n. back (take-way base n kind from phase))
   where
-    ours : {n : Node} {g : Given Outcome} → TakeWay base n from phase g → Ours (13 ∷ 2 ∷ 3 ∷ 7 ∷ 8 ∷ 6 ∷ 0 ∷ []) g
+    ours : {n : Node} {g : Given Outcome} → TakeWay base n kind from phase g → Ours (13 ∷ 2 ∷ 3 ∷ 7 ∷ 8 ∷ 6 ∷ 0 ∷ []) g
     ours (TakeWay.refused x s) = stops-among (13 ∷ 2 ∷ 3 ∷ 7 ∷ 8 ∷ 6 ∷ 0 ∷ []) refl s
     ours (TakeWay.done v h o d r) = refl
 
-    back : {n : Node} {g : Given Outcome} → TakeWay base n from phase g → Back n g
+    back : {n : Node} {g : Given Outcome} → TakeWay base n kind from phase g → Back n g
     back (TakeWay.refused x s) z = refl
     back (TakeWay.done v h o d r) z = absurd (z refl)
 

@@ -3,6 +3,7 @@ use mathlib.Core.Path.{_≡_}
 use Prim.Native.Nat.{ℕ, _≤_}
 use native.Mathlib.Omega.{arith}
 use Rattle.base.specs.Limits.{base}
+use Rattle.node.proofs.Taken.{note-as-job, job-wakes}
 use Rattle.runs.specs.Claim.{Fit}
 use Rattle.runs.proofs.Whole.{demand3}
 use Rattle.runs.proofs.Facts.{every-run}
@@ -30,6 +31,7 @@ pub promises : Promises
 promises =
     record {
       anyInput = any-input;
+      kinds = record { notes = note-as-job base; jobs = job-wakes base };
       tree = λ P one few. tree P;
       frames = λ P one few. frames P;
       runs = runs;

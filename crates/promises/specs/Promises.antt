@@ -13,13 +13,16 @@ use lib.ListN.{length}
 use Rattle.base.specs.Choice.{choose}
 use Rattle.base.specs.Limits.{base}
 use Rattle.base.specs.Refusal.{found}
+use Rattle.base.specs.declared.Kind.{Kind}
+use Rattle.base.specs.declared.Kind.the-variants.{Job, Note}
 use Rattle.tree.specs.Tree.{dimension, runOf, alone, hermit, neighbour, messenger, place, awaited, receivers}
 use Rattle.tree.specs.Tree.{inside, distance, InShell}
 use Rattle.tree.specs.Lookups.{dimensionLookup, placeLookup, distanceLookup}
 use Rattle.frame.specs.Frame.{frameBytes, readFrame, writeFrame}
 use Rattle.frame.specs.Shapes.{Shaped, Bytes}
 use Rattle.frame.specs.declared.Frame.{Frame}
-use Rattle.node.specs.Answers.{Given, Outcome, outcomeNumber, barred, barrierNumber}
+use Rattle.node.specs.Change.{withBusy}
+use Rattle.node.specs.Answers.{Given, Outcome, done, outcomeNumber, barred, barrierNumber}
 use Rattle.node.specs.Calls.{send, take, idle, frameIn}
 use Rattle.node.specs.declared.Node.{Node}
 use Rattle.node_calls.specs.Fresh.{freshOn, freshWords}
@@ -52,7 +55,8 @@ pub record AnyInput : Type 0 where
   pub fresh : (P a : ℕ) (ws : List ℕ) → OneOf (1 ∷ 2 ∷ 13 ∷ 0 ∷ []) (outcomeNumber (freshOn base P a ws))
   pub freshStays : (P a : ℕ) (ws : List ℕ) → outcomeNumber (freshOn base P a ws) ≢ 0 → freshWords base P a ws ≡ ws
   pub sends : (to : ℕ) → Answers (13 ∷ 2 ∷ 3 ∷ 4 ∷ 5 ∷ 0 ∷ []) (λ n. send base n to)
-  pub takes : (from phase : ℕ) → Answers (13 ∷ 2 ∷ 3 ∷ 7 ∷ 8 ∷ 6 ∷ 0 ∷ []) (λ n. take base n from phase)
+  pub takes : (kind : Kind) (from phase : ℕ)
+      → Answers (13 ∷ 2 ∷ 3 ∷ 7 ∷ 8 ∷ 6 ∷ 0 ∷ []) (λ n. take base n kind from phase)
   pub idles : Answers (13 ∷ 0 ∷ []) (idle base)
   pub frames : (bs : List ℕ)
       → Answers (13 ∷ 9 ∷ 10 ∷ 2 ∷ 3 ∷ 11 ∷ 7 ∷ 8 ∷ 24 ∷ 0 ∷ []) (λ n. frameIn base n bs)
@@ -78,7 +82,18 @@ pub record AnyInput : Type 0 where
   pub readStays : (P : ℕ) (bs ws : List ℕ) → lookupNumber (readFrame base P bs) ≢ 0
       → frameWords (readFrame base P bs) ws ≡ ws
 
--- ---- 2. The tree, and frames that survive writing and reading
+-- ---- 2. Jobs and notes, in any state
+
+pub record Kinds : Type 0 where
+  -- a note is taken as a job is, but that the node is busy or idle as it was
+  pub notes : (n : Node) (from phase : ℕ)
+      → (take base n Note from phase .answer ≡ take base n Job from phase .answer)
+      × (take base n Note from phase .node ≡ withBusy (take base n Job from phase .node) (n .busy))
+  -- a job that is taken makes it busy
+  pub jobs : (n : Node) (from phase : ℕ) → take base n Job from phase .answer ≡ done
+      → take base n Job from phase .node .busy ≡ true
+
+-- ---- 3. The tree, and frames that survive writing and reading
 
 pub record Tree (P : ℕ) : Type 0 where
   -- the dimension is the smallest number with P ≤ 2 ^ it
@@ -128,7 +143,7 @@ pub record Frames (P : ℕ) : Type 0 where
   pub sameBytes : (f g : Frame) → Shaped f → Shaped g → (room m n : ℕ) → writeFrame base P f room ≡ found m
       → writeFrame base P g room ≡ found n → frameBytes (dimension P) f ≡ frameBytes (dimension P) g → f ≡ g
 
--- ---- 3. Every run of a board
+-- ---- 4. Every run of a board
 
 pub record Runs (P : ℕ) : Type 0 where
   pub safe : (es : List Event) → Safe base P (run base P es)
@@ -140,6 +155,7 @@ pub record Runs (P : ℕ) : Type 0 where
 
 pub record Promises : Type 0 where
   pub anyInput : AnyInput
+  pub kinds : Kinds
   pub tree : (P : ℕ) → 1 ≤ P → P ≤ base .nodes → Tree P
   pub frames : (P : ℕ) → 1 ≤ P → P ≤ base .nodes → Frames P
   pub runs : (P : ℕ) → 1 ≤ P → P ≤ base .nodes → Runs P

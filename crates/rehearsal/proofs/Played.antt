@@ -136,7 +136,7 @@ module _ (st : Stage) (items : List Item) (bytes : List ℕ) (within : st .under
       × ((steppedItems (st .under) (stepped st items bytes l) items ≡ items) × (steppedBytes st items bytes l ≡ bytes))
   unfolding stepped steppedItems steppedBytes acted actedBytes
   still (Nodes P) e = (refl, (nothing-put, refl))
-  still (Sends a b) e = clash (sym e)
+  still (Sends kind a b) e = clash (sym e)
   still (Delivers a b) e = clash (sym e)
   still (Idles a) e = clash (sym e)
   still (Calls a) e = clash (sym e)
@@ -159,9 +159,9 @@ module _ (st : Stage) (items : List Item) (bytes : List ℕ) (within : st .under
   acts : 0 < st .size → (E : Turn → Played) (S : Played) (raw : Line)
       → read E S (actOf st items bytes raw) ≡ choose (stops (taken (st .size) raw)) S (E (Event (taken (st .size) raw)))
   acts h E S (Nodes P) = refl
-  acts h E S (Sends a b) =
-      by-test E S (both (ltb a (st .size)) (ltb b (st .size))) (sendTurn st items bytes a b) (Sends a b) refl
-      (λ e. sym (send-turns st items bytes a b _ _) ∙ event-is (Sends a b))
+  acts h E S (Sends kind a b) =
+      by-test E S (both (ltb a (st .size)) (ltb b (st .size))) (sendTurn st items bytes kind a b) (Sends kind a b) refl
+      (λ e. sym (send-turns st items bytes kind a b _ _) ∙ event-is (Sends kind a b))
   acts h E S (Delivers a b) =
       by-test E S (both (ltb a (st .size)) (ltb b (st .size))) (deliverTurn st items bytes a b) (Delivers a b) refl
       (λ e.
@@ -364,7 +364,7 @@ module _ (script : List ℕ) (items : List Item) (bytes out : List ℕ) where
             (λ h. let n = next-on script 0 (omega (arith, h)) in (short, (omega (arith, n), size-some P e))),
             (size-good P e, refl),
           ))
-      by-line (Sends a b) short = shut-opens 17 1
+      by-line (Sends kind a b) short = shut-opens 17 1
       by-line (Delivers a b) short = shut-opens 17 1
       by-line (Idles a) short = shut-opens 17 1
       by-line (Calls a) short = shut-opens 17 1
@@ -403,7 +403,7 @@ module _ (script : List ℕ) (items : List Item) (bytes out : List ℕ) where
       by-line : (l : Line) → From (openedBy (length script) (lineAt script 0 .next) l) ≡ printedBefore header
           (playOpened script (lineAt script 0 .next) items bytes l)
       by-line (Nodes P) = by-size P (either (eqb P 0) (ltb 16 P))
-      by-line (Sends a b) = shut-from 17 1 (λ e. omega (arith, e))
+      by-line (Sends kind a b) = shut-from 17 1 (λ e. omega (arith, e))
       by-line (Delivers a b) = shut-from 17 1 (λ e. omega (arith, e))
       by-line (Idles a) = shut-from 17 1 (λ e. omega (arith, e))
       by-line (Calls a) = shut-from 17 1 (λ e. omega (arith, e))

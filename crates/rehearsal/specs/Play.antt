@@ -35,8 +35,8 @@ pub data Act : Type 0 where
 -- a number that is no node of the board stops the play
 abbrev pub actOf : Stage → List Item → List ℕ → Line → Act
 actOf st items bytes (Nodes P) = stop
-actOf st items bytes (Sends a b) =
-    choose (both (ltb a (st .size)) (ltb b (st .size))) (event (sendTurn st items bytes a b)) stop
+actOf st items bytes (Sends kind a b) =
+    choose (both (ltb a (st .size)) (ltb b (st .size))) (event (sendTurn st items bytes kind a b)) stop
 actOf st items bytes (Delivers a b) =
     choose (both (ltb a (st .size)) (ltb b (st .size))) (event (deliverTurn st items bytes a b)) stop
 actOf st items bytes (Idles a) = choose (ltb a (st .size)) (event (idleTurn st items bytes a)) stop
@@ -66,7 +66,7 @@ abbrev pub playOpened : List ℕ → ℕ → List Item → List ℕ → Line →
 playOpened script next items bytes (Nodes P) =
     choose (either (eqb P 0) (ltb 16 P)) (stopped (number Refusal.board) 1 items bytes)
     (playFrom script (length script) next 2 (opening P) items bytes)
-playOpened script next items bytes (Sends a b) = stopped (number Refusal.script) 1 items bytes
+playOpened script next items bytes (Sends kind a b) = stopped (number Refusal.script) 1 items bytes
 playOpened script next items bytes (Delivers a b) = stopped (number Refusal.script) 1 items bytes
 playOpened script next items bytes (Idles a) = stopped (number Refusal.script) 1 items bytes
 playOpened script next items bytes (Calls a) = stopped (number Refusal.script) 1 items bytes

@@ -9,6 +9,7 @@ use lib.ListN.{length, getD, set, length-set, length-append}
 use borrow.Author.Tests.{ltb-true, lt-ltb}
 use Rattle.base.specs.Choice.{choose}
 use Rattle.base.specs.Limits.{base}
+use Rattle.base.specs.declared.Kind.{Kind}
 use Rattle.base.proofs.Laws.{choose-yes, cases}
 use Rattle.tree.specs.Tree.{dimension, Place, alone, hermit, neighbour, messenger, sendsTo, place, receivers, distance}
 use Rattle.tree.proofs.Dimension.{smallest}
@@ -32,7 +33,7 @@ use Rattle.runs.proofs.Tools.{put-same}
 use Rattle.items.specs.declared.Item.{Item as Header}
 use Rattle.state_calls.specs.On.{Kept, onState, stepOn}
 use Rattle.states.specs.declared.State.{State}
-use Rattle.under_way.specs.Frames.{placeSize, roomFor, framed}
+use Rattle.under_way.specs.Frames.{placeSize, roomFor, framed, frameHeld}
 use Rattle.under_way.proofs.Parts.{length-framed}
 use Rattle.stage.specs.Board.{stateAt, nodeAt, changed, workItem, frameItem}
 use Rattle.stage.specs.declared.Stage.{Stage}
@@ -40,7 +41,7 @@ use Rattle.turns.specs.Events.{Turn, sentBy, framedTo, calledBy, sendTurn, idle
 use Rattle.rehearsed.proofs.States.{Bears, send-makes, idle-makes, step-makes}
 use Rattle.rehearsed.proofs.Links.{Stand}
 use Rattle.rehearsed.proofs.Memory.{held-framed-before, held-framed-at}
-use Rattle.rehearsed.proofs.Same.{Stands, Same, stand-put}
+use Rattle.rehearsed.proofs.Same.{mark-load, Stands, Same, stand-put}
 use Rattle.rehearsed.proofs.Follows.{Follows, follows-as, roomy, refused-follows, changes-follow}
 use Rattle.rehearsed.proofs.Follows.{quiet-follows}
 
@@ -90,47 +91,49 @@ module _ {P : ℕ} {st : Stage} {items : List Header} {bytes : List ℕ} {w : Bo
   one-more : st .under < roomFor (length items) bytes → st .under + 1 ≤ roomFor (length items) bytes
   one-more l = omega arith
 
-  -- ---- s a b: a sends work to b
+  -- ---- s a b and t a b: a sends a job or a note to b
 
-  send-way-follows : (b : ℕ) {g : Given Outcome} → SendWay base (w .nodes a) b g → (r : Kept Outcome)
+  send-way-follows : (kind : Kind) (b : ℕ) {g : Given Outcome} → SendWay base (w .nodes a) b g → (r : Kept Outcome)
       → Bears (r .state) (g .node)
-      → Follows P w (afterSend (gave w a (g .node)) a b (g .answer))
-      (line a (outcomeNumber (g .answer)) (afterSend (gave w a (g .node)) a b (g .answer) .nodes a))
-      (sentBy st items bytes a b r (g .answer))
-  send-way-follows b (SendWay.refused x z) r now = refused-follows few s a h x
-  send-way-follows b (SendWay.done v l o z y) r now =
+      → Follows P w (afterSend (gave w a (g .node)) kind a b (g .answer))
+      (line a (outcomeNumber (g .answer)) (afterSend (gave w a (g .node)) kind a b (g .answer) .nodes a))
+      (sentBy st items bytes kind a b r (g .answer))
+  send-way-follows kind b (SendWay.refused x z) r now = refused-follows few s a h x
+  send-way-follows kind b (SendWay.done v l o z y) r now =
       let n = oneSent (w .nodes a) (distance (w .nodes a .nodes) (w .nodes a .number) b) in
-      let it = workItem a b (nodeAt st a) in
-      let next = sentOut (gave w a n) a b in
+      let it = workItem kind a b (nodeAt st a) in
+      let next = sentOut (gave w a n) kind a b in
       let m : Item = record {
         from = a;
         to = b;
-        load = work (put (w .nodes) a n a .phase);
+        load = work kind (put (w .nodes) a n a .phase);
         phase = w .count a;
         name = w .sends;
       } in
       cases (Follows P w next (line a 0 (next .nodes a))) (ltb (st .under) (roomFor (length items) bytes)) _ _
       (λ e.
       let lent = ltb-true _ _ e in
-      let phase : work (nodeAt st a .phase) ≡ m .load =
-      ap (λ n. work (n .phase)) (bears .node) ∙ ap (λ n. work (n .phase)) (sym (put-same (w .nodes) a n)) in
+      let load =
+      mark-load kind a b (nodeAt st a .phase) (frameHeld P bytes (st .under))
+      ∙ ap (λ n. work kind (n .phase)) (bears .node)
+      ∙ ap (λ n. work kind (n .phase)) (sym (put-same (w .nodes) a n)) in
       let long = length-set items (st .under) it in
       changes-follow few s a h (r .state) n now (st .under + 1) 0 (set items (st .under) it) bytes next (λ z. omega arith)
       refl (length-append (w .items) (m ∷ []) ∙ omega (arith, s .under))
       (subst (λ k. st .under + 1 ≤ roomFor k bytes) (sym long) (one-more lent))
       (stand-put P items bytes bytes (w .items) it m (st .under) (s .under)
-      (omega (arith, roomy _ _ bytes (one-more lent) .headed)) (λ j l. refl) refl refl phase (s .stand)))
+      (omega (arith, roomy _ _ bytes (one-more lent) .headed)) (λ j l. refl) refl refl load (s .stand)))
       (λ e. Follows.out refl s)
 
-  pub send-follows : (b : ℕ)
-      → Follows P w (step base P w (sends a b)) (printed P w (sends a b)) (sendTurn st items bytes a b)
+  pub send-follows : (kind : Kind) (b : ℕ)
+      → Follows P w (step base P w (sends kind a b)) (printed P w (sends kind a b)) (sendTurn st items bytes kind a b)
   unfolding step sendTurn
-  send-follows b =
+  send-follows kind b =
       let r = onState (λ n. send base n b) (stateAt st a) in
       let made = send-makes (stateAt st a) (w .nodes a) bears b in
-      at-node (sendEvent base P w a b) (outcomeNumber (send base (w .nodes a) b .answer))
-      (ap (sentBy st items bytes a b r) (sym (made .answer)))
-      (send-way-follows b (send-way base (w .nodes a) b) r (made .state))
+      at-node (sendEvent base P w kind a b) (outcomeNumber (send base (w .nodes a) b .answer))
+      (ap (sentBy st items bytes kind a b r) (sym (made .answer)))
+      (send-way-follows kind b (send-way base (w .nodes a) b) r (made .state))
 
   -- ---- i a: idle call
 

@@ -10,6 +10,8 @@ use lib.ListN.{length, getD}
 use borrow.Author.Tests.{eq-eqb, ne-eqb}
 use Rattle.base.specs.Choice.{choose}
 use Rattle.base.specs.Limits.{base}
+use Rattle.base.specs.declared.Kind.the-variants.{Job, Note}
+use Rattle.base.specs.declared.Kind.{Kind}
 use Rattle.base.proofs.Laws.{choose-yes, choose-no, cases}
 use Rattle.tree.proofs.Dimension.{smallest}
 use Rattle.node.specs.Answers.{Given, Outcome, outcomeNumber}
@@ -21,7 +23,7 @@ use Rattle.runs.specs.Board.{afterFrame, offUnlessEarly}
 use Rattle.runs.specs.Board.{delivered, deliveredOldest, step}
 use Rattle.runs.specs.Facts.{Facts}
 use Rattle.runs.specs.Printed.{line, loadAnswer, deliveryAnswer, printed}
-use Rattle.items.specs.Places.{noItem, placeFrom, oldestAt, removed}
+use Rattle.items.specs.Places.{mark, noItem, placeFrom, oldestAt, removed}
 use Rattle.items.specs.declared.Item.{Item as Header}
 use Rattle.state_calls.specs.On.{Kept, onState}
 use Rattle.under_way.specs.Frames.{closed, frameHeld}
@@ -83,13 +85,14 @@ module _ {P : ℕ} {st : Stage} {items : List Header} {bytes : List ℕ} {w : Bo
         subst (λ x. Shows (offUnlessEarly (gave w b (w .nodes b)) a b x) x (deliveredAt st items bytes b k r x))
         (sym e) (refused-follows few s b h 7)
 
-    take-follows : (byte : ℕ) → m .load ≡ work byte → {g : Given Outcome} → TakeWay base (w .nodes b) a byte g
-        → take base (w .nodes b) a byte ≡ g → (r : Kept Outcome) → Bears (r .state) (g .node)
-        → let next = afterTake (gave w b (g .node)) a b m (g .answer) in
+    take-follows : (kind : Kind) (byte : ℕ) → m .load ≡ work kind byte → {g : Given Outcome}
+        → TakeWay base (w .nodes b) kind a byte g
+        → take base (w .nodes b) kind a byte ≡ g → (r : Kept Outcome) → Bears (r .state) (g .node)
+        → let next = afterTake (gave w b (g .node)) a b m kind (g .answer) in
         Shows next (outcomeNumber (g .answer)) (deliveredAt st items bytes b k r (outcomeNumber (g .answer)))
-    take-follows byte l (TakeWay.refused x z) e r now =
-        early-follows r x (facts .takeEarly a b m byte x first l (ap (λ g. g .answer) e))
-    take-follows byte l (TakeWay.done v q o d z) e r now =
+    take-follows kind byte l (TakeWay.refused x z) e r now =
+        early-follows r x (facts .takeEarly a b m kind byte x first l (ap (λ g. g .answer) e))
+    take-follows kind byte l (TakeWay.done v q o d z) e r now =
         off-follows r _ now 0 _ (λ z. omega arith) (λ z. omega arith) refl refl
 
     frame-follows : (bs : List ℕ) → m .load ≡ frame bs → {g : Given Outcome} → FrameWay base (w .nodes b) bs g
@@ -110,23 +113,20 @@ module _ {P : ℕ} {st : Stage} {items : List Header} {bytes : List ℕ} {w : Bo
     abbrev head : Header
     head = getD items k noItem
 
-    load-follows : Stands P items bytes k m
-        → let r = called st items bytes a b k in
+    abbrev Answered : Kept Outcome → Type 0
+    Answered r =
         Shows (delivered base P w a b m (m .load)) (loadAnswer w a b (m .load))
         (deliveredAt st items bytes b k r (outcomeNumber (r .answer)))
+
+    load-follows : Stands P items bytes k m → Answered (called st items bytes a b k)
     load-follows i =
-        cases
-        (λ r.
-        Shows (delivered base P w a b m (m .load)) (loadAnswer w a b (m .load))
-        (deliveredAt st items bytes b k r (outcomeNumber (r .answer))))
-        (eqb (head .kind) 0) _ _
+        cases Answered (eqb (head .kind) (mark Job)) _ _ (λ t. by-kind Job (sym (i .load) ∙ choose-yes _ _ t))
         (λ t.
-        let l = sym (i .load) ∙ choose-yes _ _ t in
-        by-load (work (head .phase)) l (take-makes (stateAt st b) (w .nodes b) bears a (head .phase))
-        (take-follows (head .phase) l (take-way base (w .nodes b) a (head .phase)) refl))
-        (λ t.
-        let l = sym (i .load) ∙ choose-no _ _ t in
-        by-load (frame bs) l got (frame-follows bs l (frame-way base (w .nodes b) bs) refl))
+        cases Answered (eqb (head .kind) (mark Note)) _ _
+        (λ u. by-kind Note (sym (i .load) ∙ choose-no _ _ t ∙ choose-yes _ _ u))
+        (λ u.
+        let l = sym (i .load) ∙ choose-no _ _ t ∙ choose-no _ _ u in
+        by-load (frame bs) l got (frame-follows bs l (frame-way base (w .nodes b) bs) refl)))
       where
         bs : List ℕ
         bs = frameHeld P bytes k
@@ -142,6 +142,12 @@ module _ {P : ℕ} {st : Stage} {items : List Header} {bytes : List ℕ} {w : Bo
             λ l o. Shows (delivered base P w a b m l) (loadAnswer w a b l)
             (deliveredAt st items bytes b k r (outcomeNumber o)) in
             subst (λ l. Then l (r .answer)) (sym e) (subst (Then l) (sym (made .answer)) (f r (made .state)))
+
+        by-kind : (kind : Kind) → m .load ≡ work kind (head .phase)
+            → Answered (onState (λ n. take base n kind a (head .phase)) (stateAt st b))
+        by-kind kind l =
+            by-load (work kind (head .phase)) l (take-makes (stateAt st b) (w .nodes b) bears kind a (head .phase))
+            (take-follows kind (head .phase) l (take-way base (w .nodes b) kind a (head .phase)) refl)
 
         got : Makes (onState (λ n. frameIn base n (frameHeld (st .size) bytes k)) (stateAt st b))
             (frameIn base (w .nodes b) bs)

@@ -1,6 +1,6 @@
 -- The rehearsal's board and lent memory hold what the board of a run does, and what each change of the one has to be in
 -- the other.
-use mathlib.Core.Path.{_≡_, sym, ap, _∙_, subst}
+use mathlib.Core.Path.{_≡_, refl, sym, ap, _∙_, subst}
 use mathlib.Core.List.{List, [], _∷_, _++_}
 use Prim.Native.Nat.{ℕ, suc, _+_, _*_, _≤_, _<_}
 use native.Mathlib.Omega.{arith}
@@ -8,11 +8,13 @@ use lib.Dec.{eqb}
 use lib.ListN.{length, getD, set}
 use lib.Seq.{getD-set-same, getD-set-other}
 use Rattle.base.specs.Choice.{choose}
+use Rattle.base.specs.declared.Kind.the-variants.{Job, Note}
+use Rattle.base.specs.declared.Kind.{Kind}
 use Rattle.tree.specs.Tree.{dimension}
 use Rattle.node.specs.declared.Node.{Node}
 use Rattle.runs.specs.Board.{put, Load, work, frame, Item, Board, without}
 use Rattle.runs.proofs.Tools.{put-all}
-use Rattle.items.specs.Places.{noItem, removed}
+use Rattle.items.specs.Places.{mark, noItem, removed}
 use Rattle.items.specs.declared.Item.{Item as Header}
 use Rattle.states.specs.Words.{noState}
 use Rattle.states.specs.declared.State.{State}
@@ -24,10 +26,20 @@ use Rattle.rehearsed.proofs.Links.{placeIn, Stand, stand-more, stand-le
 use Rattle.rehearsed.proofs.Memory.{header-before, header-after}
 use Rattle.rehearsed.proofs.Memory.{held-closed-before, held-closed-after}
 
--- what stands at a place: work with its phase byte, or the frame held there
+-- what an item is, by its header: a job or a note with its phase byte, or the frame held at its place
+abbrev pub loadOf : Header → List ℕ → Load
+loadOf it held =
+    choose (eqb (it .kind) (mark Job)) (work Job (it .phase))
+    (choose (eqb (it .kind) (mark Note)) (work Note (it .phase)) (frame held))
+
 abbrev pub loadAt : ℕ → List Header → List ℕ → ℕ → Load
-loadAt P items bytes j =
-    choose (eqb (getD items j noItem .kind) 0) (work (getD items j noItem .phase)) (frame (frameHeld P bytes j))
+loadAt P items bytes j = loadOf (getD items j noItem) (frameHeld P bytes j)
+
+-- an item with the mark of a job or a note is one
+pub mark-load : (kind : Kind) (from to phase : ℕ) (held : List ℕ)
+    → loadOf (record { from = from; to = to; kind = mark kind; phase = phase }) held ≡ work kind phase
+mark-load Job from to phase held = refl
+mark-load Note from to phase held = refl
 
 pub record Stands (P : ℕ) (items : List Header) (bytes : List ℕ) (j : ℕ) (m : Item) : Type 0 where
   pub from : getD items j noItem .from ≡ m .from
@@ -66,14 +78,14 @@ stands-as {P} {items} {bytes} {i} now then j {m} e f s =
       from = ap (λ x. x .from) e ∙ s .from;
       to = ap (λ x. x .to) e ∙ s .to;
       load =
-          (λ t. choose (eqb (e t .kind) 0) (work (e t .phase)) (frame (f t))) ∙ s .load;
+          (λ t. loadOf (e t) (f t)) ∙ s .load;
     }
 
 -- an item is put after the last; its frame, if it has one, is written at its place
 pub stand-put : (P : ℕ) (items : List Header) (bytes then : List ℕ) (ms : List Item) (x : Header) (m : Item) (i : ℕ)
     → length ms ≡ i → i < length items → ((j : ℕ) → j < i → frameHeld P then j ≡ frameHeld P bytes j)
     → x .from ≡ m .from → x .to ≡ m .to
-    → choose (eqb (x .kind) 0) (work (x .phase)) (frame (frameHeld P then i)) ≡ m .load
+    → loadOf x (frameHeld P then i) ≡ m .load
     → Stand (Stands P items bytes) 0 ms → Stand (Stands P (set items i x) then) 0 (ms ++ m ∷ [])
 stand-put P items bytes then ms x m i len room held from to load s =
     let now = set items i x in
@@ -90,7 +102,7 @@ stand-put P items bytes then ms x m i len room held from to load s =
         record {
           from = ap (λ y. y .from) here ∙ from;
           to = ap (λ y. y .to) here ∙ to;
-          load = (λ t. choose (eqb (here t .kind) 0) (work (here t .phase)) (frame (frameHeld P then i))) ∙ load;
+          load = (λ t. loadOf (here t) (frameHeld P then i)) ∙ load;
         }
 
 -- the oldest item of a link goes

@@ -10,6 +10,7 @@ use borrow.Author.Tests.{le-ltb, ne-eqb}
 use Rattle.base.specs.Choice.{choose}
 use Rattle.base.specs.Limits.{base}
 use Rattle.base.specs.Refusal.{Refusal, number}
+use Rattle.base.specs.declared.Kind.{Kind}
 use Rattle.base.proofs.Laws.{choose-yes}
 use Rattle.base.proofs.Limits.{mul-low, fits-base}
 use Rattle.tree.specs.Tree.{dimension}
@@ -68,9 +69,10 @@ module _ (s : State) (n : Node) (b : Bears s n) where
   pub send-makes : (to : ℕ) → Makes (onState (λ m. send base m to) s) (send base n to)
   send-makes to = on-state (λ m. send base m to) (send-holds base fits-base (s .words) (b .whole) to)
 
-  pub take-makes : (from phase : ℕ) → Makes (onState (λ m. take base m from phase) s) (take base n from phase)
-  take-makes from phase =
-      on-state (λ m. take base m from phase) (take-holds base fits-base (s .words) (b .whole) from phase)
+  pub take-makes : (kind : Kind) (from phase : ℕ)
+      → Makes (onState (λ m. take base m kind from phase) s) (take base n kind from phase)
+  take-makes kind from phase =
+      on-state (λ m. take base m kind from phase) (take-holds base fits-base (s .words) (b .whole) kind from phase)
 
   pub idle-makes : Makes (onState (idle base) s) (idle base n)
   idle-makes = on-state (idle base) (idle-holds base fits-base (s .words) (b .whole))

@@ -137,11 +137,11 @@ module _ (P : ℕ) (one : 1 ≤ P) (few : P ≤ 16) where
   does : (st : Stage) (items : List Item) (bytes : List ℕ) (w : Board) → Same P st items bytes w → Ran w → (l : Line)
       → Does w l (actOf st items bytes l)
   does st items bytes w s r (Nodes n) = stops
-  does st items bytes w s r (Sends a b) =
-      cases (Does w (Sends a b)) (both (ltb a (st .size)) (ltb b (st .size))) _ _
+  does st items bytes w s r (Sends kind a b) =
+      cases (Does w (Sends kind a b)) (both (ltb a (st .size)) (ltb b (st .size))) _ _
       (λ e.
-      turns (sends a b) _ refl
-      (send-follows few s (facts-of w r) a (within s a (both-true (ltb a (st .size)) (ltb b (st .size)) e .0)) b))
+      turns (sends kind a b) _ refl
+      (send-follows few s (facts-of w r) a (within s a (both-true (ltb a (st .size)) (ltb b (st .size)) e .0)) kind b))
       (λ e. stops)
   does st items bytes w s r (Delivers a b) =
       cases (Does w (Delivers a b)) (both (ltb a (st .size)) (ltb b (st .size))) _ _
@@ -221,8 +221,8 @@ module _ (P : ℕ) (one : 1 ≤ P) (few : P ≤ 16) where
       go : (l : Line) (n : ℕ) → ((n : ℕ) → NoLoss (take n (eventsIn ts)))
           → NoLoss (take n (eventsOf l ++ eventsIn ts))
       go (Nodes P) n f = f n
-      go (Sends a b) zero f = tt
-      go (Sends a b) (suc n) f = f n
+      go (Sends kind a b) zero f = tt
+      go (Sends kind a b) (suc n) f = f n
       go (Delivers a b) zero f = tt
       go (Delivers a b) (suc n) f = f n
       go (Idles a) zero f = tt
@@ -256,7 +256,7 @@ module _ (script : List ℕ) (items : List Item) (bytes : List ℕ) where
       cases Opening (either (eqb P 0) (ltb 16 P)) _ _ (λ t. shut 1 1 (omega arith))
       (λ t. let z = either-false (eqb P 0) (ltb 16 P) t in
       opens P (omega (arith, eqb-false P 0 (z .0))) (ltb-false 16 P (z .1)) e)
-  by-line (Sends a b) e = shut 17 1 (omega arith)
+  by-line (Sends kind a b) e = shut 17 1 (omega arith)
   by-line (Delivers a b) e = shut 17 1 (omega arith)
   by-line (Idles a) e = shut 17 1 (omega arith)
   by-line (Calls a) e = shut 17 1 (omega arith)

@@ -58,7 +58,7 @@ kept (t ∷ ts) = choose (eqb (t .answer) (number Refusal.crowded)) (kept ts) (t
 -- a barrier call has the bytes of a place; the first line, and a line that stops the play, is no event
 abbrev pub eventsOf : Line → List Event
 eventsOf (Nodes P) = []
-eventsOf (Sends a b) = sends a b ∷ []
+eventsOf (Sends kind a b) = sends kind a b ∷ []
 eventsOf (Delivers a b) = delivers a b ∷ []
 eventsOf (Idles a) = idles a ∷ []
 eventsOf (Calls a) = calls a placeSize ∷ []

@@ -22,8 +22,8 @@ module _ {L : Limits} {P : ℕ} (setting : Setting L P) where
 
   no-mishap : (w : Board) → Standing setting w → (e : Event) → NoLoss (e ∷ []) → Mishap setting w e → ⊥
   no-mishap w s e l (Mishap.loss j) = l
-  no-mishap w s e l (Mishap.badTake a b m byte x old lw ans ne) =
-      ne (take-early setting w (s .played) (s .accepted) (s .fine) (arrives w a b m old) byte x lw ans)
+  no-mishap w s e l (Mishap.badTake a b m kind byte x old lw ans ne) =
+      ne (take-early setting w (s .played) (s .accepted) (s .fine) (arrives w a b m old) kind byte x lw ans)
   no-mishap w s e l (Mishap.badFrame a b m bs x old lf ans ne) =
       ne (frame-early setting w (s .played) (s .accepted) (s .fine) (arrives w a b m old) bs x lf ans)
 
@@ -40,7 +40,8 @@ module _ {L : Limits} {P : ℕ} (setting : Setting L P) where
 
   calm-on : (w : Board) → Calm w → (es : List Event) → NoLoss es → Calm (after L P w es)
   calm-on w s [] l = s
-  calm-on w s (sends a b ∷ es) l = calm-on (step L P w (sends a b)) (calm-step w s (sends a b) tt) es l
+  calm-on w s (sends kind a b ∷ es) l =
+      calm-on (step L P w (sends kind a b)) (calm-step w s (sends kind a b) tt) es l
   calm-on w s (idles a ∷ es) l = calm-on (step L P w (idles a)) (calm-step w s (idles a) tt) es l
   calm-on w s (calls a len ∷ es) l = calm-on (step L P w (calls a len)) (calm-step w s (calls a len) tt) es l
   calm-on w s (delivers a b ∷ es) l = calm-on (step L P w (delivers a b)) (calm-step w s (delivers a b) tt) es l

@@ -11,6 +11,7 @@ use lib.ListN.{length, getD, set}
 use lib.Seq.{getD-set-same, getD-set-other}
 use Rattle.base.specs.Choice.{list}
 use Rattle.base.specs.Limits.{width}
+use Rattle.base.specs.declared.Kind.{Kind}
 use Rattle.base.proofs.Laws.{choose-yes, getD-list}
 use Rattle.tree.specs.Tree.{dimension}
 use Rattle.frame.specs.Frame.{sentNumber, takenNumber, sentAt, takenAt}
@@ -18,7 +19,7 @@ use Rattle.frame.specs.declared.Sent.{Sent}
 use Rattle.frame.specs.declared.Taken.{Taken}
 use Rattle.node.specs.Sums.{Field, sentIn, takenIn, allSent, allTaken, dims, tally, firstAt, secondAt, total}
 use Rattle.node.specs.Change.{withBusy, at, withFirst, withSecond, freshIn, noFirst, noSecond}
-use Rattle.node.specs.Calls.{oneSent, oneTaken, stepNumber}
+use Rattle.node.specs.Calls.{oneSent, wakes, counted, stepNumber}
 use Rattle.node.specs.declared.Stored.{Stored}
 use Rattle.node.specs.declared.Confirm.{Confirm}
 use Rattle.node.specs.declared.Node.{Node}
@@ -88,14 +89,14 @@ module _ (p : ℕ) (n : Node) (u : State) (e : dims n ≡ p) (like : Like p (vie
           (dims n) (omega arith) ∙ ap suc (like .tallies sentAll tt)
       tal takenAll q = like .tallies takenAll tt
 
-  pub like-taken : (m : ℕ) → m < p → m < length (n .taken)
-      → Like p (view p (at (withBusy (oneTaken n m) true) 1 0 true 0))
-      (atStep (withTallies u true (bumpTaken (u .tallies) m)) 0 true 0)
-  like-taken m l h =
-      record { busy = refl; tallies = tal; step = refl; flag = refl; agreed = refl; stored = like .stored }
+  pub like-taken : (kind : Kind) (m : ℕ) → m < p → m < length (n .taken)
+      → Like p (view p (counted n kind m))
+      (atStep (withTallies u (wakes kind (u .busy)) (bumpTaken (u .tallies) m)) 0 true 0)
+  like-taken kind m l h =
+      record { busy = ap (wakes kind) (like .busy); tallies = tal; step = refl; flag = refl; agreed = refl; stored = like .stored }
     where
       tal : (f : Entry) → Has p 0 (fieldOf f)
-          → tally (at (withBusy (oneTaken n m) true) 1 0 true 0) (fieldOf f) ≡ bumpTaken (u .tallies) m f
+          → tally (counted n kind m) (fieldOf f) ≡ bumpTaken (u .tallies) m f
       tal (sentTo j) q = like .tallies (sentTo j) q
       tal (takenFrom j) q =
           bump-at (λ (x : Taken). x .0) (n .taken) (takenNumber 0) (record { 0 = tally n (takenIn m) + 1 }) m h refl j

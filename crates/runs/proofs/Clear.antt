@@ -7,6 +7,7 @@ use Prim.Native.Nat.{ℕ, _<_}
 use native.Mathlib.Omega.{arith}
 use borrow.Author.Tests.{ne-eqb, lt-leb}
 use Rattle.base.specs.Limits.{Limits, takenLimit}
+use Rattle.base.specs.declared.Kind.{Kind}
 use Rattle.frame.specs.Timing.{timing, difference}
 use Rattle.frame.specs.declared.Timing.the-variants.{Now, Early, Late}
 use Rattle.frame.specs.declared.Timing.{Timing}
@@ -26,11 +27,12 @@ not-refused x e = let z : _≡_ {A = ℕ} 0 1 = cc in absurd (omega arith)
 dropped-not-refused : {A : Type 0} (x : ℕ) → dropped ≡ refused x → A
 dropped-not-refused x e = let z : _≡_ {A = ℕ} 0 1 = cc in absurd (omega arith)
 
-pub take-clear : (L : Limits) (n : Node) (a byte x : ℕ) → valid L n ≡ true → a < n .nodes → a ≢ n .number
+pub take-clear : (L : Limits) (n : Node) (kind : Kind) (a byte x : ℕ) → valid L n ≡ true → a < n .nodes → a ≢ n .number
     → (difference byte (n .phase) ≡ 0) ⊎ (difference byte (n .phase) ≡ 1)
-    → (difference byte (n .phase) ≡ 0 → tally n allTaken < takenLimit L) → take L n a byte .answer ≡ refused x → x ≡ 7
+    → (difference byte (n .phase) ≡ 0 → tally n allTaken < takenLimit L) → take L n kind a byte .answer ≡ refused x
+    → x ≡ 7
 unfolding take
-take-clear L n a byte x v l ne (inl d) r e =
+take-clear L n kind a byte x v l ne (inl d) r e =
     not-refused x (sym (rw (
       v,
       lt-leb (n .nodes) a l,
@@ -38,7 +40,7 @@ take-clear L n a byte x v l ne (inl d) r e =
       timing-now byte (n .phase) d,
       lt-leb (takenLimit L) (tally n allTaken) (r d),
     ) refl) ∙ e)
-take-clear L n a byte x v l ne (inr d) r e =
+take-clear L n kind a byte x v l ne (inr d) r e =
     seven x (sym (rw (v, lt-leb (n .nodes) a l, ne-eqb a (n .number) ne, timing-early byte (n .phase) d) refl) ∙ e)
 
 pub frame-clear : (L : Limits) (n : Node) (bs : List ℕ) → Comes L n bs → (x : ℕ)

@@ -43,9 +43,10 @@ module _ {L : Limits} {P : ℕ} {setting : Setting L P} {w : Board} (play : Play
 
     deliver-next : (l : Load) (l′ : Content) → m .load ≡ l → twin .one .item .load ≡ l′
         → Loads setting (m .from) (m .phase) l l′ → Next setting w play (delivers a b) (delivered L P w a b m l)
-    deliver-next (work byte) message q q′ h =
-        take-next play arrival byte q q′ h (take L (w .nodes b) a byte) refl (take-way L (w .nodes b) a byte)
-    deliver-next (work byte) (report s x) q q′ h = absurd h
+    deliver-next (work kind byte) message q q′ h =
+        take-next play arrival kind byte q q′ h (take L (w .nodes b) kind a byte) refl
+        (take-way L (w .nodes b) kind a byte)
+    deliver-next (work kind byte) (report s x) q q′ h = absurd h
     deliver-next (frame bs) message q q′ h = absurd h
     deliver-next (frame bs) (report s x) q q′ h =
         frame-next play arrival bs q s x q′ h (frameIn L (w .nodes b) bs) refl (frame-way L (w .nodes b) bs)

@@ -6,6 +6,7 @@ use mathlib.Core.List.{List, [], _∷_}
 use Prim.Native.Nat.{ℕ, suc, _-_, _*_, _%_, _≤_, _<_}
 use native.Mathlib.Omega.{arith}
 use Rattle.base.specs.Limits.{Limits, fieldLimit, takenLimit}
+use Rattle.base.specs.declared.Kind.{Kind}
 use Rattle.tree.specs.Tree.{dimension}
 use Rattle.frame.specs.Frame.{fieldsOf}
 use Rattle.frame.specs.Timing.{difference}
@@ -73,19 +74,20 @@ module _ {L : Limits} {P : ℕ} (setting : Setting L P) where
       other : a ≢ b
       other z = fine-one .0 (place .from-is ∙ z ∙ sym (place .to-is))
 
-      pub take-early : (byte x : ℕ) → m .load ≡ work byte → take L (w .nodes b) a byte .answer ≡ refused x → x ≡ 7
-      take-early byte x lw ans =
-          take-clear L (w .nodes b) a byte x (ok b lb) (omega (arith, la, state b lb .nodes))
+      pub take-early : (kind : Kind) (byte x : ℕ) → m .load ≡ work kind byte
+          → take L (w .nodes b) kind a byte .answer ≡ refused x → x ≡ 7
+      take-early kind byte x lw ans =
+          take-clear L (w .nodes b) kind a byte x (ok b lb) (omega (arith, la, state b lb .nodes))
           (λ z. other (z ∙ state b lb .number)) timely space ans
         where
           load-is : (mate .one .item .load ≡ message) × (byte ≡ m .phase % 256)
-          load-is = message-of play arrival byte lw
+          load-is = message-of play arrival kind byte lw
 
           not-later : m .phase ≤ suc (ledger .phase b)
           not-later = not-ahead play arrival
 
           not-earlier : ledger .phase b ≤ m .phase
-          not-earlier = not-behind play arrival byte lw (load-is .0) (load-is .1) b lb
+          not-earlier = not-behind play arrival kind byte lw (load-is .0) (load-is .1) b lb
 
           differs : difference byte (w .nodes b .phase) ≡ apart (m .phase) (ledger .phase b)
           differs =

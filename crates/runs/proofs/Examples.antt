@@ -3,6 +3,7 @@ use mathlib.Core.Path.{_≡_, refl}
 use mathlib.Core.Bool.{true}
 use mathlib.Core.List.{List, [], _∷_}
 use Rattle.base.specs.Limits.{base}
+use Rattle.base.specs.declared.Kind.the-variants.{Job}
 use Rattle.tree.specs.Tree.{smallestFrom, dimension, part, runBelow, runOf, placeIn, place, awaited, receivers}
 use Rattle.tree.specs.Tree.{distanceBelow, distance}
 use Rattle.frame.specs.Numbers.{fourBytes, bytesOf, wordAt}
@@ -67,12 +68,12 @@ abbrev trap : List Event
 trap =
     idles 2
     ∷ calls 2 76
-    ∷ sends 1 2
+    ∷ sends Job 1 2
     ∷ idles 1
     ∷ calls 1 76
-    ∷ sends 3 1
+    ∷ sends Job 3 1
     ∷ delivers 3 1
-    ∷ sends 1 3
+    ∷ sends Job 1 3
     ∷ delivers 1 3
     ∷ idles 3
     ∷ calls 3 76
@@ -80,7 +81,7 @@ trap =
     ∷ calls 2 76
     ∷ calls 2 76
     ∷ delivers 1 2
-    ∷ sends 2 0
+    ∷ sends Job 2 0
     ∷ delivers 1 0
     ∷ delivers 2 0
     ∷ delivers 2 0

@@ -8,6 +8,7 @@ use native.Mathlib.Decide.{decLt}
 use native.Mathlib.Omega.{arith}
 use lib.ListN.{getD}
 use Rattle.base.specs.Limits.{Limits}
+use Rattle.base.specs.declared.Kind.{Kind}
 use Rattle.tree.specs.Tree.{dimension}
 use Rattle.frame.proofs.RoundTripAccepted.{head-phase}
 use Rattle.node.specs.State.{valid}
@@ -35,9 +36,9 @@ module _ {L : Limits} {P : ℕ} (setting : Setting L P) (w : Board) (s : Standin
   sim = s .played .sim
 
   -- the phase byte that an item carries
-  work-byte : (a c byte : ℕ) (l : Content) → Loads setting a c (work byte) l → byte ≡ c % 256
-  work-byte a c byte message h = h
-  work-byte a c byte (report s x) h = absurd h
+  work-byte : (a c : ℕ) (kind : Kind) (byte : ℕ) (l : Content) → Loads setting a c (work kind byte) l → byte ≡ c % 256
+  work-byte a c kind byte message h = h
+  work-byte a c kind byte (report s x) h = absurd h
 
   frame-byte : (a c : ℕ) (bytes : List ℕ) (l : Content) → Loads setting a c (frame bytes) l
       → getD bytes 1 0 ≡ c % 256
@@ -101,12 +102,14 @@ module _ {L : Limits} {P : ℕ} (setting : Setting L P) (w : Board) (s : Standin
         close = λ a b h k. omega (arith, within-one (s .played .reached) a b h k, sim .counts a, sim .counts b);
         underWay = near;
         phaseByte = λ a h. sim .node a h .phase;
-        workByte = λ m byte k e. work-byte (m .from) (m .phase) byte (twin m k .one .item .load) (loads m k (work byte) e);
+        workByte =
+            λ m kind byte k e.
+            work-byte (m .from) (m .phase) kind byte (twin m k .one .item .load) (loads m k (work kind byte) e);
         frameByte =
             λ m bytes k e. frame-byte (m .from) (m .phase) bytes (twin m k .one .item .load) (loads m k (frame bytes) e);
         takeEarly =
-            λ a b m byte x e.
-            take-early setting w (s .played) (s .accepted) (s .fine) (arrives w a b m e) byte x;
+            λ a b m kind byte x e.
+            take-early setting w (s .played) (s .accepted) (s .fine) (arrives w a b m e) kind byte x;
         frameEarly =
             λ a b m bytes x e.
             frame-early setting w (s .played) (s .accepted) (s .fine) (arrives w a b m e) bytes x;
@@ -141,9 +144,9 @@ module _ (L : Limits) (one-node : 1 ≤ L .nodes) (w : Board) (i : Alone L one-n
         phaseByte =
             λ a h. let z : 0 ≡ a = omega arith in
             subst (λ a. w .nodes a .phase ≡ w .count a % 256) z (ap (λ n. n .phase) (i .node) ∙ i .byte);
-        workByte = λ m byte k e. none-in m (w .items) (i .items) k;
+        workByte = λ m kind byte k e. none-in m (w .items) (i .items) k;
         frameByte = λ m bytes k e. none-in m (w .items) (i .items) k;
-        takeEarly = λ a b m byte x e l q. none-oldest a b m e;
+        takeEarly = λ a b m kind byte x e l q. none-oldest a b m e;
         frameEarly = λ a b m bytes x e l q. none-oldest a b m e;
       }
 

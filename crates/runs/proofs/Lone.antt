@@ -8,6 +8,7 @@ use native.Mathlib.Omega.{arith}
 use lib.Dec.{ltb, leb·zero}
 use borrow.Author.Tests.{ltb-true, le-ltb}
 use Rattle.base.specs.Limits.{Limits, fieldLimit, takenLimit}
+use Rattle.base.specs.declared.Kind.{Kind}
 use Rattle.base.proofs.Laws.{clash, cases}
 use Rattle.tree.specs.Tree.{dimension, awaited, receivers, runOf, place, placeIn, runBelow, smallestFrom}
 use Rattle.node.specs.Sums.{own, ownIssued}
@@ -83,10 +84,10 @@ module _ (L : Limits) (one-node : 1 ≤ L .nodes) where
           change = same refl refl;
         }
 
-    send-went : (b : ℕ) (y : Given Outcome) → SendWay L (w .nodes 0) b y
-        → Went w (afterSend (gave w 0 (y .node)) 0 b (y .answer))
-    send-went b y (SendWay.refused x s) = stays (w .nodes 0) refl
-    send-went b y (SendWay.done v b1 b2 bu ca) =
+    send-went : (kind : Kind) (b : ℕ) (y : Given Outcome) → SendWay L (w .nodes 0) b y
+        → Went w (afterSend (gave w 0 (y .node)) kind 0 b (y .answer))
+    send-went kind b y (SendWay.refused x s) = stays (w .nodes 0) refl
+    send-went kind b y (SendWay.done v b1 b2 bu ca) =
         absurd (no-send (w .nodes 0) b _ (ap (λ (n : Node). n .nodes) (i .node))
         (ap (λ (n : Node). n .number) (i .node)) (SendWay.done v b1 b2 bu ca) .1 refl)
 
@@ -137,10 +138,10 @@ module _ (L : Limits) (one-node : 1 ≤ L .nodes) where
 
     went : (e : Event) → Went w (step L 1 w e)
     unfolding step
-    went (sends a b) =
+    went (sends kind a b) =
         cases (Went w) (ltb a 1) _ _ (λ q. subst
-        (λ a. Went w (afterSend (gave w a (send L (w .nodes a) b .node)) a b (send L (w .nodes a) b .answer)))
-        (zero-is a q) (send-went b (send L (w .nodes 0) b) (send-way L (w .nodes 0) b))) (λ q. still)
+        (λ a. Went w (afterSend (gave w a (send L (w .nodes a) b .node)) kind a b (send L (w .nodes a) b .answer)))
+        (zero-is a q) (send-went kind b (send L (w .nodes 0) b) (send-way L (w .nodes 0) b))) (λ q. still)
     went (idles a) =
         cases (Went w) (ltb a 1) _ _ (λ q. subst
         (λ a. Went w (afterIdle (gave w a (idle L (w .nodes a) .node)) a (idle L (w .nodes a) .answer))) (zero-is a q)
@@ -179,8 +180,8 @@ module _ (L : Limits) (one-node : 1 ≤ L .nodes) where
         (ap (λ (n : Node). n .number) (i .node)) (send-way L (w .nodes 0) b) .1
         (subst (λ a. send L (w .nodes a) b .answer ≡ done) (sym z) e)
 
-    none-taken : (b n : ℕ) (e : Event) → TakeDone L 1 w b n e → ⊥
-    none-taken b n e (TakeDone.takes a m byte old lw ph d) =
+    none-taken : (kind : Kind) (b n : ℕ) (e : Event) → TakeDone L 1 w kind b n e → ⊥
+    none-taken kind b n e (TakeDone.takes a m byte old lw ph d) =
         let z : none ≡ some m = ap (oldest a b) (sym (i .items)) ∙ old in let y : _≡_ {A = ℕ} 0 1 = cc in omega arith
 
     leaves-idle : (len : ℕ) (b : Bool) → w .busy 0 ≡ b → Leaves L 1 w 0 len → w .busy 0 ≡ false
@@ -213,7 +214,7 @@ module _ (L : Limits) (one-node : 1 ≤ L .nodes) where
               λ a len h e b hb. let z : a ≡ b = omega arith in let y : w .count a ≡ w .count b = ap (w .count) z in
               omega arith;
           leftSend = λ a h n l b x hb e d. not-sent b x hb d;
-          leftTake = λ a h n l b e t. none-taken b n e t;
+          leftTake = λ a h n l kind b e t. none-taken kind b n e t;
         }
       where
         awake : (e : Event) → w .busy 0 ≡ false → step L 1 w e .busy 0 ≡ true → step L 1 w e .count 0 ≡ w .count 0

@@ -8,6 +8,7 @@ use native.Mathlib.Decide.{ℕ-discrete, decLt}
 use native.Mathlib.Omega.{arith}
 use lib.ListN.{length}
 use Rattle.base.specs.Choice.{both}
+use Rattle.base.specs.declared.Kind.{Kind}
 use Rattle.runs.specs.Board.{put, work, frame, Item, posted}
 use Rattle.cycle.proofs.Sums.{sum-at, pick, update, update-all, sum, sum-ext, sum-update, length-snoc}
 use Rattle.cycle.proofs.Lists.{All, all-append, all-map, all-mid}
@@ -37,7 +38,7 @@ hit-other k n q = go (ℕ-discrete k n)
     go (no d) = refl
 
 abbrev pub IsWork : Item → Type 0
-IsWork m = (byte : ℕ) × (m .load ≡ work byte)
+IsWork m = (kind : Kind) × ((byte : ℕ) × (m .load ≡ work kind byte))
 
 -- no two messages have the same name
 abbrev pub Apart : List Item → Type 0
@@ -66,10 +67,10 @@ apart-snoc (x ∷ xs) m h a = (
 )
 
 frame-not-work : {A : Type 0} (m : Item) (bs : List ℕ) → m .load ≡ frame bs → IsWork m → A
-frame-not-work m bs e w = let q = w .1 in let b = w .0 in go b q
+frame-not-work m bs e w = go (w .0) (w .1 .0) (w .1 .1)
   where
-    go : {A : Type 0} (b : ℕ) → m .load ≡ work b → A
-    go b q = let z : _≡_ {A = ℕ} 0 1 = cc in absurd (omega arith)
+    go : {A : Type 0} (k : Kind) (b : ℕ) → m .load ≡ work k b → A
+    go k b q = let z : _≡_ {A = ℕ} 0 1 = cc in absurd (omega arith)
 
 -- a message is marked untaken, with its phase
 abbrev pub Named : (ℕ → Option ℕ) → ℕ → Item → Type 0

@@ -6,6 +6,7 @@ use mathlib.Core.Option.{Option, some}
 use mathlib.Core.List.{List}
 use Prim.Native.Nat.{ℕ, _≤_, _<_}
 use Rattle.base.specs.Limits.{Limits, fieldLimit}
+use Rattle.base.specs.declared.Kind.{Kind}
 use Rattle.tree.specs.Tree.{dimension, awaited}
 use Rattle.node.specs.Sums.{dims}
 use Rattle.node.specs.Answers.{refused}
@@ -39,8 +40,8 @@ module _ {L : Limits} {P : ℕ} (setting : Setting L P) where
   -- an item that goes without being taken, stored or late
   pub data Mishap (w : Board) : Event → Type 0 where
     loss : (j : ℕ) → Mishap w (loses j)
-    badTake : (a b : ℕ) (m : Item) (byte x : ℕ) → oldest a b (w .items) ≡ some m → m .load ≡ work byte
-        → take L (w .nodes b) a byte .answer ≡ refused x → x ≢ 7 → Mishap w (delivers a b)
+    badTake : (a b : ℕ) (m : Item) (kind : Kind) (byte x : ℕ) → oldest a b (w .items) ≡ some m
+        → m .load ≡ work kind byte → take L (w .nodes b) kind a byte .answer ≡ refused x → x ≢ 7 → Mishap w (delivers a b)
     badFrame : (a b : ℕ) (m : Item) (bs : List ℕ) (x : ℕ) → oldest a b (w .items) ≡ some m → m .load ≡ frame bs
         → frameIn L (w .nodes b) bs .answer ≡ refused x → x ≢ 7 → Mishap w (delivers a b)
 

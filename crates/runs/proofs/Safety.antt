@@ -9,6 +9,8 @@ use native.Mathlib.Decide.{ℕ-discrete}
 use native.Mathlib.Omega.{arith}
 use lib.Dec.{ltb, eqb}
 use Rattle.base.specs.Limits.{Limits, fieldLimit}
+use Rattle.base.specs.declared.Kind.the-variants.{Job, Note}
+use Rattle.base.specs.declared.Kind.{Kind}
 use Rattle.base.proofs.Laws.{clash, cases}
 use Rattle.tree.specs.Tree.{dimension}
 use Rattle.node.specs.Change.{freshIn}
@@ -119,12 +121,12 @@ module _ {L : Limits} {P : ℕ} (setting : Setting L P) where
       same : w′ .busy a ≡ w .busy a → Change e a w′
       rests : w′ .busy a ≡ false → Change e a w′
       gone-on : w′ .count a ≡ suc (w .count a) → Change e a w′
-      took : TakeDone L P w a (w .count a) e → Change e a w′
+      took : TakeDone L P w Job a (w .count a) e → Change e a w′
 
-    sent-change : (x b a : ℕ) (y : Given Outcome) → SendWay L (w .nodes x) b y
-        → Change (sends x b) a (afterSend (gave w x (y .node)) x b (y .answer))
-    sent-change x b a y (SendWay.refused n s) = same refl
-    sent-change x b a y (SendWay.done v b1 b2 bu cap) = same refl
+    sent-change : (kind : Kind) (x b a : ℕ) (y : Given Outcome) → SendWay L (w .nodes x) b y
+        → Change (sends kind x b) a (afterSend (gave w x (y .node)) kind x b (y .answer))
+    sent-change kind x b a y (SendWay.refused n s) = same refl
+    sent-change kind x b a y (SendWay.done v b1 b2 bu cap) = same refl
 
     rest-change : (x a : ℕ) (n : Node) → Change (idles x) a (afterIdle (gave w x n) x done)
     rest-change x a n = by (ℕ-discrete a x)
@@ -163,31 +165,37 @@ module _ {L : Limits} {P : ℕ} (setting : Setting L P) where
         (λ z. same refl) (λ z. same refl)
 
     -- a message whose take is done is of the receiver's phase, and nobody has left that
-    take-phase : (x b : ℕ) (m : Item) (byte : ℕ) (y : Given Outcome) → oldest x b (w .items) ≡ some m
-        → m .load ≡ work byte → TakeWay L (w .nodes b) x byte y → y .answer ≡ done
+    take-phase : (x b : ℕ) (m : Item) (kind : Kind) (byte : ℕ) (y : Given Outcome) → oldest x b (w .items) ≡ some m
+        → m .load ≡ work kind byte → TakeWay L (w .nodes b) kind x byte y → y .answer ≡ done
         → (m .phase ≡ w .count b) × ((z : ℕ) → z < P → w .count z ≤ m .phase)
-    take-phase x b m byte y old lw (TakeWay.refused n s) e = done-not-refused n e
-    take-phase x b m byte y old lw (TakeWay.done v a1 a2 df cap) e =
-        let j = message-of q (arrives w x b m old) byte lw in (
-          same-phase q (arrives w x b m old) byte lw (j .0) (j .1) df ∙ sym (sim .counts b),
-          λ z h. omega (arith, not-behind q (arrives w x b m old) byte lw (j .0) (j .1) z h, sim .counts z),
+    take-phase x b m kind byte y old lw (TakeWay.refused n s) e = done-not-refused n e
+    take-phase x b m kind byte y old lw (TakeWay.done v a1 a2 df cap) e =
+        let j = message-of q (arrives w x b m old) kind byte lw in (
+          same-phase q (arrives w x b m old) kind byte lw (j .0) (j .1) df ∙ sym (sim .counts b),
+          λ z h. omega (arith, not-behind q (arrives w x b m old) kind byte lw (j .0) (j .1) z h, sim .counts z),
         )
 
-    awoken : (x b a : ℕ) (m : Item) (n : Node) → TakeDone L P w b (w .count b) (delivers x b)
-        → Change (delivers x b) a (afterTake (gave w b n) x b m done)
-    awoken x b a m n t = by (ℕ-discrete a b)
+    -- a job wakes its taker, a note nobody
+    taken-change : (x b a : ℕ) (m : Item) (n : Node) (kind : Kind) → TakeDone L P w kind b (w .count b) (delivers x b)
+        → Change (delivers x b) a (afterTake (gave w b n) x b m kind done)
+    taken-change x b a m n kind t = by kind t (ℕ-discrete a b)
       where
-        by : Dec (a ≡ b) → Change (delivers x b) a (afterTake (gave w b n) x b m done)
-        by (yes z) = took (subst (λ a. TakeDone L P w a (w .count a) (delivers x b)) (sym z) t)
-        by (no z) = same (put-other (w .busy) b true a z)
+        by : (kind : Kind) → TakeDone L P w kind b (w .count b) (delivers x b) → Dec (a ≡ b)
+            → Change (delivers x b) a (afterTake (gave w b n) x b m kind done)
+        by Job t (yes z) = took (subst (λ a. TakeDone L P w Job a (w .count a) (delivers x b)) (sym z) t)
+        by Note t (yes z) =
+            same (ap (put (w .busy) b (w .busy b)) z ∙ put-same (w .busy) b (w .busy b) ∙ ap (w .busy) (sym z))
+        by Job t (no z) = same (put-other (w .busy) b true a z)
+        by Note t (no z) = same (put-other (w .busy) b (w .busy b) a z)
 
-    take-change : (x b a : ℕ) (m : Item) (byte : ℕ) (y : Given Outcome) → oldest x b (w .items) ≡ some m
-        → m .load ≡ work byte → take L (w .nodes b) x byte ≡ y → TakeWay L (w .nodes b) x byte y
-        → Change (delivers x b) a (afterTake (gave w b (y .node)) x b m (y .answer))
-    take-change x b a m byte y old lw eq (TakeWay.refused n s) = off-change x b a n (w .nodes b)
-    take-change x b a m byte y old lw eq (TakeWay.done v a1 a2 df ca) =
-        awoken x b a m _ (TakeDone.takes x m byte old lw
-        (take-phase x b m byte (take L (w .nodes b) x byte) old lw (take-way L (w .nodes b) x byte)
+    take-change : (x b a : ℕ) (m : Item) (kind : Kind) (byte : ℕ) (y : Given Outcome)
+        → oldest x b (w .items) ≡ some m → m .load ≡ work kind byte → take L (w .nodes b) kind x byte ≡ y
+        → TakeWay L (w .nodes b) kind x byte y
+        → Change (delivers x b) a (afterTake (gave w b (y .node)) x b m kind (y .answer))
+    take-change x b a m kind byte y old lw eq (TakeWay.refused n s) = off-change x b a n (w .nodes b)
+    take-change x b a m kind byte y old lw eq (TakeWay.done v a1 a2 df ca) =
+        taken-change x b a m _ kind (TakeDone.takes x m byte old lw
+        (take-phase x b m kind byte (take L (w .nodes b) kind x byte) old lw (take-way L (w .nodes b) kind x byte)
         (ap (λ (y : Given Outcome). y .answer) eq) .0) (ap (λ (y : Given Outcome). y .answer) eq))
 
     frame-change : (x b a : ℕ) (bs : List ℕ) (y : Given Outcome) → FrameWay L (w .nodes b) bs y
@@ -204,15 +212,15 @@ module _ {L : Limits} {P : ℕ} (setting : Setting L P) where
     deliver-change x b a (some m) e = by (m .load) refl
       where
         by : (l : Load) → m .load ≡ l → Change (delivers x b) a (delivered L P w x b m l)
-        by (work byte) lw =
-            take-change x b a m byte (take L (w .nodes b) x byte) e lw refl (take-way L (w .nodes b) x byte)
+        by (work kind byte) lw =
+            take-change x b a m kind byte (take L (w .nodes b) kind x byte) e lw refl (take-way L (w .nodes b) kind x byte)
         by (frame bs) lf = frame-change x b a bs (frameIn L (w .nodes b) bs) (frame-way L (w .nodes b) bs)
 
     change : (e : Event) (a : ℕ) → Change e a (step L P w e)
     unfolding step
-    change (sends x b) a =
-        cases (Change (sends x b) a) (ltb x P) _ _
-        (λ z. sent-change x b a (send L (w .nodes x) b) (send-way L (w .nodes x) b)) (λ z. same refl)
+    change (sends kind x b) a =
+        cases (Change (sends kind x b) a) (ltb x P) _ _
+        (λ z. sent-change kind x b a (send L (w .nodes x) b) (send-way L (w .nodes x) b)) (λ z. same refl)
     change (idles x) a =
         cases (Change (idles x) a) (ltb x P) _ _ (λ z. idle-change x a (idle L (w .nodes x)) (idle-way L (w .nodes x)))
         (λ z. same refl)
@@ -223,10 +231,10 @@ module _ {L : Limits} {P : ℕ} (setting : Setting L P) where
     change (loses j) a = same refl
 
     wakes : (e : Event) (a : ℕ) → a < P → w .busy a ≡ false → step L P w e .busy a ≡ true
-        → step L P w e .count a ≡ w .count a → TakeDone L P w a (w .count a) e
+        → step L P w e .count a ≡ w .count a → TakeDone L P w Job a (w .count a) e
     wakes e a h b b′ n = by (change e a)
       where
-        by : Change e a (step L P w e) → TakeDone L P w a (w .count a) e
+        by : Change e a (step L P w e) → TakeDone L P w Job a (w .count a) e
         by (same z) = clash (sym b′ ∙ z ∙ b)
         by (rests z) = clash (sym b′ ∙ z)
         by (gone-on z) = absurd (omega arith)
@@ -302,12 +310,13 @@ module _ {L : Limits} {P : ℕ} (setting : Setting L P) where
     gone-at : (a len : ℕ) → a < P → Leaves L P w a len → Gone a
     gone-at a len h e = gone a len h (barrier L (w .nodes a) len) (call-way L (w .nodes a) len) e
 
-    left-take : (a : ℕ) → a < P → (n : ℕ) → n < w .count a → (b : ℕ) (e : Event) → TakeDone L P w b n e → ⊥
-    left-take a h n l b e (TakeDone.takes x m byte old lw ph d) =
+    left-take : (a : ℕ) → a < P → (n : ℕ) → n < w .count a → (kind : Kind) (b : ℕ) (e : Event)
+        → TakeDone L P w kind b n e → ⊥
+    left-take a h n l kind b e (TakeDone.takes x m byte old lw ph d) =
         omega (
           arith,
-          take-phase x b m byte (take L (w .nodes b) x byte) old lw
-              (take-way L (w .nodes b) x byte) d .1 a h,
+          take-phase x b m kind byte (take L (w .nodes b) kind x byte) old lw
+              (take-way L (w .nodes b) kind x byte) d .1 a h,
         )
 
     is-safe : Safe L P w

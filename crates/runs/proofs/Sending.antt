@@ -8,6 +8,7 @@ use Prim.Native.Nat.{ℕ, suc, _<_}
 use native.Mathlib.Omega.{arith}
 use lib.ListN.{length, length-set}
 use Rattle.base.specs.Limits.{Limits, fieldLimit}
+use Rattle.base.specs.declared.Kind.{Kind}
 use Rattle.tree.specs.Tree.{dimension, distance}
 use Rattle.node.specs.Change.{withBusy}
 use Rattle.node.specs.Answers.{Given, Outcome}
@@ -83,10 +84,10 @@ module _ {L : Limits} {P : ℕ} {setting : Setting L P} {w : Board} (play : Play
         mul-le-mul-right (L .sends) (setting .few),
       )
 
-  pub send-next : (a b : ℕ) → a < P → (q : Given Outcome) → SendWay L (w .nodes a) b q
-      → Next setting w play (sends a b) (afterSend (gave w a (q .node)) a b (q .answer))
-  send-next a b h q (SendWay.refused x s) = held play (sends a b) a
-  send-next a b h q (SendWay.done va b1 b2 bu cap) =
+  pub send-next : (kind : Kind) (a b : ℕ) → a < P → (q : Given Outcome) → SendWay L (w .nodes a) b q
+      → Next setting w play (sends kind a b) (afterSend (gave w a (q .node)) kind a b (q .answer))
+  send-next kind a b h q (SendWay.refused x s) = held play (sends kind a b) a
+  send-next kind a b h q (SendWay.done va b1 b2 bu cap) =
       record {
         played = record {
           ledger = ledgerWith ledger (ledger .phase a) u ms;
@@ -154,7 +155,7 @@ module _ {L : Limits} {P : ℕ} {setting : Setting L P} {w : Board} (play : Play
             from = a;
             to = b;
             load =
-                work (put (w .nodes) a (oneSent (w .nodes a) (distance (w .nodes a .nodes) (w .nodes a .number) b))
+                work kind (put (w .nodes) a (oneSent (w .nodes a) (distance (w .nodes a .nodes) (w .nodes a .number) b))
                 a .phase);
             phase = w .count a;
             name = w .sends;

@@ -111,8 +111,8 @@ module _ {L : Limits} {P : ℕ} (setting : Setting L P) where
     pub second : f .pass ≡ 2 → (g : Entry) → Has p s (fieldOf g) → secondEntries (secondOf f) g ≡ x g
 
   abbrev pub Loads : ℕ → ℕ → Load → Content → Type 0
-  Loads a c (work byte) message = byte ≡ c % 256
-  Loads a c (work byte) (report s x) = ⊥
+  Loads a c (work kind byte) message = byte ≡ c % 256
+  Loads a c (work kind byte) (report s x) = ⊥
   Loads a c (frame bs) message = ⊥
   Loads a c (frame bs) (report s x) = Says a c (fieldsOf p bs) s x
 

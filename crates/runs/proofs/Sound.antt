@@ -11,6 +11,7 @@ use lib.ListN.{length}
 use lib.Dec.{ltb, eqb}
 use borrow.Author.Tests.{ltb-true, ne-eqb, le-ltb}
 use Rattle.base.specs.Limits.{Limits}
+use Rattle.base.specs.declared.Kind.{Kind}
 use Rattle.base.proofs.Laws.{cases}
 use Rattle.tree.specs.Tree.{dimension, receivers}
 use Rattle.frame.specs.Frame.{fieldsOf, frameBytes}
@@ -39,7 +40,7 @@ use Rattle.runs.proofs.Emit.{emitted-read}
 use Rattle.runs.proofs.Played.{Played}
 
 abbrev pub FineLoad : Limits → ℕ → Load → Type 0
-FineLoad L P (work byte) = Unit {0}
+FineLoad L P (work kind byte) = Unit {0}
 FineLoad L P (frame bytes) = Read L P bytes (fieldsOf (dimension P) bytes)
 
 abbrev pub Fine : Limits → ℕ → Item → Type 0
@@ -47,10 +48,10 @@ Fine L P m = (m .from ≢ m .to) × FineLoad L P (m .load)
 
 -- ---- what an answer does to the nodes
 
-after-send : (w : Board) (a b : ℕ) (o : Outcome) → afterSend w a b o .nodes ≡ w .nodes
-after-send w a b done = refl
-after-send w a b dropped = refl
-after-send w a b (refused x) = refl
+after-send : (w : Board) (kind : Kind) (a b : ℕ) (o : Outcome) → afterSend w kind a b o .nodes ≡ w .nodes
+after-send w kind a b done = refl
+after-send w kind a b dropped = refl
+after-send w kind a b (refused x) = refl
 
 after-idle : (w : Board) (a : ℕ) (o : Outcome) → afterIdle w a o .nodes ≡ w .nodes
 after-idle w a done = refl
@@ -67,10 +68,10 @@ after-call w a n (barred x) = refl
 off-nodes : (w : Board) (a b x : ℕ) → offUnlessEarly w a b x .nodes ≡ w .nodes
 off-nodes w a b x = cases (λ (v : Board). v .nodes ≡ w .nodes) (eqb x 7) _ _ (λ e. refl) (λ e. refl)
 
-after-take : (w : Board) (a b : ℕ) (m : Item) (o : Outcome) → afterTake w a b m o .nodes ≡ w .nodes
-after-take w a b m done = refl
-after-take w a b m dropped = refl
-after-take w a b m (refused x) = off-nodes w a b x
+after-take : (w : Board) (a b : ℕ) (m : Item) (kind : Kind) (o : Outcome) → afterTake w a b m kind o .nodes ≡ w .nodes
+after-take w a b m kind done = refl
+after-take w a b m kind dropped = refl
+after-take w a b m kind (refused x) = off-nodes w a b x
 
 after-frame : (w : Board) (a b : ℕ) (o : Outcome) → afterFrame w a b o .nodes ≡ w .nodes
 after-frame w a b done = refl
@@ -92,10 +93,10 @@ module _ {L : Limits} {P : ℕ} (setting : Setting L P) where
         (put-all (λ b m. b < P → valid L m ≡ true) (w .nodes) a n h (λ b z. ok b))
 
     delivery : (a b : ℕ) (m : Item) (l : Load) → Accepted (delivered L P w a b m l)
-    delivery a b m (work byte) =
-        let r = take L (w .nodes b) a byte in
-        given b (r .node) _ (after-take (gave w b (r .node)) a b m (r .answer))
-        (λ h. take-valid L (w .nodes b) (ok b h) a byte)
+    delivery a b m (work kind byte) =
+        let r = take L (w .nodes b) kind a byte in
+        given b (r .node) _ (after-take (gave w b (r .node)) a b m kind (r .answer))
+        (λ h. take-valid L (w .nodes b) (ok b h) kind a byte)
     delivery a b m (frame bytes) =
         let r = frameIn L (w .nodes b) bytes in
         given b (r .node) _ (after-frame (gave w b (r .node)) a b (r .answer))
@@ -107,10 +108,10 @@ module _ {L : Limits} {P : ℕ} (setting : Setting L P) where
 
     pub accepted-step : (e : Event) → Accepted (step L P w e)
     unfolding step
-    accepted-step (sends a b) =
+    accepted-step (sends kind a b) =
         let r = send L (w .nodes a) b in
         cases Accepted (ltb a P) _ _
-        (λ z. given a (r .node) _ (after-send (gave w a (r .node)) a b (r .answer))
+        (λ z. given a (r .node) _ (after-send (gave w a (r .node)) kind a b (r .answer))
         (λ h. send-valid L (w .nodes a) (ok a h) b)) (λ z. ok)
     accepted-step (idles a) =
         let r = idle L (w .nodes a) in
@@ -149,10 +150,10 @@ module _ {L : Limits} {P : ℕ} (setting : Setting L P) where
     hold : (a : ℕ) → a < P → Holds setting a (w .count a) (w .nodes a) (stateOf (play .ledger) a)
     hold a h = play .sim .node a h
 
-    send-fine : (a b : ℕ) → a < P → (r : Given Outcome) → SendWay L (w .nodes a) b r
-        → AllFine (afterSend (gave w a (r .node)) a b (r .answer))
-    send-fine a b h r (SendWay.refused x s) = fine
-    send-fine a b h r (SendWay.done v low other busy cap) =
+    send-fine : (kind : Kind) (a b : ℕ) → a < P → (r : Given Outcome) → SendWay L (w .nodes a) b r
+        → AllFine (afterSend (gave w a (r .node)) kind a b (r .answer))
+    send-fine kind a b h r (SendWay.refused x s) = fine
+    send-fine kind a b h r (SendWay.done v low other busy cap) =
         all-append (Fine L P) (w .items) _ fine (((λ z. other (sym z ∙ sym (hold a h .number))), tt), tt)
 
     idle-fine : (a : ℕ) (o : Outcome) (n : Node) → AllFine (afterIdle (gave w a n) a o)
@@ -206,10 +207,10 @@ module _ {L : Limits} {P : ℕ} (setting : Setting L P) where
       unless-early : (x : ℕ) → AllFine (offUnlessEarly (gave w b n) a b x)
       unless-early x = cases AllFine (eqb x 7) _ _ (λ z. fine) (λ z. off-fine a b m e)
 
-      take-fine : (o : Outcome) → AllFine (afterTake (gave w b n) a b m o)
-      take-fine done = off-fine a b m e
-      take-fine dropped = off-fine a b m e
-      take-fine (refused x) = unless-early x
+      take-fine : (kind : Kind) (o : Outcome) → AllFine (afterTake (gave w b n) a b m kind o)
+      take-fine kind done = off-fine a b m e
+      take-fine kind dropped = off-fine a b m e
+      take-fine kind (refused x) = unless-early x
 
       frame-fine : (o : Outcome) → AllFine (afterFrame (gave w b n) a b o)
       frame-fine done = off-fine a b m e
@@ -218,7 +219,8 @@ module _ {L : Limits} {P : ℕ} (setting : Setting L P) where
 
     deliver-fine : (a b : ℕ) (m : Item) → oldest a b (w .items) ≡ some m → (l : Load)
         → AllFine (delivered L P w a b m l)
-    deliver-fine a b m e (work byte) = let r = take L (w .nodes b) a byte in take-fine a b m e (r .node) (r .answer)
+    deliver-fine a b m e (work kind byte) =
+        let r = take L (w .nodes b) kind a byte in take-fine a b m e (r .node) kind (r .answer)
     deliver-fine a b m e (frame bytes) =
         let r = frameIn L (w .nodes b) bytes in frame-fine a b m e (r .node) (r .answer)
 
@@ -232,9 +234,9 @@ module _ {L : Limits} {P : ℕ} (setting : Setting L P) where
 
     pub fine-step : (e : Event) → AllFine (step L P w e)
     unfolding step
-    fine-step (sends a b) =
+    fine-step (sends kind a b) =
         cases AllFine (ltb a P) _ _
-        (λ z. send-fine a b (ltb-true a P z) (send L (w .nodes a) b) (send-way L (w .nodes a) b)) (λ z. fine)
+        (λ z. send-fine kind a b (ltb-true a P z) (send L (w .nodes a) b) (send-way L (w .nodes a) b)) (λ z. fine)
     fine-step (idles a) =
         let r = idle L (w .nodes a) in cases AllFine (ltb a P) _ _ (λ z. idle-fine a (r .answer) (r .node)) (λ z. fine)
     fine-step (calls a room) =

@@ -93,10 +93,10 @@ module _ {L : Limits} {P : ℕ} {setting : Setting L P} {w : Board} (play : Play
 
   pub next : (e : Event) → Next setting w play e (step L P w e)
   unfolding step
-  next (sends a b) =
-      cases (Next setting w play (sends a b)) (ltb a P) _ _
-      (λ q. send-next play a b (ltb-true a P q) (send L (w .nodes a) b) (send-way L (w .nodes a) b))
-      (λ q. stay play (sends a b))
+  next (sends kind a b) =
+      cases (Next setting w play (sends kind a b)) (ltb a P) _ _
+      (λ q. send-next play kind a b (ltb-true a P q) (send L (w .nodes a) b) (send-way L (w .nodes a) b))
+      (λ q. stay play (sends kind a b))
   next (idles a) =
       cases (Next setting w play (idles a)) (ltb a P) _ _
       (λ q. idle-next play a (ltb-true a P q) (idle L (w .nodes a)) (idle-way L (w .nodes a)))

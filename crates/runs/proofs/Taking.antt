@@ -1,17 +1,17 @@
 -- A delivery of a work message is a step.
 use mathlib.Core.Path.{_≡_, refl, sym, ap, _∙_, subst}
 use mathlib.Core.Logic.{_≢_, inl}
-use mathlib.Core.Bool.{true}
+use mathlib.Core.Bool.{Bool, true}
 use mathlib.Core.List.{List, _++_}
 use Prim.Native.Nat.{ℕ, _+_, _-_, _%_, _≤_, _<_}
 use native.Mathlib.Omega.{arith}
 use lib.ListN.{length-set}
 use Rattle.base.specs.Limits.{Limits, fieldLimit}
+use Rattle.base.specs.declared.Kind.{Kind}
 use Rattle.tree.specs.Tree.{dimension, distance}
 use Rattle.frame.specs.Timing.{difference}
-use Rattle.node.specs.Change.{withBusy, at}
 use Rattle.node.specs.Answers.{Given, Outcome, done}
-use Rattle.node.specs.Calls.{oneTaken, take}
+use Rattle.node.specs.Calls.{wakes, counted, take}
 use Rattle.node.specs.declared.Node.{Node}
 use Rattle.runs.specs.Board.{put, work, Item, Board, delivers, gave, carries, afterTake}
 use Rattle.cycle.proofs.OnePhase.{message, report, State, atStep, withTallies, bumpTaken, Content}
@@ -56,18 +56,18 @@ module _ {L : Limits} {P : ℕ} {setting : Setting L P} {w : Board} (play : Play
     abbrev twin : Cut (Carried setting) (place .pre) (place .post) m (ledger .items)
     twin = twinOf play arrival
 
-    pub message-of : (byte : ℕ) → m .load ≡ work byte → (twin .one .item .load ≡ message) × (byte ≡ m .phase % 256)
-    message-of byte q =
+    pub message-of : (kind : Kind) (byte : ℕ) → m .load ≡ work kind byte → (twin .one .item .load ≡ message) × (byte ≡ m .phase % 256)
+    message-of kind byte q =
         go (twin .one .item .load) refl (subst
         (λ l. Loads setting (m .from) (m .phase) l (twin .one .item .load)) q (twin .related .load))
       where
         go : (l : Content) → twin .one .item .load ≡ l
-            → Loads setting (m .from) (m .phase) (work byte) (twin .one .item .load)
+            → Loads setting (m .from) (m .phase) (work kind byte) (twin .one .item .load)
             → (twin .one .item .load ≡ message) × (byte ≡ m .phase % 256)
-        go message z h = (z, subst (Loads setting (m .from) (m .phase) (work byte)) z h)
-        go (report s x) z h = absurd (subst (Loads setting (m .from) (m .phase) (work byte)) z h)
+        go message z h = (z, subst (Loads setting (m .from) (m .phase) (work kind byte)) z h)
+        go (report s x) z h = absurd (subst (Loads setting (m .from) (m .phase) (work kind byte)) z h)
 
-    module _ (byte : ℕ) (lw : m .load ≡ work byte) (lj : twin .one .item .load ≡ message)
+    module _ (kind : Kind) (byte : ℕ) (lw : m .load ≡ work kind byte) (lj : twin .one .item .load ≡ message)
         (by : byte ≡ m .phase % 256) where
       -- while it is under way nobody has left its phase
       pub not-behind : (y : ℕ) → y < P → ledger .phase y ≤ m .phase
@@ -85,19 +85,19 @@ module _ {L : Limits} {P : ℕ} {setting : Setting L P} {w : Board} (play : Play
           (sym (hold play b (receiver-lt play arrival) .phase ∙ ap (λ n. n % 256) (sim .counts b)))
           ∙ q)
 
-      pub take-next : (q : Given Outcome) → take L (w .nodes b) a byte ≡ q → TakeWay L (w .nodes b) a byte q
-          → Next setting w play (delivers a b) (afterTake (gave w b (q .node)) a b m (q .answer))
+      pub take-next : (q : Given Outcome) → take L (w .nodes b) kind a byte ≡ q → TakeWay L (w .nodes b) kind a byte q
+          → Next setting w play (delivers a b) (afterTake (gave w b (q .node)) a b m kind (q .answer))
       take-next q eq (TakeWay.refused x s) =
-          refused-next play arrival x (λ z. Mishap.badTake a b m byte x (arrival .first) lw
+          refused-next play arrival x (λ z. Mishap.badTake a b m kind byte x (arrival .first) lw
           (ap (λ (q : Given Outcome). q .answer) eq) z)
       take-next q eq (TakeWay.done va a1 a2 df cap) =
-          subst (λ l. Next setting w play (delivers a b) (carries (afterTake (gave w b n′) a b m done) l))
+          subst (λ l. Next setting w play (delivers a b) (carries (afterTake (gave w b n′) a b m kind done) l))
           (sym (place .rest))
           (record {
             played = record {
               ledger = ledgerWith ledger (ledger .phase b) u ms;
               reached = Reached.next reached
-                  (act-take reached (twin .pre) (twin .post) (m .phase) a b j
+                  (act-take reached (twin .pre) (twin .post) (m .phase) a b j (wakes kind (stateOf ledger b .busy))
                   (whole play arrival message lj) ph (sender-lt play arrival) (receiver-lt play arrival) jp shell);
               sim =
                   acted setting sim b (receiver-lt play arrival) u v refl n′ ok′
@@ -106,12 +106,13 @@ module _ {L : Limits} {P : ℕ} {setting : Setting L P} {w : Board} (play : Play
                   (stored-same setting sim b (receiver-lt play arrival) u v refl n′ ok′
                   (sim .capped (ledger .phase b) b (receiver-lt play arrival)) ms
                   (λ s. refl)) (off-win play arrival))
-                  (put (w .busy) b true) (sym (put-same (w .busy) b true))
-                  (λ y z. put-other (w .busy) b true y z) _ (w .sends);
+                  (put (w .busy) b busy)
+                  (ap (wakes kind) (sim .busy b (receiver-lt play arrival)) ∙ sym (put-same (w .busy) b busy))
+                  (λ y z. put-other (w .busy) b busy y z) _ (w .sends);
               marks =
                   marks-take P (w .untaken) (w .sends) (place .pre) (place .post) m ledger
                   (subst (λ l. Marks P (w .untaken) (w .sends) l ledger) (place .whole) marks)
-                  (byte, lw) a b v ms (receiver-lt play arrival) ph refl;
+                  (kind, (byte, lw)) a b v ms (receiver-lt play arrival) ph refl;
             };
             calm = inl (lossy-same ledger (ledger .phase b) u ms refl);
           })
@@ -123,19 +124,20 @@ module _ {L : Limits} {P : ℕ} {setting : Setting L P} {w : Board} (play : Play
           j = distance (w .nodes b .nodes) (w .nodes b .number) a
 
           n′ : Node
-          n′ =
-              at (withBusy (oneTaken (w .nodes b) (distance (w .nodes b .nodes) (w .nodes b .number) a)) true) 1 0 true
-              0
+          n′ = counted (w .nodes b) kind (distance (w .nodes b .nodes) (w .nodes b .number) a)
+
+          busy : Bool
+          busy = wakes kind (w .busy b)
 
           v : State
           v =
-              atStep (withTallies (stateOf ledger b) true
+              atStep (withTallies (stateOf ledger b) (wakes kind (stateOf ledger b .busy))
               (bumpTaken (stateOf ledger b .tallies) (distance (w .nodes b .nodes) (w .nodes b .number) a))) 0 true 0
 
           u : Page
           u =
               pageTaken (ledger .pages (ledger .phase b)) a b
-              (atStep (withTallies (stateOf ledger b) true
+              (atStep (withTallies (stateOf ledger b) (wakes kind (stateOf ledger b .busy))
               (bumpTaken (stateOf ledger b .tallies) (distance (w .nodes b .nodes) (w .nodes b .number) a))) 0 true 0)
 
           ms : List Dated
@@ -176,6 +178,6 @@ module _ {L : Limits} {P : ℕ} {setting : Setting L P} {w : Board} (play : Play
                     };
                 like =
                     like-taken p (w .nodes b) (stateOf ledger b) (dims-is play b (receiver-lt play arrival))
-                    (o .like) j jp
+                    (o .like) kind j jp
                     (omega (arith, o .sized .taken, jp, dim-low setting));
               }

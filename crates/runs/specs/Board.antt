@@ -6,11 +6,12 @@ use Prim.Native.Nat.{ℕ, zero, suc}
 use lib.Dec.{ltb, eqb}
 use Rattle.base.specs.Choice.{choose, both}
 use Rattle.base.specs.Limits.{Limits}
+use Rattle.base.specs.declared.Kind.{Kind}
 use Rattle.frame.specs.Frame.{frameBytes}
 use Rattle.node.specs.Sums.{dims}
 use Rattle.node.specs.Change.{freshIn}
 use Rattle.node.specs.Answers.{Outcome, done, dropped, refused, Barrier, sent, waits, moved, left, barred}
-use Rattle.node.specs.Calls.{send, take, idle, frameIn}
+use Rattle.node.specs.Calls.{wakes, send, take, idle, frameIn}
 use Rattle.node.specs.Barrier.{frameDue, barrier}
 use Rattle.node.specs.declared.Node.{Node}
 
@@ -18,9 +19,9 @@ use Rattle.node.specs.declared.Node.{Node}
 abbrev pub put : {A : Type 0} → (ℕ → A) → ℕ → A → ℕ → A
 put f i v j = choose (eqb j i) v (f j)
 
--- what is on a link: a work message with the phase byte of its sender, or the bytes of a frame
+-- what is on a link: a job or a note with the phase byte of its sender, or the bytes of a frame
 pub data Load : Type 0 where
-  work : ℕ → Load
+  work : Kind → ℕ → Load
   frame : List ℕ → Load
 
 -- An item under way. History (rule H5): the phase of its sender when it was sent, counted without end; and which of all
@@ -43,10 +44,10 @@ pub record Board : Type 0 where
   pub untaken : ℕ → Option ℕ
   pub sends : ℕ
 
--- rule H2: a send of a node to a number; an idle call; a barrier call with a buffer of a length; a delivery from a node
+-- rule H2: a send of a node to a number, of a job or a note; an idle call; a barrier call with a buffer of a length; a delivery from a node
 -- to another; a loss of the j-th item
 pub data Event : Type 0 where
-  sends : ℕ → ℕ → Event
+  sends : Kind → ℕ → ℕ → Event
   idles : ℕ → Event
   calls : ℕ → ℕ → Event
   delivers : ℕ → ℕ → Event
@@ -114,23 +115,23 @@ turns w a t =
     }
 
 -- rule H3: a work message goes last on the link to its receiver; it is untaken
-abbrev pub sentOut : Board → ℕ → ℕ → Board
-sentOut w a b =
+abbrev pub sentOut : Board → Kind → ℕ → ℕ → Board
+sentOut w kind a b =
     record {
       nodes = w .nodes;
       items =
           w .items
-          ++ (record { from = a; to = b; load = work (w .nodes a .phase); phase = w .count a; name = w .sends } ∷ []);
+          ++ (record { from = a; to = b; load = work kind (w .nodes a .phase); phase = w .count a; name = w .sends } ∷ []);
       count = w .count;
       busy = w .busy;
       untaken = put (w .untaken) (w .sends) (some (w .count a));
       sends = suc (w .sends);
     }
 
-abbrev pub afterSend : Board → ℕ → ℕ → Outcome → Board
-afterSend w a b done = sentOut w a b
-afterSend w a b dropped = w
-afterSend w a b (refused x) = w
+abbrev pub afterSend : Board → Kind → ℕ → ℕ → Outcome → Board
+afterSend w kind a b done = sentOut w kind a b
+afterSend w kind a b dropped = w
+afterSend w kind a b (refused x) = w
 
 -- an idle call that is done ends busy
 abbrev pub afterIdle : Board → ℕ → Outcome → Board
@@ -162,19 +163,19 @@ afterCall w a n (barred x) = w
 abbrev pub offUnlessEarly : Board → ℕ → ℕ → ℕ → Board
 offUnlessEarly w a b x = choose (eqb x 7) w (carries w (without a b (w .items)))
 
--- a take that is done makes the node busy, and the message is no longer untaken
-abbrev pub afterTake : Board → ℕ → ℕ → Item → Outcome → Board
-afterTake w a b m done =
+-- a take that is done makes the node busy if it is of a job, and the message is no longer untaken
+abbrev pub afterTake : Board → ℕ → ℕ → Item → Kind → Outcome → Board
+afterTake w a b m kind done =
     record {
       nodes = w .nodes;
       items = without a b (w .items);
       count = w .count;
-      busy = put (w .busy) b true;
+      busy = put (w .busy) b (wakes kind (w .busy b));
       untaken = put (w .untaken) (m .name) none;
       sends = w .sends;
     }
-afterTake w a b m dropped = carries w (without a b (w .items))
-afterTake w a b m (refused x) = offUnlessEarly w a b x
+afterTake w a b m kind dropped = carries w (without a b (w .items))
+afterTake w a b m kind (refused x) = offUnlessEarly w a b x
 
 abbrev pub afterFrame : Board → ℕ → ℕ → Outcome → Board
 afterFrame w a b done = carries w (without a b (w .items))
@@ -186,8 +187,8 @@ afterFrame w a b (refused x) = offUnlessEarly w a b x
 module _ (L : Limits) (P : ℕ) where
   -- rule H4: work is handed to take and a frame to frame in, at b
   abbrev pub delivered : Board → ℕ → ℕ → Item → Load → Board
-  delivered w a b m (work phase) =
-      let r = take L (w .nodes b) a phase in afterTake (gave w b (r .node)) a b m (r .answer)
+  delivered w a b m (work kind phase) =
+      let r = take L (w .nodes b) kind a phase in afterTake (gave w b (r .node)) a b m kind (r .answer)
   delivered w a b m (frame bytes) =
       let r = frameIn L (w .nodes b) bytes in afterFrame (gave w b (r .node)) a b (r .answer)
 
@@ -196,8 +197,8 @@ module _ (L : Limits) (P : ℕ) where
   deliveredOldest w a b none = w
   deliveredOldest w a b (some m) = delivered w a b m (m .load)
 
-  abbrev pub sendEvent : Board → ℕ → ℕ → Board
-  sendEvent w a b = let r = send L (w .nodes a) b in afterSend (gave w a (r .node)) a b (r .answer)
+  abbrev pub sendEvent : Board → Kind → ℕ → ℕ → Board
+  sendEvent w kind a b = let r = send L (w .nodes a) b in afterSend (gave w a (r .node)) kind a b (r .answer)
 
   abbrev pub idleEvent : Board → ℕ → Board
   idleEvent w a = let r = idle L (w .nodes a) in afterIdle (gave w a (r .node)) a (r .answer)
@@ -208,7 +209,7 @@ module _ (L : Limits) (P : ℕ) where
 
   -- a call is at a node of the board
   unfoldable pub step : Board → Event → Board
-  step w (sends a b) = choose (ltb a P) (sendEvent w a b) w
+  step w (sends kind a b) = choose (ltb a P) (sendEvent w kind a b) w
   step w (idles a) = choose (ltb a P) (idleEvent w a) w
   step w (calls a room) = choose (ltb a P) (callEvent w a room) w
   step w (delivers a b) = deliveredOldest w a b (oldest a b (w .items))

@@ -6,6 +6,8 @@ use mathlib.Core.Option.{some}
 use mathlib.Core.List.{List, [], _∷_, List·Memᴰ}
 use Prim.Native.Nat.{ℕ, _^_, _≤_, _<_}
 use Rattle.base.specs.Limits.{Limits, fieldLimit, width}
+use Rattle.base.specs.declared.Kind.{Kind}
+use Rattle.base.specs.declared.Kind.the-variants.{Job}
 use Rattle.tree.specs.Tree.{dimension}
 use Rattle.frame.specs.Frame.{frameLength}
 use Rattle.node.specs.Answers.{done, Barrier, sent, moved, left}
@@ -18,10 +20,10 @@ module _ (L : Limits) (P : ℕ) where
   abbrev pub SendDone : Board → ℕ → ℕ → Type 0
   SendDone w a b = send L (w .nodes a) b .answer ≡ done
 
-  -- the event is a delivery to b whose take, of a message of phase n, is done
-  pub data TakeDone (w : Board) (b n : ℕ) : Event → Type 0 where
-    takes : (a : ℕ) (m : Item) (byte : ℕ) → oldest a b (w .items) ≡ some m → m .load ≡ work byte → m .phase ≡ n
-        → take L (w .nodes b) a byte .answer ≡ done → TakeDone w b n (delivers a b)
+  -- the event is a delivery to b whose take, of a job or a note of phase n, is done
+  pub data TakeDone (w : Board) (kind : Kind) (b n : ℕ) : Event → Type 0 where
+    takes : (a : ℕ) (m : Item) (byte : ℕ) → oldest a b (w .items) ≡ some m → m .load ≡ work kind byte → m .phase ≡ n
+        → take L (w .nodes b) kind a byte .answer ≡ done → TakeDone w kind b n (delivers a b)
 
   -- a barrier call of a would leave
   abbrev pub Leaves : Board → ℕ → ℕ → Type 0
@@ -32,20 +34,21 @@ module _ (L : Limits) (P : ℕ) where
     pub busySend : (a b : ℕ) → a < P → SendDone w a b → w .busy a ≡ true
     -- and a state says busy where the history does
     pub busyIs : (a : ℕ) → a < P → w .nodes a .busy ≡ w .busy a
-    -- 2: an idle node becomes busy without leaving only by a take of a message of its own phase
+    -- 2: an idle node becomes busy without leaving only by a take of a job of its own phase
     pub wakes : (e : Event) (a : ℕ) → a < P → w .busy a ≡ false → step L P w e .busy a ≡ true
-        → step L P w e .count a ≡ w .count a → TakeDone w a (w .count a) e
-    -- 3: a node leaves only where no message of its phase is untaken,
+        → step L P w e .count a ≡ w .count a → TakeDone w Job a (w .count a) e
+    -- 3: a node leaves only where no job or note of its phase is untaken,
     pub leavesTaken : (a room : ℕ) → a < P → Leaves w a room → (i : ℕ) → w .untaken i ≢ some (w .count a)
     -- no node that is still in it is busy,
     pub leavesIdle : (a room : ℕ) → a < P → Leaves w a room → (b : ℕ) → b < P → w .count b ≡ w .count a
         → w .busy b ≡ false
     -- and no node has yet to reach it
     pub leavesReached : (a room : ℕ) → a < P → Leaves w a room → (b : ℕ) → b < P → w .count a ≤ w .count b
-    -- 4: once a node has left a phase, no message of it is sent,
+    -- 4: once a node has left a phase, no job or note of it is sent,
     pub leftSend : (a : ℕ) → a < P → (n : ℕ) → n < w .count a → (b c : ℕ) → b < P → w .count b ≡ n → SendDone w b c → ⊥
     -- and none is taken
-    pub leftTake : (a : ℕ) → a < P → (n : ℕ) → n < w .count a → (b : ℕ) (e : Event) → TakeDone w b n e → ⊥
+    pub leftTake : (a : ℕ) → a < P → (n : ℕ) → n < w .count a → (kind : Kind) (b : ℕ) (e : Event)
+        → TakeDone w kind b n e → ⊥
 
   -- a barrier call sends, moves or leaves
   pub data Goes : Barrier → Type 0 where
@@ -68,7 +71,7 @@ module _ (L : Limits) (P : ℕ) where
 -- a run without a loss
 abbrev pub NoLoss : List Event → Type 0
 NoLoss [] = Unit {0}
-NoLoss (sends a b ∷ es) = NoLoss es
+NoLoss (sends kind a b ∷ es) = NoLoss es
 NoLoss (idles a ∷ es) = NoLoss es
 NoLoss (calls a room ∷ es) = NoLoss es
 NoLoss (delivers a b ∷ es) = NoLoss es

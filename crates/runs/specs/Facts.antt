@@ -6,6 +6,7 @@ use mathlib.Core.List.{List, List·Memᴰ}
 use Prim.Native.Nat.{ℕ, suc, _%_, _≤_, _<_}
 use lib.ListN.{getD}
 use Rattle.base.specs.Limits.{Limits}
+use Rattle.base.specs.declared.Kind.{Kind}
 use Rattle.node.specs.State.{valid}
 use Rattle.node.specs.Answers.{refused}
 use Rattle.node.specs.Calls.{take, frameIn}
@@ -25,12 +26,13 @@ module _ (L : Limits) (P : ℕ) where
         → (m .to < P) × ((m .phase ≤ suc (w .count (m .to))) × (w .count (m .to) ≤ suc (m .phase)))
     -- the phase byte of a node, of a work message under way and of a frame under way is the low byte of the phase
     pub phaseByte : (a : ℕ) → a < P → w .nodes a .phase ≡ w .count a % 256
-    pub workByte : (m : Item) (byte : ℕ) → List·Memᴰ m (w .items) → m .load ≡ work byte → byte ≡ m .phase % 256
+    pub workByte : (m : Item) (kind : Kind) (byte : ℕ) → List·Memᴰ m (w .items) → m .load ≡ work kind byte
+        → byte ≡ m .phase % 256
     pub frameByte : (m : Item) (bytes : List ℕ) → List·Memᴰ m (w .items) → m .load ≡ frame bytes
         → getD bytes 1 0 ≡ m .phase % 256
-    -- a delivered work message is refused for being early (7) or not at all: never with 2, 3, 6, 8 or 13
-    pub takeEarly : (a b : ℕ) (m : Item) (byte x : ℕ) → oldest a b (w .items) ≡ some m → m .load ≡ work byte
-        → take L (w .nodes b) a byte .answer ≡ refused x → x ≡ 7
+    -- a delivered job or note is refused for being early (7) or not at all: never with 2, 3, 6, 8 or 13
+    pub takeEarly : (a b : ℕ) (m : Item) (kind : Kind) (byte x : ℕ) → oldest a b (w .items) ≡ some m
+        → m .load ≡ work kind byte → take L (w .nodes b) kind a byte .answer ≡ refused x → x ≡ 7
     -- so is a delivered frame: never with 2, 3, 8, 9, 10, 11 or 13
     pub frameEarly : (a b : ℕ) (m : Item) (bytes : List ℕ) (x : ℕ) → oldest a b (w .items) ≡ some m
         → m .load ≡ frame bytes → frameIn L (w .nodes b) bytes .answer ≡ refused x → x ≡ 7

@@ -19,7 +19,7 @@ abbrev pub line : ℕ → ℕ → Node → List ℕ
 line a answer n = a ∷ answer ∷ n .phase ∷ n .pass ∷ n .dim ∷ bit (n .flag) ∷ bit (n .busy) ∷ []
 
 abbrev pub loadAnswer : Board → ℕ → ℕ → Load → ℕ
-loadAnswer w a b (work phase) = outcomeNumber (take base (w .nodes b) a phase .answer)
+loadAnswer w a b (work kind phase) = outcomeNumber (take base (w .nodes b) kind a phase .answer)
 loadAnswer w a b (frame bytes) = outcomeNumber (frameIn base (w .nodes b) bytes .answer)
 
 -- a delivery with nothing on the link is 16 (rule S8)
@@ -28,8 +28,8 @@ deliveryAnswer w a b none = 16
 deliveryAnswer w a b (some m) = loadAnswer w a b (m .load)
 
 abbrev pub printed : ℕ → Board → Event → List ℕ
-printed P w (sends a b) =
-    line a (outcomeNumber (send base (w .nodes a) b .answer)) (step base P w (sends a b) .nodes a)
+printed P w (sends kind a b) =
+    line a (outcomeNumber (send base (w .nodes a) b .answer)) (step base P w (sends kind a b) .nodes a)
 printed P w (idles a) = line a (outcomeNumber (idle base (w .nodes a) .answer)) (step base P w (idles a) .nodes a)
 printed P w (calls a room) =
     line a (barrierNumber (barrier base (w .nodes a) room .answer)) (step base P w (calls a room) .nodes a)

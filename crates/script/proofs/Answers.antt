@@ -126,4 +126,6 @@ one-bad w x e =
     (choose-same (isLetter 105 w) (choose-no _ _ e) (choose-same (isLetter 98 w) (choose-no _ _ e) refl))
 
 pub two-bad : (w x y : List ℕ) → both (isNumber x) (isNumber y) ≡ false → twoNumbers w x y ≡ Bad
-two-bad w x y e = choose-same (isLetter 115 w) (choose-no _ _ e) (choose-same (isLetter 100 w) (choose-no _ _ e) refl)
+two-bad w x y e =
+    choose-same (isLetter 115 w) (choose-no _ _ e)
+    (choose-same (isLetter 116 w) (choose-no _ _ e) (choose-same (isLetter 100 w) (choose-no _ _ e) refl))

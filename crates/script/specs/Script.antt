@@ -4,6 +4,7 @@ use Prim.Native.Nat.{ℕ, zero, suc, _+_}
 use lib.Dec.{ltb, eqb}
 use lib.ListN.{length, take, drop}
 use Rattle.base.specs.Choice.{choose, both}
+use Rattle.base.specs.declared.Kind.the-variants.{Job, Note}
 use Rattle.line_parts.specs.Parts.{isNumber, valueAfter, isNodes, isLetter}
 use Rattle.script.specs.declared.Line.{Line}
 use Rattle.script.specs.declared.Line.the-variants.{Nodes, Sends, Delivers, Idles, Calls, Bad}
@@ -43,7 +44,8 @@ oneNumber w x =
 
 abbrev pub twoNumbers : List ℕ → List ℕ → List ℕ → Line
 twoNumbers w x y =
-    choose (isLetter 115 w) (withTwo Sends x y) (choose (isLetter 100 w) (withTwo Delivers x y) Bad)
+    choose (isLetter 115 w) (withTwo (Sends Job) x y)
+    (choose (isLetter 116 w) (withTwo (Sends Note) x y) (choose (isLetter 100 w) (withTwo Delivers x y) Bad))
 
 abbrev pub byParts : List (List ℕ) → Line
 byParts [] = Bad

@@ -3,14 +3,15 @@ ghost use mathlib.Core.Path.{_≡_};
 ghost use Prim.Native.Nat.{_≤_};
 ghost use lib.ListN.{length, drop};
 ghost use Rattle.script.specs.Script.{before, oneNumber, twoNumbers, lineOf, lineAt};
+use base::Kind;
 use line_parts::Number;
 
 // What a line says.
 pub enum Line {
     // nodes P
     Nodes(u32),
-    // s a b: a sends work to b
-    Sends(u32, u32),
+    // s a b: a sends a job to b; t a b: a sends a note to b
+    Sends(Kind, u32, u32),
     // d a b: the oldest item from a reaches b
     Delivers(u32, u32),
     // i a: idle
@@ -83,7 +84,10 @@ fn two_numbers(word: &[u8], first: &[u8], second: &[u8]) -> Line
         return Line::Bad;
     };
     if line_parts::is_letter(b's', word) {
-        return Line::Sends(x, y);
+        return Line::Sends(Kind::Job, x, y);
+    }
+    if line_parts::is_letter(b't', word) {
+        return Line::Sends(Kind::Note, x, y);
     }
     if line_parts::is_letter(b'd', word) {
         return Line::Delivers(x, y);

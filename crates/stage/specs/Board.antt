@@ -6,12 +6,13 @@ use lib.Dec.{ltb, leb}
 use lib.ListN.{getD, set}
 use Rattle.base.specs.Choice.{both, list}
 use Rattle.base.specs.Limits.{base}
+use Rattle.base.specs.declared.Kind.{Kind}
 use Rattle.tree.specs.Lookups.{badBoard}
 use Rattle.node.specs.declared.Node.{Node}
 use Rattle.layout.specs.Held.{unpacked}
 use Rattle.states.specs.Words.{noState, freshState}
 use Rattle.states.specs.declared.State.{State}
-use Rattle.items.specs.Places.{noItem}
+use Rattle.items.specs.Places.{mark, noItem}
 use Rattle.items.specs.declared.Item.{Item}
 use Rattle.under_way.specs.Frames.{roomFor}
 use Rattle.stage.specs.declared.Stage.{Stage}
@@ -32,8 +33,8 @@ nodeAt st a = unpacked (stateAt st a .words)
 abbrev pub changed : Stage → ℕ → State → ℕ → Stage
 changed st a s under = record { states = set (st .states) a s; size = st .size; under = under }
 
-abbrev pub workItem : ℕ → ℕ → Node → Item
-workItem a b n = record { from = a; to = b; kind = 0; phase = n .phase }
+abbrev pub workItem : Kind → ℕ → ℕ → Node → Item
+workItem kind a b n = record { from = a; to = b; kind = mark kind; phase = n .phase }
 
 abbrev pub frameItem : ℕ → ℕ → Node → Item
 frameItem a b n = record { from = a; to = b; kind = 1; phase = n .phase }

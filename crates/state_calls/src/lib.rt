@@ -4,6 +4,7 @@ ghost use lib.ListN.{length};
 ghost use Rattle.base.specs.Limits.{base};
 ghost use Rattle.node.specs.Calls.{send, take, idle, frameIn};
 ghost use Rattle.state_calls.specs.On.{replied, onState, stepReplied, stepOn, stepBytes};
+use base::Kind;
 use node::Answer;
 use node::BarrierAnswer;
 use states::State;
@@ -29,11 +30,11 @@ pub fn send_to(s: State, to: u32) -> Reply
     }
 }
 
-pub fn take_from(s: State, from: u32, phase: u8) -> Reply
-    ensures { λ r. ⌜ replied r ≡ onState (λ n. take base n from phase) s ⌝ }
+pub fn take_from(s: State, kind: Kind, from: u32, phase: u8) -> Reply
+    ensures { λ r. ⌜ replied r ≡ onState (λ n. take base n kind from phase) s ⌝ }
 {
     let mut words = s.words;
-    let answer = calls::take_from(base::of_build(), &mut words, from, phase);
+    let answer = calls::take_from(base::of_build(), &mut words, kind, from, phase);
     Reply {
         state: State { words: words },
         answer: answer,

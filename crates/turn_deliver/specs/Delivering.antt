@@ -5,10 +5,11 @@ use Prim.Native.Nat.{ℕ, _-_}
 use lib.Dec.{eqb}
 use Rattle.base.specs.Choice.{choose}
 use Rattle.base.specs.Limits.{base}
+use Rattle.base.specs.declared.Kind.the-variants.{Job, Note}
 use Rattle.node.specs.Answers.{Outcome, outcomeNumber}
 use Rattle.node.specs.Calls.{take as takeCall, frameIn}
 use Rattle.state_calls.specs.On.{Kept, onState}
-use Rattle.items.specs.Places.{noItem}
+use Rattle.items.specs.Places.{mark, noItem}
 use Rattle.items.specs.declared.Item.{Item}
 use Rattle.under_way.specs.Frames.{closed, frameHeld}
 use Rattle.stage.specs.Board.{stateAt, changed, isThere, quiet}
@@ -33,8 +34,9 @@ module _ (st : Stage) (headers : ℕ) (bytes : List ℕ) where
   -- the call at b for an item at a place
   abbrev pub itemCall : ℕ → ℕ → ℕ → Item → Kept Outcome
   itemCall a b at it =
-      choose (eqb (it .kind) 0) (onState (λ n. takeCall base n a (it .phase)) (stateAt st b))
-      (onState (λ n. frameIn base n (frameHeld (st .size) bytes at)) (stateAt st b))
+      choose (eqb (it .kind) (mark Job)) (onState (λ n. takeCall base n Job a (it .phase)) (stateAt st b))
+      (choose (eqb (it .kind) (mark Note)) (onState (λ n. takeCall base n Note a (it .phase)) (stateAt st b))
+      (onState (λ n. frameIn base n (frameHeld (st .size) bytes at)) (stateAt st b)))
 
   abbrev pub deliverActed : ℕ → ℕ → Kept Outcome → ℕ → Acted
   deliverActed b at r answer =

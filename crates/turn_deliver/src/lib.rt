@@ -10,6 +10,7 @@ ghost use Rattle.node.specs.Calls.{frameIn};
 ghost use Rattle.state_calls.specs.On.{replied, onState};
 ghost use Rattle.under_way.specs.Frames.{placeSize, frameHeld};
 ghost use Rattle.turn_deliver.specs.Delivering.{itemCall, deliverAct, deliverActBytes};
+use base::Kind;
 use items::Item;
 use stage::Acted;
 use stage::Stage;
@@ -33,7 +34,10 @@ fn item_call(st: Stage, a: u32, b: u32, at: usize, it: Item, bytes: &[u8]) -> Re
 {
     let n = stage::state_at(st, b);
     if it.kind == 0 {
-        return state_calls::take_from(n, a, it.phase);
+        return state_calls::take_from(n, Kind::Job, a, it.phase);
+    }
+    if it.kind == 2 {
+        return state_calls::take_from(n, Kind::Note, a, it.phase);
     }
     frame_call(n, st.size, at, bytes)
 }

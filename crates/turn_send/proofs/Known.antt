@@ -6,6 +6,7 @@ use Prim.Native.Nat.{ℕ, _<_}
 use native.Mathlib.Omega.{arith}
 use Rattle.base.specs.Choice.{choose}
 use Rattle.base.specs.Limits.{base}
+use Rattle.base.specs.declared.Kind.{Kind}
 use Rattle.tree.proofs.Lookups.{board-good}
 use Rattle.node.specs.Answers.{Given, Outcome, done, refused, outcomeOf, outcomeNumber}
 use Rattle.node.specs.Calls.{send, idle}
@@ -51,10 +52,10 @@ sender-known s m b e =
     go true o x f = (refl, f)
     go false o x f = refused-not x f
 
-pub send-by : (st : Stage) (headers : ℕ) (bytes : List ℕ) (a b : ℕ) (r : Kept Outcome)
+pub send-by : (st : Stage) (headers : ℕ) (bytes : List ℕ) (kind : Kind) (a b : ℕ) (r : Kept Outcome)
     → onState (λ n. send base n b) (stateAt st a) ≡ r
-    → sendAct st headers bytes a b ≡ sendActed st headers bytes a b r (r .answer)
-send-by st headers bytes a b r e = ap (λ g. sendActed st headers bytes a b g (g .answer)) e
+    → sendAct st headers bytes kind a b ≡ sendActed st headers bytes kind a b r (r .answer)
+send-by st headers bytes kind a b r e = ap (λ g. sendActed st headers bytes kind a b g (g .answer)) e
 
 pub idle-by : (st : Stage) (headers a : ℕ) (r : Kept Outcome) → onState (idle base) (stateAt st a) ≡ r
     → idleAct st headers a

@@ -1,4 +1,4 @@
-// What a line of work sent and a line of a node gone idle do to a board of up to 16 nodes.
+// What a line of a message sent and a line of a node gone idle do to a board of up to 16 nodes.
 // Any board and numbers may be handed.
 ghost use mathlib.Core.Path.{_≡_};
 ghost use mathlib.Core.List.{List};
@@ -6,14 +6,15 @@ ghost use Prim.Native.Nat.{ℕ};
 ghost use Rattle.under_way.specs.Frames.{roomFor};
 ghost use Rattle.turn_send.specs.Sending.{sendAct};
 ghost use Rattle.turn_send.specs.Idling.{idleAct};
+use base::Kind;
 use items::Item;
 use node::Answer;
 use stage::Acted;
 use stage::Stage;
 
-// Work goes from a to b, where there is room for so many items.
-pub fn send_act(st: Stage, a: u32, b: u32, headers: usize, room: usize) -> Acted
-    ensures { λ r. ⌜ ((bs : List ℕ) → room ≡ roomFor headers bs → r ≡ sendAct st headers bs a b) ⌝ }
+// A job or a note goes from a to b, where there is room for so many items.
+pub fn send_act(st: Stage, kind: Kind, a: u32, b: u32, headers: usize, room: usize) -> Acted
+    ensures { λ r. ⌜ ((bs : List ℕ) → room ≡ roomFor headers bs → r ≡ sendAct st headers bs kind a b) ⌝ }
 {
     let under = st.under;
     let n = stage::state_at(st, a);
@@ -29,7 +30,7 @@ pub fn send_act(st: Stage, a: u32, b: u32, headers: usize, room: usize) -> Acted
             let it = Item {
                 from: a as u8,
                 to: b as u8,
-                kind: 0,
+                kind: items::mark_of(kind),
                 phase: states::phase_of(n),
             };
             let mut acted = stage::quiet(under, headers, after, a, 0);

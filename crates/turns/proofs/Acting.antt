@@ -2,6 +2,7 @@
 use mathlib.Core.Path.{_≡_, refl}
 use mathlib.Core.List.{List}
 use Prim.Native.Nat.{ℕ}
+use Rattle.base.specs.declared.Kind.{Kind}
 use Rattle.script.specs.declared.Line.the-variants.{Nodes, Sends, Delivers, Idles, Calls, Bad}
 use Rattle.items.specs.declared.Item.{Item}
 use Rattle.stage.specs.Board.{quiet}
@@ -22,12 +23,12 @@ module _ (st : Stage) (headers : ℕ) (bytes : List ℕ) (at : ℕ) (it : Item) 
   unfolding acted actedBytes
   no-event P = (refl, refl, refl, refl)
 
-  -- neither work sent nor idle writes any bytes
-  pub send-any : (a b : ℕ)
-      → (sendAct st headers bytes a b ≡ acted st headers bytes (Sends a b) at it)
-      × (bytes ≡ actedBytes st headers bytes (Sends a b) at it)
+  -- neither a message sent nor idle writes any bytes
+  pub send-any : (kind : Kind) (a b : ℕ)
+      → (sendAct st headers bytes kind a b ≡ acted st headers bytes (Sends kind a b) at it)
+      × (bytes ≡ actedBytes st headers bytes (Sends kind a b) at it)
   unfolding acted actedBytes
-  send-any a b = (refl, refl)
+  send-any kind a b = (refl, refl)
 
   pub idle-any : (a : ℕ)
       → (idleAct st headers a ≡ acted st headers bytes (Idles a) at it)

@@ -8,6 +8,7 @@ use lib.Dec.{ltb, eqb}
 use lib.ListN.{length, set, length-set}
 use borrow.Author.Tests.{ltb-true}
 use Rattle.base.specs.Limits.{base}
+use Rattle.base.specs.declared.Kind.{Kind}
 use Rattle.base.proofs.Laws.{cases}
 use Rattle.state_calls.specs.On.{Kept, onState, stepOn}
 use Rattle.states.specs.declared.State.{State}
@@ -43,13 +44,13 @@ module _ (st : Stage) (headers : ℕ) (bytes : List ℕ) (h : st .under ≤ room
   abbrev Stays : Acted → Type 0
   Stays = Keeps st headers bytes
 
-  send-keeps : (a b : ℕ) (r : Kept Outcome) (o : Outcome) → Stays (sendActed st headers bytes a b r o)
-  send-keeps a b r done =
+  send-keeps : (kind : Kind) (a b : ℕ) (r : Kept Outcome) (o : Outcome) → Stays (sendActed st headers bytes kind a b r o)
+  send-keeps kind a b r done =
       cases Stays (ltb (st .under) (roomFor headers bytes)) _ _
       (λ e. record { size = refl; lent = one-more (st .under) (roomFor headers bytes) e })
       (λ e. record { size = refl; lent = h })
-  send-keeps a b r dropped = record { size = refl; lent = h }
-  send-keeps a b r (refused x) = record { size = refl; lent = h }
+  send-keeps kind a b r dropped = record { size = refl; lent = h }
+  send-keeps kind a b r (refused x) = record { size = refl; lent = h }
 
   frame-keeps : (a : ℕ) (after : State) (to : List ℕ) → Stays (frameActed st headers bytes a after to)
   frame-keeps a after [] = record { size = refl; lent = h }
@@ -77,7 +78,8 @@ module _ (st : Stage) (headers : ℕ) (bytes : List ℕ) (h : st .under ≤ room
   pub line-keeps : (line : Line) (at : ℕ) (it : Item) → Keeps st headers bytes (acted st headers bytes line at it)
   unfolding acted idleAct deliverAct callAct
   line-keeps (Nodes P) at it = record { size = refl; lent = h }
-  line-keeps (Sends a b) at it = let r = onState (λ n. send base n b) (stateAt st a) in send-keeps a b r (r .answer)
+  line-keeps (Sends kind a b) at it =
+      let r = onState (λ n. send base n b) (stateAt st a) in send-keeps kind a b r (r .answer)
   line-keeps (Delivers a b) at it =
       let r = itemCall st headers bytes a b at it in
       cases Stays (isThere st headers bytes at) _ _ (λ e. deliver-keeps b at r (outcomeNumber (r .answer)))

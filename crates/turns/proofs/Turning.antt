@@ -12,6 +12,7 @@ use lib.Seq.{set-out}
 use borrow.Author.Tests.{lt-ltb, le-leb, eq-eqb, ne-eqb}
 use Rattle.base.specs.Choice.{choose}
 use Rattle.base.specs.Limits.{base}
+use Rattle.base.specs.declared.Kind.{Kind}
 use Rattle.base.proofs.Laws.{choose-yes, choose-no, cases}
 use Rattle.tree.specs.Lookups.{badBoard}
 use Rattle.state_calls.specs.On.{Kept, onState, stepOn}
@@ -151,14 +152,14 @@ module _ (st : Stage) (items : List Item) (bytes : List ℕ) where
   by-no : (t : Bool) (x y : Acted) (b c : List ℕ) → t ≡ false → sees (choose t x y) (choose t b c) ≡ sees y c
   by-no t x y b c e = λ i. sees (choose-no x y e i) (choose-no b c e i)
 
-  -- ---- s and i
+  -- ---- s, t and i
 
-  sent-same : (a b : ℕ) (r : Kept Outcome) (o : Outcome)
-      → sees (sendActed st (length items) bytes a b r o) bytes ≡ sentBy st items bytes a b r o
-  sent-same a b r done =
+  sent-same : (kind : Kind) (a b : ℕ) (r : Kept Outcome) (o : Outcome)
+      → sees (sendActed st (length items) bytes kind a b r o) bytes ≡ sentBy st items bytes kind a b r o
+  sent-same kind a b r done =
       by-test (ltb (st .under) (roomFor (length items) bytes)) _ _ (seen-one _ a 0 _ bytes) (seen-quiet st a 15 bytes)
-  sent-same a b r dropped = seen-quiet st a 24 bytes
-  sent-same a b r (refused x) = seen-quiet st a x bytes
+  sent-same kind a b r dropped = seen-quiet st a 24 bytes
+  sent-same kind a b r (refused x) = seen-quiet st a x bytes
 
   -- ---- b
 
@@ -192,11 +193,12 @@ module _ (st : Stage) (items : List Item) (bytes : List ℕ) where
 
   -- ---- the turns
 
-  pub send-turns : (a b at : ℕ) (it : Item)
-      → sees (acted st (length items) bytes (Sends a b) at it) (actedBytes st (length items) bytes (Sends a b) at it)
-      ≡ sendTurn st items bytes a b
+  pub send-turns : (kind : Kind) (a b at : ℕ) (it : Item)
+      → sees (acted st (length items) bytes (Sends kind a b) at it)
+      (actedBytes st (length items) bytes (Sends kind a b) at it)
+      ≡ sendTurn st items bytes kind a b
   unfolding acted actedBytes sendTurn
-  send-turns a b at it = let r = onState (λ n. send base n b) (stateAt st a) in sent-same a b r (r .answer)
+  send-turns kind a b at it = let r = onState (λ n. send base n b) (stateAt st a) in sent-same kind a b r (r .answer)
 
   pub idle-turns : (a at : ℕ) (it : Item)
       → sees (acted st (length items) bytes (Idles a) at it) (actedBytes st (length items) bytes (Idles a) at it)

@@ -18,7 +18,7 @@ use Rattle.turn_call.specs.Calling.{callAct, callActBytes}
 module _ (st : Stage) (headers : ℕ) (bytes : List ℕ) where
   unfoldable pub acted : Line → ℕ → Item → Acted
   acted (Nodes P) at it = quiet st headers st 0 17
-  acted (Sends a b) at it = sendAct st headers bytes a b
+  acted (Sends kind a b) at it = sendAct st headers bytes kind a b
   acted (Delivers a b) at it = deliverAct st headers bytes a b at it
   acted (Idles a) at it = idleAct st headers a
   acted (Calls a) at it = callAct st headers bytes a
@@ -28,7 +28,7 @@ module _ (st : Stage) (headers : ℕ) (bytes : List ℕ) where
 
   unfoldable pub actedBytes : Line → ℕ → Item → List ℕ
   actedBytes (Nodes P) at it = bytes
-  actedBytes (Sends a b) at it = bytes
+  actedBytes (Sends kind a b) at it = bytes
   actedBytes (Delivers a b) at it = deliverActBytes st headers bytes a b at it
   actedBytes (Idles a) at it = bytes
   actedBytes (Calls a) at it = callActBytes st headers bytes a

@@ -6,6 +6,8 @@ use lib.ListN.{length, getD, set}
 use Rattle.base.specs.Choice.{choose}
 use Rattle.base.specs.Limits.{base}
 use Rattle.base.specs.Refusal.{Refusal, number}
+use Rattle.base.specs.declared.Kind.the-variants.{Job, Note}
+use Rattle.base.specs.declared.Kind.{Kind}
 use Rattle.frame.specs.Frame.{frameBytes}
 use Rattle.node.specs.Sums.{dims}
 use Rattle.node.specs.Answers.{Outcome, done, dropped, refused, outcomeNumber}
@@ -14,7 +16,7 @@ use Rattle.node.specs.Calls.{send, take as takeCall, idle, frameIn}
 use Rattle.node.specs.Barrier.{frameDue}
 use Rattle.state_calls.specs.On.{Kept, onState, stepOn}
 use Rattle.states.specs.declared.State.{State}
-use Rattle.items.specs.Places.{noItem, oldestAt, removed}
+use Rattle.items.specs.Places.{mark, noItem, oldestAt, removed}
 use Rattle.items.specs.declared.Item.{Item}
 use Rattle.under_way.specs.Frames.{placeSize, roomFor, closed, framed, frameHeld}
 use Rattle.stage.specs.Board.{stateAt, nodeAt, changed, workItem, frameItem}
@@ -38,24 +40,24 @@ abbrev pub crowded : Stage → List Item → List ℕ → ℕ → Turn
 crowded st items bytes actor = unchanged st items bytes actor (number Refusal.crowded)
 
 module _ (st : Stage) (items : List Item) (bytes : List ℕ) where
-  -- ---- s a b: a sends work to b
+  -- ---- s a b and t a b: a sends a job or a note to b
 
-  abbrev pub sentBy : ℕ → ℕ → Kept Outcome → Outcome → Turn
-  sentBy a b r done =
+  abbrev pub sentBy : Kind → ℕ → ℕ → Kept Outcome → Outcome → Turn
+  sentBy kind a b r done =
       choose (ltb (st .under) (roomFor (length items) bytes))
       (record {
         stage = changed st a (r .state) (st .under + 1);
-        items = set items (st .under) (workItem a b (nodeAt st a));
+        items = set items (st .under) (workItem kind a b (nodeAt st a));
         bytes = bytes;
         actor = a;
         answer = 0;
       })
       (crowded st items bytes a)
-  sentBy a b r dropped = unchanged st items bytes a 24
-  sentBy a b r (refused x) = unchanged st items bytes a x
+  sentBy kind a b r dropped = unchanged st items bytes a 24
+  sentBy kind a b r (refused x) = unchanged st items bytes a x
 
-  unfoldable pub sendTurn : ℕ → ℕ → Turn
-  sendTurn a b = let r = onState (λ n. send base n b) (stateAt st a) in sentBy a b r (r .answer)
+  unfoldable pub sendTurn : Kind → ℕ → ℕ → Turn
+  sendTurn kind a b = let r = onState (λ n. send base n b) (stateAt st a) in sentBy kind a b r (r .answer)
 
   -- ---- i a: idle call
 
@@ -112,9 +114,10 @@ module _ (st : Stage) (items : List Item) (bytes : List ℕ) where
   -- the call at b for the item at a place
   abbrev pub called : ℕ → ℕ → ℕ → Kept Outcome
   called a b at =
-      choose (eqb (getD items at noItem .kind) 0)
-      (onState (λ n. takeCall base n a (getD items at noItem .phase)) (stateAt st b))
-      (onState (λ n. frameIn base n (frameHeld (st .size) bytes at)) (stateAt st b))
+      let it = getD items at noItem in
+      choose (eqb (it .kind) (mark Job)) (onState (λ n. takeCall base n Job a (it .phase)) (stateAt st b))
+      (choose (eqb (it .kind) (mark Note)) (onState (λ n. takeCall base n Note a (it .phase)) (stateAt st b))
+      (onState (λ n. frameIn base n (frameHeld (st .size) bytes at)) (stateAt st b)))
 
   -- an early item stays; any other leaves the list
   abbrev pub deliveredAt : ℕ → ℕ → Kept Outcome → ℕ → Turn

@@ -15,8 +15,9 @@ pub fn act(st: Stage, line: Line, at: usize, it: Item, headers: usize, bytes: &m
     let under = st.under;
     match line {
         Line::Nodes(p) => stage::quiet(under, headers, st, 0, 17),
-        Line::Sends(a, b) => turn_send::send_act(
+        Line::Sends(kind, a, b) => turn_send::send_act(
             st,
+            kind,
             a,
             b,
             headers,

@@ -2,7 +2,7 @@
 
 use crate::library::{self, at, c_array, Words};
 use crate::report::{held, must, same, Difference, Report};
-use model::node::{self, Answer, Barrier, Node};
+use model::node::{self, Answer, Barrier, Node, Work};
 use model::random::Random;
 use model::LONGEST;
 
@@ -58,12 +58,45 @@ pub fn send(report: &mut Report, words: &mut Words, to: u32) -> Result<u32, Diff
     agree("send", &before, (answer, words.clone()), model, || format!("ocb_send(state, words, {to}u);"))
 }
 
-pub fn take(report: &mut Report, words: &mut Words, from: u32, phase: u8) -> Result<u32, Difference> {
-    let before = words.clone();
-    let answer = library::take(words, from, phase);
-    report.answer("take", answer);
-    let model = modelled(&before, |state| node::take(state, from, phase));
-    agree("take", &before, (answer, words.clone()), model, || format!("ocb_take(state, words, {from}u, {phase});"))
+/// What the report calls a take.
+pub fn name_of(work: Work) -> &'static str {
+    match work {
+        Work::Job => "take",
+        Work::Note => "take note",
+    }
+}
+
+pub fn take(report: &mut Report, words: &mut Words, work: Work, from: u32, phase: u8) -> Result<u32, Difference> {
+    let (before, name) = (words.clone(), name_of(work));
+    let answer = library::take(words, work, from, phase);
+    report.answer(name, answer);
+    let model = modelled(&before, |state| node::take(state, work, from, phase));
+    agree(name, &before, (answer, words.clone()), model, || {
+        let function = if work == Work::Job { "ocb_take" } else { "ocb_take_note" };
+        format!("{function}(state, words, {from}u, {phase});")
+    })?;
+    if work == Work::Note && answer == 0 {
+        report.count(taker(&before));
+    }
+    Ok(answer)
+}
+
+/// Who takes notes: what a take has to leave, or to put back, differs between them.
+pub const TAKERS: [&str; 4] = [
+    "notes taken by a busy node",
+    "notes taken by an idle node that has not signed in",
+    "notes taken by an idle node in pass 1",
+    "notes taken by an idle node in pass 2",
+];
+
+/// The taker of a note, as its state was before.
+fn taker(before: &Words) -> &'static str {
+    match (before[at::BUSY], before[at::PASS], before[at::DIMENSION], before[at::FLAG]) {
+        (1, ..) => TAKERS[0],
+        (_, 1, 0, 1) => TAKERS[1],
+        (_, 1, ..) => TAKERS[2],
+        _ => TAKERS[3],
+    }
 }
 
 pub fn idle(report: &mut Report, words: &mut Words) -> Result<u32, Difference> {
@@ -142,7 +175,9 @@ pub fn every(report: &mut Report, random: &mut Random, words: &Words, frames: &[
     };
     must(send(report, &mut words.clone(), other));
     let phase = (words.get(at::PHASE).copied().unwrap_or(0) as u8).wrapping_add([0, 0, 0, 1, 255, 2][random.below(6) as usize]);
-    must(take(report, &mut words.clone(), other, phase));
+    for work in Work::BOTH {
+        must(take(report, &mut words.clone(), work, other, phase));
+    }
     must(idle(report, &mut words.clone()));
     must(barrier(report, &mut words.clone(), random.below(80) as usize));
     must(barrier(report, &mut words.clone(), 80));

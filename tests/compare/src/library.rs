@@ -1,7 +1,7 @@
 //! The library's C functions, and the model's state as the words that they take.
 
 use model::frame::Fields;
-use model::node::{First, Node, Second};
+use model::node::{First, Node, Second, Work};
 use model::tree;
 
 /// A state as the library holds it: as many words as its board needs, or more, or fewer.
@@ -14,6 +14,7 @@ extern "C" {
     fn ocb_fresh(state: *mut u32, words: usize, nodes: u32, number: u32) -> u32;
     fn ocb_send(state: *mut u32, words: usize, to: u32) -> u32;
     fn ocb_take(state: *mut u32, words: usize, from: u32, phase: u8) -> u32;
+    fn ocb_take_note(state: *mut u32, words: usize, from: u32, phase: u8) -> u32;
     fn ocb_idle(state: *mut u32, words: usize) -> u32;
     fn ocb_frame_in(state: *mut u32, words: usize, bytes: *const u8, count: usize) -> u32;
     fn ocb_barrier(state: *mut u32, words: usize, buffer: *mut u8, count: usize, details: *mut u32) -> u32;
@@ -41,8 +42,11 @@ pub fn send(state: &mut [u32], to: u32) -> u32 {
     unsafe { ocb_send(state.as_mut_ptr(), state.len(), to) }
 }
 
-pub fn take(state: &mut [u32], from: u32, phase: u8) -> u32 {
-    unsafe { ocb_take(state.as_mut_ptr(), state.len(), from, phase) }
+pub fn take(state: &mut [u32], work: Work, from: u32, phase: u8) -> u32 {
+    match work {
+        Work::Job => unsafe { ocb_take(state.as_mut_ptr(), state.len(), from, phase) },
+        Work::Note => unsafe { ocb_take_note(state.as_mut_ptr(), state.len(), from, phase) },
+    }
 }
 
 pub fn idle(state: &mut [u32]) -> u32 {

@@ -4,6 +4,7 @@ use crate::report::{must, same, Refusal, Report};
 use crate::{calls, frames, library};
 use library::{at, Words};
 use model::frame::{stated_length, Fields};
+use model::node::Work;
 use model::{tree, FIELD_LIMIT, SENT_LIMIT, SHELLS, TAKEN_LIMIT};
 
 /// Boards and nodes: a neighbour, a messenger and a hermit, one alone in dimension 0, and large boards.
@@ -63,25 +64,26 @@ fn send(report: &mut Report, board: u32, number: u32) {
     }
 }
 
-/// Messages sent, all that there can be, do not matter to a take.
-fn take(report: &mut Report, board: u32, number: u32) {
+/// Messages sent, all that there can be, do not matter to a take; neither does whether the node is busy.
+fn take(report: &mut Report, board: u32, number: u32, work: Work) {
     for other in others(board, number) {
         for difference in DIFFERENCES {
-            for bits in 0..4 {
-                let (bad, phase) = (bits & 1 == 1, 253 + difference % 3);
+            for bits in 0..8 {
+                let (bad, idle, phase) = (bits & 1 == 1, bits & 2 == 2, 253 + difference % 3);
                 let mut state = fresh(board, number, phase, bad);
+                state[at::BUSY] = u32::from(!idle);
                 tally_sent(&mut state, SENT_LIMIT);
-                tally_taken(&mut state, TAKEN_LIMIT - 1 + (bits >> 1));
+                tally_taken(&mut state, TAKEN_LIMIT - 1 + (bits >> 2));
                 let order = [
                     ("13", 13, bad),
                     ("2", 2, other >= board),
                     ("3", 3, other == number),
                     ("7", 7, difference == 1),
                     ("8", 8, difference > 1),
-                    ("6", 6, bits >> 1 == 1),
+                    ("6", 6, bits >> 2 == 1),
                 ];
-                let answer = must(calls::take(report, &mut state, other, phase.wrapping_add(difference)));
-                report.order("take", &order, answer);
+                let answer = must(calls::take(report, &mut state, work, other, phase.wrapping_add(difference)));
+                report.order(calls::name_of(work), &order, answer);
             }
         }
     }
@@ -236,7 +238,9 @@ fn writer(report: &mut Report, board: u32, number: u32) {
 fn phases(report: &mut Report) {
     for (node, item) in (0..=255).flat_map(|node| (0..=255).map(move |item| (node, item))) {
         let state = fresh(2, 0, node, false);
-        must(calls::take(report, &mut state.clone(), 1, item));
+        for work in Work::BOTH {
+            must(calls::take(report, &mut state.clone(), work, 1, item));
+        }
         let parts = Parts { pass: 1, dim: 0, sender: 1, phase: item, largest: 0, longer: 0 };
         must(calls::frame_in(report, &mut state.clone(), &parts.bytes(1)));
         report.count("pairs of phases");
@@ -260,7 +264,9 @@ pub fn boundaries(report: &mut Report, state: &Words) {
 pub fn compare(report: &mut Report) {
     for (board, number) in PLACES {
         send(report, board, number);
-        take(report, board, number);
+        for work in Work::BOTH {
+            take(report, board, number, work);
+        }
         barrier(report, board, number);
         frame_in(report, board, number);
         reader(report, board, number);

@@ -23,6 +23,10 @@ impl Report {
         *self.kinds.entry(kind).or_default() += cases;
     }
 
+    pub fn counted(&self, kind: &'static str) -> bool {
+        self.kinds.contains_key(kind)
+    }
+
     pub fn answer(&mut self, call: &'static str, answer: u32) {
         *self.answers.entry((call, answer)).or_default() += 1;
     }

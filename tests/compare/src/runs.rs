@@ -5,7 +5,7 @@ use crate::library::{self, at, Words};
 use crate::report::{held, Difference, Report};
 use crate::script::{self, Run};
 use model::board::{Board, Event, Load};
-use model::random::{event, Habits, Random};
+use model::random::{self, event, Habits, Random};
 use model::LONGEST;
 
 /// A board of the model, the library's states beside it, and what happened so far.
@@ -35,13 +35,13 @@ impl Pair {
     /// The event at the library's state. The acting node and its answer; each call is held to the model's by itself.
     fn beside(&mut self, report: &mut Report, event: Event) -> Result<Option<(u32, u32)>, Difference> {
         let (node, answer) = match event {
-            Event::Send { at, to } => (at, calls::send(report, &mut self.states[at as usize], to)?),
+            Event::Send { at, to, .. } => (at, calls::send(report, &mut self.states[at as usize], to)?),
             Event::Idle { at } => (at, calls::idle(report, &mut self.states[at as usize])?),
             Event::Barrier { at, room } => (at, calls::barrier(report, &mut self.states[at as usize], room)?),
             Event::Deliver { from, to } => {
                 let state = &mut self.states[to as usize].clone();
                 let answer = match self.oldest_of(from, to) {
-                    Some(Load::Work { byte, .. }) => calls::take(report, state, from, byte)?,
+                    Some(Load::Work { work, byte, .. }) => calls::take(report, state, work, from, byte)?,
                     Some(Load::Frame { bytes }) => calls::frame_in(report, state, &bytes)?,
                     None => return Ok(None),
                 };
@@ -98,7 +98,7 @@ fn fail(run: &Run, difference: Difference) -> ! {
     eprintln!("---- end of the script, with the difference at its last line");
     if !script::is_rehearsal(&short, &lines) {
         eprintln!("The rehearsal program does not take it: it has more than 16 nodes or 4,096 bytes, or lines that");
-        eprintln!("no script may have (b .. room, lose, s to a node that the board lacks).");
+        eprintln!("no script may have (b .. room, lose, s or t to a node that the board lacks).");
     }
     if let Some((_, difference)) = first_difference(&short) {
         difference.print();
@@ -106,9 +106,10 @@ fn fail(run: &Run, difference: Difference) -> ! {
     std::process::exit(1)
 }
 
-const EVEN: Habits = Habits { send: 3, idle: 4, barrier: 9, deliver: 9, lose: 0, odd: 1 };
-const SLOW: Habits = Habits { send: 4, idle: 5, barrier: 20, deliver: 3, lose: 0, odd: 1 };
-const LOSSY: Habits = Habits { send: 3, idle: 4, barrier: 9, deliver: 9, lose: 1, odd: 1 };
+// Half the messages are notes.
+const EVEN: Habits = Habits { job: 3, note: 3, idle: 8, barrier: 18, deliver: 18, lose: 0, odd: 2 };
+const SLOW: Habits = Habits { job: 2, note: 2, idle: 5, barrier: 20, deliver: 3, lose: 0, odd: 1 };
+const LOSSY: Habits = Habits { job: 3, note: 3, idle: 8, barrier: 18, deliver: 18, lose: 2, odd: 2 };
 
 /// A run of so many events; its states, now and then, are handed to every call, whole and with one word changed.
 fn run(report: &mut Report, random: &mut Random, size: u32, events: u64, habits: &Habits) {
@@ -150,14 +151,15 @@ fn hand(report: &mut Report, random: &mut Random, pair: &Pair) {
     }
 }
 
-/// What a node of a board in use does next: sends some work while busy, then idles, then calls the barrier.
+/// What a node of a board in use does next: sends some jobs and notes while busy, then idles, then calls the barrier.
 fn turn(random: &mut Random, board: &Board, at: u32) -> Event {
     let size = board.nodes.len() as u32;
     if !board.nodes[at as usize].busy {
         return Event::Barrier { at, room: LONGEST };
     }
     if size > 1 && random.below(3) == 0 {
-        return Event::Send { at, to: (at + 1 + random.below(size - 1)) % size };
+        let work = random::work(random);
+        return Event::Send { work, at, to: (at + 1 + random.below(size - 1)) % size };
     }
     Event::Idle { at }
 }

@@ -2,9 +2,10 @@
 //!
 //! - `b A room N`: a barrier call with a buffer of N bytes, where N is not 76.
 //! - `lose A B N`: the N-th item on the link from A to B, the oldest being the 0-th, is lost.
-//! - `s A B` with B not below P. The rehearsal program answers 17 to all of these.
+//! - `s A B` and `t A B` with B not below P. The rehearsal program answers 17 to all of these.
 
 use model::board::{Board, Event};
+use model::node::Work;
 use model::LONGEST;
 
 /// A run from a fresh board on.
@@ -17,7 +18,8 @@ pub struct Run {
 /// The line of an event that happens to a board; none where an item is lost that is not there.
 fn line_of(board: &Board, event: Event) -> Option<String> {
     Some(match event {
-        Event::Send { at, to } => format!("s {at} {to}"),
+        Event::Send { work: Work::Job, at, to } => format!("s {at} {to}"),
+        Event::Send { work: Work::Note, at, to } => format!("t {at} {to}"),
         Event::Idle { at } => format!("i {at}"),
         Event::Barrier { at, room: LONGEST } => format!("b {at}"),
         Event::Barrier { at, room } => format!("b {at} room {room}"),
@@ -37,7 +39,8 @@ pub fn event_of(board: &Board, line: &str) -> Option<Event> {
     let number = |at: usize| parts.get(at)?.parse::<u32>().ok();
     let node = |at: usize| number(at).filter(|&node| (node as usize) < board.nodes.len());
     Some(match (parts[0], parts.len()) {
-        ("s", 3) => Event::Send { at: node(1)?, to: number(2)? },
+        ("s", 3) => Event::Send { work: Work::Job, at: node(1)?, to: number(2)? },
+        ("t", 3) => Event::Send { work: Work::Note, at: node(1)?, to: number(2)? },
         ("i", 2) => Event::Idle { at: node(1)? },
         ("b", 2) => Event::Barrier { at: node(1)?, room: LONGEST },
         ("b", 4) if parts[2] == "room" => Event::Barrier { at: node(1)?, room: number(3)?.min(128) as usize },

@@ -1,13 +1,13 @@
 //! Runs (rule H1 to rule H5): a board of P nodes with its links and its history, and a checker for rule P4
 //! and rule P5.
 
-use crate::node::{self, Answer, Barrier, Node};
+use crate::node::{self, Answer, Barrier, Node, Work};
 use crate::{no, LONGEST};
 
-/// What an item carries: a work message with its sender's phase byte, or a frame.
+/// What an item carries: a job or a note, with its sender's phase byte, or a frame.
 #[derive(Clone, Debug, PartialEq, Eq, Hash)]
 pub enum Load {
-    Work { message: u64, byte: u8 },
+    Work { work: Work, message: u64, byte: u8 },
     Frame { bytes: Vec<u8> },
 }
 
@@ -20,7 +20,7 @@ pub struct Item {
     pub load: Load,
 }
 
-/// A work message that was sent and not taken.
+/// A work message, job or note, that was sent and not taken.
 #[derive(Clone, Copy, Debug, PartialEq, Eq, Hash)]
 pub struct Message {
     pub number: u64,
@@ -30,7 +30,7 @@ pub struct Message {
 /// The events of a run. `room` is the length of the lent buffer; `item` is a place in `links`.
 #[derive(Clone, Copy, Debug, PartialEq, Eq)]
 pub enum Event {
-    Send { at: u32, to: u32 },
+    Send { work: Work, at: u32, to: u32 },
     Idle { at: u32 },
     Barrier { at: u32, room: usize },
     Deliver { from: u32, to: u32 },
@@ -65,7 +65,7 @@ pub struct Board {
 #[derive(Clone, Copy, Debug, PartialEq, Eq)]
 enum Deed {
     Sent { at: usize, phase: u64 },
-    Took { at: usize, phase: u64 },
+    Took { work: Work, at: usize, phase: u64 },
     Left { at: usize, phase: u64 },
     Other,
 }
@@ -125,7 +125,7 @@ impl Board {
 impl Board {
     fn happen(&mut self, event: Event) -> (Outcome, Deed) {
         match event {
-            Event::Send { at, to } => self.send(at, to),
+            Event::Send { work, at, to } => self.send(work, at, to),
             Event::Idle { at } => self.idle(at as usize),
             Event::Barrier { at, room } => self.barrier(at as usize, room),
             Event::Deliver { from, to } => self.deliver(from, to),
@@ -133,8 +133,8 @@ impl Board {
         }
     }
 
-    /// A send that is done puts a work message last on its link (rule H3).
-    fn send(&mut self, at: u32, to: u32) -> (Outcome, Deed) {
+    /// A send that is done puts the job or note last on its link (rule H3).
+    fn send(&mut self, work: Work, at: u32, to: u32) -> (Outcome, Deed) {
         let place = at as usize;
         let phase = self.phases[place];
         let byte = self.nodes[place].phase;
@@ -146,7 +146,7 @@ impl Board {
         let message = self.messages;
         self.messages += 1;
         self.untaken.push(Message { number: message, phase });
-        self.links.push(Item { from: at, to, phase, load: Load::Work { message, byte } });
+        self.links.push(Item { from: at, to, phase, load: Load::Work { work, message, byte } });
         (Outcome::Call(answer), Deed::Sent { at: place, phase })
     }
 
@@ -194,7 +194,7 @@ impl Board {
         };
         let item = self.links[oldest].clone();
         let (after, answer) = match &item.load {
-            Load::Work { byte, .. } => node::take(self.nodes[to as usize], from, *byte),
+            Load::Work { work, byte, .. } => node::take(self.nodes[to as usize], *work, from, *byte),
             Load::Frame { bytes } => node::frame_in(self.nodes[to as usize], bytes),
         };
         self.nodes[to as usize] = after;
@@ -206,10 +206,11 @@ impl Board {
 
     fn after_delivery(&mut self, item: &Item, answer: Answer) -> Deed {
         match item.load {
-            Load::Work { message, .. } if answer == Answer::Done => {
+            Load::Work { work, message, .. } if answer == Answer::Done => {
+                let at = item.to as usize;
                 self.untaken.retain(|other| other.number != message);
-                self.busy[item.to as usize] = true;
-                Deed::Took { at: item.to as usize, phase: item.phase }
+                self.busy[at] = self.busy[at] || work == Work::Job;
+                Deed::Took { work, at, phase: item.phase }
             }
             _ => Deed::Other,
         }
@@ -234,7 +235,7 @@ impl Board {
         let mut faults = vec![];
         for at in 0..self.nodes.len() {
             faults.extend(self.state_says_the_history(at));
-            faults.extend(self.woken_by_work(past, deed, at));
+            faults.extend(self.woken_by_a_job(past, deed, at));
         }
         match deed {
             Deed::Sent { at, phase } => {
@@ -255,11 +256,11 @@ impl Board {
         (!same).then(|| format!("the state of {at} is not what its history gives"))
     }
 
-    /// Only a take makes an idle node busy, unless it leaves.
-    fn woken_by_work(&self, past: &Past, deed: Deed, at: usize) -> Option<String> {
+    /// Only the take of a job makes an idle node busy, unless it leaves.
+    fn woken_by_a_job(&self, past: &Past, deed: Deed, at: usize) -> Option<String> {
         let woken = !past.busy[at] && self.nodes[at].busy && self.phases[at] == past.phases[at];
-        let took = matches!(deed, Deed::Took { at: taker, .. } if taker == at);
-        (woken && !took).then(|| format!("{at} woke without taken work"))
+        let took = matches!(deed, Deed::Took { work: Work::Job, at: taker, .. } if taker == at);
+        (woken && !took).then(|| format!("{at} woke without a job taken"))
     }
 
     /// Rule P5: without a loss, some node of the oldest phase goes on.
@@ -290,13 +291,13 @@ fn sent_by_busy(past: &Past, at: usize) -> Option<String> {
     (!past.busy[at]).then(|| format!("{at} sent work while idle"))
 }
 
-/// No message of a phase is sent or taken once a node has left it.
+/// No message of a phase, job or note, is sent or taken once a node has left it.
 fn nobody_has_left(past: &Past, phase: u64) -> Option<String> {
     let left = past.phases.iter().any(|&other| other > phase);
     left.then(|| format!("work of phase {phase} was sent or taken after a node left it"))
 }
 
-/// A node leaves only where all messages of its phase are taken, all nodes in it idle, and none is behind.
+/// A node leaves only where all jobs and notes of its phase are taken, all nodes in it idle, and none is behind.
 fn may_leave(past: &Past, at: usize, phase: u64) -> Vec<String> {
     let mut faults = vec![];
     if past.untaken.iter().any(|message| message.phase == phase) {
@@ -311,4 +312,21 @@ fn may_leave(past: &Past, at: usize, phase: u64) -> Vec<String> {
         }
     }
     faults
+}
+
+#[cfg(test)]
+mod tests {
+    use super::*;
+
+    /// No run of the model has an idle node that a note wakes, so what the checker says of one is asked here.
+    #[test]
+    fn the_checker_notices_a_note_that_wakes() {
+        let mut board = Board::new(2);
+        board.happen(Event::Idle { at: 0 });
+        let past = board.past();
+        (board.nodes[0].busy, board.busy[0]) = (true, true);
+        let faults = |work| board.first_half(&past, Deed::Took { work, at: 0, phase: 0 });
+        assert_eq!(faults(Work::Job), Vec::<String>::new());
+        assert_eq!(faults(Work::Note), ["0 woke without a job taken"]);
+    }
 }

@@ -15,11 +15,16 @@
 //! - An idle node of a board of one leaves whatever its flag is (rule N13).
 //! - Every lookup in a dimension, the run too, wants k below p (rule R3).
 //! - The writer refuses with 10 a number that is not 0 where the pass, k or p lacks it (rule F4).
+//! - Send is the same for a job and a note, 4 for an idle node too (rule N5); the takes differ in whether
+//!   the node is busy then, and in nothing else (rule N6).
+//! - An idle node that takes a note has flag 1 again, so its next barrier call sends the frame of (1, 0) if
+//!   it goes to anybody. No idle call has to come before.
 //! - A late frame is dropped only when no number from 9 to 11 was given before (rule R7).
 //! - Any refusal of a delivered item but 7 takes it off its link (rule H4).
 //! - A busy node keeps a board going (rule P5) by being busy, not by what a barrier call would do.
 //! - A loss of an item that is not there is no event, and nothing happens (rule H2).
-//! - Rehearsal: the header line is always printed first; lines are played one by one and what was
+//! - Rehearsal: a note is sent and delivered with the answers of a job, and only what is printed for busy
+//!   can differ then; the header line is always printed first; lines are played one by one and what was
 //!   printed stands; a last line without newline is 17 at that line; a blank line is 17; `nodes` with
 //!   0 or 17 to 999 is 1; `0` alone has no leading zero; 15 comes after every other refusal; `d a a`
 //!   is 16, as nothing is ever on that link; a delivery refused with another number than 7 takes the

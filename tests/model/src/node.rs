@@ -38,6 +38,17 @@ pub struct Node {
     pub second: [Second; SHELLS],
 }
 
+/// What a work message is. Both kinds are counted; only a job gives its taker something to do.
+#[derive(Clone, Copy, Debug, PartialEq, Eq, Hash)]
+pub enum Work {
+    Job,
+    Note,
+}
+
+impl Work {
+    pub const BOTH: [Work; 2] = [Work::Job, Work::Note];
+}
+
 /// The answer of send, take, idle and frame in.
 #[derive(Clone, Copy, Debug, PartialEq, Eq)]
 pub enum Answer {
@@ -350,7 +361,7 @@ pub fn fresh(board: u32, number: u32) -> Result<Node, u8> {
     Ok(fresh_state(board, number))
 }
 
-/// Send (rule N5): 13, 2, 3, 4, 5.
+/// Send of a job or a note (rule N5): 13, 2, 3, 4, 5.
 pub fn send(node: Node, to: u32) -> (Node, Answer) {
     match send_refusal(&node, to) {
         Some(number) => (node, Answer::Refused(number)),
@@ -389,11 +400,11 @@ fn with_sent(node: Node, to: u32) -> Node {
     after
 }
 
-/// Take (rule N6): 13, 2, 3, 7, 8, 6. `phase` is the message's phase byte.
-pub fn take(node: Node, from: u32, phase: u8) -> (Node, Answer) {
+/// Take (rule N6): 13, 2, 3, 7, 8, 6, whatever the message is. `phase` is its phase byte.
+pub fn take(node: Node, work: Work, from: u32, phase: u8) -> (Node, Answer) {
     match take_refusal(&node, from, phase) {
         Some(number) => (node, Answer::Refused(number)),
-        None => (with_taken(node, from), Answer::Done),
+        None => (with_taken(node, work, from), Answer::Done),
     }
 }
 
@@ -419,11 +430,14 @@ fn take_refusal(node: &Node, from: u32, phase: u8) -> Option<u8> {
     None
 }
 
-/// One message more from the sender's shell; the node is busy at (1, 0, 1), without T.
-fn with_taken(node: Node, from: u32) -> Node {
+/// One message more from the sender's shell; the node is at (1, 0, 1), without T. A job makes it busy; a
+/// note leaves it busy or idle as it was.
+fn with_taken(node: Node, work: Work, from: u32) -> Node {
     let mut after = node;
     after.taken[shell_of(&node, from)] += 1;
-    after.busy = true;
+    if work == Work::Job {
+        after.busy = true;
+    }
     after.set_position(1, 0, true);
     after.t = 0;
     after

@@ -1,6 +1,7 @@
 //! A fixed-seed generator, and random events for a board.
 
 use crate::board::{Board, Event};
+use crate::node::Work;
 use crate::LONGEST;
 
 /// Splitmix64.
@@ -40,10 +41,12 @@ impl Random {
     }
 }
 
-/// How often each kind of event comes. `odd` events have arguments that call for a refusal.
+/// How often each kind of event comes; `job` and `note` are sends. `odd` events have arguments that call for
+/// a refusal.
 #[derive(Clone, Copy, Debug)]
 pub struct Habits {
-    pub send: u32,
+    pub job: u32,
+    pub note: u32,
     pub idle: u32,
     pub barrier: u32,
     pub deliver: u32,
@@ -53,15 +56,16 @@ pub struct Habits {
 
 /// A random event for this board.
 pub fn event(random: &mut Random, board: &Board, habits: &Habits) -> Event {
-    let Habits { send, idle, barrier, deliver, lose, odd } = *habits;
+    let Habits { job, note, idle, barrier, deliver, lose, odd } = *habits;
     let size = board.nodes.len() as u32;
     let at = random.below(size);
-    match random.weighted(&[send, idle, barrier, deliver, lose, odd]) {
-        0 => Event::Send { at, to: random.below(size) },
-        1 => Event::Idle { at },
-        2 => Event::Barrier { at, room: LONGEST },
-        3 => delivery(random, board, at),
-        4 => Event::Lose { item: random.below(1 + board.links.len() as u32) as usize },
+    match random.weighted(&[job, note, idle, barrier, deliver, lose, odd]) {
+        0 => Event::Send { work: Work::Job, at, to: random.below(size) },
+        1 => Event::Send { work: Work::Note, at, to: random.below(size) },
+        2 => Event::Idle { at },
+        3 => Event::Barrier { at, room: LONGEST },
+        4 => delivery(random, board, at),
+        5 => Event::Lose { item: random.below(1 + board.links.len() as u32) as usize },
         _ => odd_event(random, size, at),
     }
 }
@@ -75,11 +79,17 @@ fn delivery(random: &mut Random, board: &Board, at: u32) -> Event {
     Event::Deliver { from: item.from, to: item.to }
 }
 
+/// A job or a note, the one as often as the other.
+pub fn work(random: &mut Random) -> Work {
+    Work::BOTH[random.below(2) as usize]
+}
+
 fn odd_event(random: &mut Random, size: u32, at: u32) -> Event {
+    let work = work(random);
     match random.below(5) {
-        0 => Event::Send { at, to: at },
-        1 => Event::Send { at, to: size + random.below(300) },
-        2 => Event::Send { at, to: u32::MAX - random.below(2) },
+        0 => Event::Send { work, at, to: at },
+        1 => Event::Send { work, at, to: size + random.below(300) },
+        2 => Event::Send { work, at, to: u32::MAX - random.below(2) },
         3 => Event::Deliver { from: random.below(size), to: at },
         _ => Event::Barrier { at, room: random.below(LONGEST as u32 + 9) as usize },
     }

@@ -1,6 +1,6 @@
 //! The rehearsal (rule S1 to rule S9): from the bytes of a script to the bytes printed.
 
-use crate::node::{self, Answer, Barrier, Node};
+use crate::node::{self, Answer, Barrier, Node, Work};
 use crate::{frame, no, tree, LONGEST};
 
 /// The most bytes of a script (rule S2).
@@ -12,11 +12,13 @@ pub const PLACES: usize = 512;
 /// The most nodes of a rehearsal's board (rule S4).
 const LARGEST_BOARD: u32 = 16;
 
+/// What an item is.
 #[derive(Clone, Copy, Debug, Default, PartialEq, Eq)]
 pub enum Kind {
     #[default]
-    Work,
+    Job,
     Frame,
+    Note,
 }
 
 /// An item of the lent list of headers (rule S5).
@@ -30,7 +32,7 @@ pub struct Header {
 
 #[derive(Clone, Copy, Debug, PartialEq, Eq)]
 enum Line {
-    Send { a: u32, b: u32 },
+    Send { work: Work, a: u32, b: u32 },
     Deliver { a: u32, b: u32 },
     Idle { a: u32 },
     Barrier { a: u32 },
@@ -131,7 +133,8 @@ fn parse_line(line: &[u8], size: u32) -> Option<Line> {
         ends.push(number(part).filter(|&end| end < size)?);
     }
     match (parts[0], ends.as_slice()) {
-        (b"s", &[a, b]) => Some(Line::Send { a, b }),
+        (b"s", &[a, b]) => Some(Line::Send { work: Work::Job, a, b }),
+        (b"t", &[a, b]) => Some(Line::Send { work: Work::Note, a, b }),
         (b"d", &[a, b]) => Some(Line::Deliver { a, b }),
         (b"i", &[a]) => Some(Line::Idle { a }),
         (b"b", &[a]) => Some(Line::Barrier { a }),
@@ -146,7 +149,7 @@ impl Stage<'_> {
     /// Plays a line, and gives what is printed for it (rule S9).
     fn play(&mut self, line: Line) -> String {
         let (acting, answer) = match line {
-            Line::Send { a, b } => (a, self.send(a, b)),
+            Line::Send { work, a, b } => (a, self.send(work, a, b)),
             Line::Deliver { a, b } => (b, self.deliver(a, b)),
             Line::Idle { a } => (a, self.idle(a)),
             Line::Barrier { a } => (a, self.barrier(a)),
@@ -157,13 +160,17 @@ impl Stage<'_> {
     }
 
     /// 15, where there is no place left, comes after every refusal of the call (rule S7).
-    fn send(&mut self, a: u32, b: u32) -> u8 {
+    fn send(&mut self, work: Work, a: u32, b: u32) -> u8 {
         let (after, answer) = node::send(self.nodes[a as usize], b);
         if answer == Answer::Done {
             if self.left() < 1 {
                 return no::CROWDED;
             }
-            self.append(Header { from: a, to: b, kind: Kind::Work, phase: after.phase }, &[]);
+            let kind = match work {
+                Work::Job => Kind::Job,
+                Work::Note => Kind::Note,
+            };
+            self.append(Header { from: a, to: b, kind, phase: after.phase }, &[]);
         }
         self.nodes[a as usize] = after;
         answer.number()
@@ -198,8 +205,10 @@ impl Stage<'_> {
             return no::NOTHING;
         };
         let node = self.nodes[b as usize];
-        let (after, answer) = match self.headers[place].kind {
-            Kind::Work => node::take(node, a, self.headers[place].phase),
+        let Header { kind, phase, .. } = self.headers[place];
+        let (after, answer) = match kind {
+            Kind::Job => node::take(node, Work::Job, a, phase),
+            Kind::Note => node::take(node, Work::Note, a, phase),
             Kind::Frame => node::frame_in(node, &self.frame_at(place)),
         };
         self.nodes[b as usize] = after;

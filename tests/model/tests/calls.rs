@@ -1,7 +1,7 @@
 //! The calls: what they do, the order of their refusals, and their limits.
 
 use model::frame::{read, stated_length, write, Fields};
-use model::node::{barrier, frame_in, fresh, idle, send, take, Answer, Barrier, First, Node, Second};
+use model::node::{barrier, frame_in, fresh, idle, send, take, Answer, Barrier, First, Node, Second, Work};
 use model::{FIELD_LIMIT, LONGEST, SENT_LIMIT, TAKEN_LIMIT};
 
 fn first(conditions: &[(bool, u8)]) -> Option<u8> {
@@ -51,36 +51,41 @@ fn send_order_of_refusals() {
     }
 }
 
-/// Take: 13, 2, 3, 7, 8, 6 (rule R3).
+/// Take: 13, 2, 3, 7, 8, 6 (rule R3), of a job and of a note, at a busy node and at an idle one.
 #[test]
 fn take_order_of_refusals() {
-    for bad in [false, true] {
-        for from in [1, 2, 6, 255, u32::MAX] {
-            for difference in [0u8, 1, 2, 3, 128, 254, 255] {
-                for full in [false, true] {
-                    let mut node =
-                        Node { busy: false, phase: 250, t: u32::from(bad), ..fresh(6, 2).unwrap() };
-                    node.taken[1] = if full { TAKEN_LIMIT } else { 7 };
-                    let (after, answer) = take(node, from, 250u8.wrapping_add(difference));
-                    let expected = first(&[
-                        (bad, 13),
-                        (from >= 6, 2),
-                        (from == 2, 3),
-                        (difference == 1, 7),
-                        (difference >= 2, 8),
-                        (full, 6),
-                    ]);
-                    assert_eq!(refusal(answer), expected);
-                    if expected.is_none() {
-                        node.taken[1] += 1;
-                        node.busy = true;
-                        assert_eq!(answer, Answer::Done);
+    for (work, busy) in Work::BOTH.into_iter().flat_map(|work| [(work, false), (work, true)]) {
+        for bad in [false, true] {
+            for from in [1, 2, 6, 255, u32::MAX] {
+                for difference in [0u8, 1, 2, 3, 128, 254, 255] {
+                    for full in [false, true] {
+                        take_case(work, busy, bad, from, difference, full);
                     }
-                    assert_eq!(after, node);
                 }
             }
         }
     }
+}
+
+fn take_case(work: Work, busy: bool, bad: bool, from: u32, difference: u8, full: bool) {
+    let mut node = Node { busy, phase: 250, t: u32::from(bad), ..fresh(6, 2).unwrap() };
+    node.taken[1] = if full { TAKEN_LIMIT } else { 7 };
+    let (after, answer) = take(node, work, from, 250u8.wrapping_add(difference));
+    let expected = first(&[
+        (bad, 13),
+        (from >= 6, 2),
+        (from == 2, 3),
+        (difference == 1, 7),
+        (difference >= 2, 8),
+        (full, 6),
+    ]);
+    assert_eq!(refusal(answer), expected);
+    if expected.is_none() {
+        node.taken[1] += 1;
+        node.busy = busy || work == Work::Job;
+        assert_eq!(answer, Answer::Done);
+    }
+    assert_eq!(after, node);
 }
 
 /// Idle: 13 (rule R3); an idle node may say it again (rule N7).
@@ -190,32 +195,74 @@ fn sends_to_the_limit() {
     assert_eq!(send(over, 1), (over, Answer::Refused(13)));
 }
 
+/// Jobs and notes come to one limit together.
 #[test]
 fn takes_to_the_limit() {
     let mut node = fresh(5, 0).unwrap();
     node.taken[2] = TAKEN_LIMIT - 2;
-    for _ in 0..2 {
-        let (after, answer) = take(node, 1, 0);
+    for work in [Work::Note, Work::Job] {
+        let (after, answer) = take(node, work, 1, 0);
         assert_eq!(answer, Answer::Done);
         node = after;
     }
-    assert_eq!(take(node, 1, 0), (node, Answer::Refused(6)));
-    assert_eq!(take(node, 4, 0), (node, Answer::Refused(6)));
-    node.taken[0] += 1;
-    assert_eq!(take(node, 1, 0), (node, Answer::Refused(13)));
+    for work in Work::BOTH {
+        assert_eq!(take(node, work, 1, 0), (node, Answer::Refused(6)));
+        assert_eq!(take(node, work, 4, 0), (node, Answer::Refused(6)));
+        let mut over = node;
+        over.taken[0] += 1;
+        assert_eq!(take(over, work, 1, 0), (over, Answer::Refused(13)));
+    }
 }
 
-/// A take makes the node busy at (1, 0, 1) without T; stored frames stay (rule N6).
+/// A take puts the node to (1, 0, 1) without T; stored frames stay, and only a job makes it busy (rule N6).
 #[test]
 fn a_take_goes_back_to_the_start() {
-    let mut node = Node { busy: false, pass: 2, dim: 0, flag: false, ..fresh(2, 1).unwrap() };
-    node.first[0].present = true;
+    let mut node = Node { busy: false, pass: 2, dim: 0, flag: false, t: 3, ..fresh(2, 1).unwrap() };
+    node.sent[0] = 3;
+    node.first[0] = First { present: true, total_taken: 3, ..First::default() };
+    node.first[0].taken[0] = 3;
     node.second[0] = Second { present: true, t: 3, total_sent: 3 };
-    let (after, answer) = take(node, 0, 0);
+    for (work, busy) in [(Work::Job, true), (Work::Note, false)] {
+        let (after, answer) = take(node, work, 0, 0);
+        assert_eq!(answer, Answer::Done);
+        let mut expected = Node { busy, pass: 1, dim: 0, flag: true, t: 0, ..node };
+        expected.taken[0] = 1;
+        assert_eq!(after, expected);
+    }
+}
+
+/// From every step, with flag 0 and 1, a note takes an idle node back to the start, and it is idle still.
+#[test]
+fn a_note_wakes_nobody() {
+    for (pass, dim) in [(1, 0), (1, 1), (2, 0), (2, 1)] {
+        for flag in [false, true] {
+            let node = settled(pass, dim, flag);
+            for (from, shell) in [(1, 0), (2, 1), (3, 1)] {
+                let (after, answer) = take(node, Work::Note, from, 0);
+                let mut expected = settled(1, 0, true);
+                expected.taken[shell] = 1;
+                assert_eq!((after, answer), (expected, Answer::Done));
+                assert_eq!(send(after, from), (after, Answer::Refused(4)));
+                // Nothing has to be said before it signs in.
+                let signed = barrier(after, &mut [0; LONGEST]);
+                let frame = Barrier::Sent { receivers: vec![1], length: 28 };
+                assert_eq!(signed, (Node { flag: false, ..after }, frame));
+            }
+        }
+    }
+}
+
+/// At a busy node a note counts, and a job after it or before it makes no difference.
+#[test]
+fn a_note_at_a_busy_node() {
+    let node = fresh(4, 0).unwrap();
+    let (noted, answer) = take(node, Work::Note, 3, 0);
     assert_eq!(answer, Answer::Done);
-    let mut expected = Node { busy: true, pass: 1, dim: 0, flag: true, t: 0, ..node };
-    expected.taken[0] = 1;
-    assert_eq!(after, expected);
+    assert_eq!((noted.busy, noted.taken[1], noted.pass, noted.dim, noted.flag), (true, 1, 1, 0, true));
+    assert_eq!(noted, take(node, Work::Job, 3, 0).0);
+    let both = take(noted, Work::Job, 1, 0).0;
+    assert_eq!(both, take(take(node, Work::Job, 1, 0).0, Work::Note, 3, 0).0);
+    assert_eq!((both.busy, both.taken[0], both.taken[1]), (true, 1, 1));
 }
 
 fn zero_frame(board: u32, pass: u32, dim: u32, sender: u32, phase: u8) -> Vec<u8> {

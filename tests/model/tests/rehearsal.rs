@@ -1,9 +1,12 @@
 //! The rehearsal: the worked script, the form of a script, the places, and a board beside it.
 
 use model::board::{Board, Event, Outcome};
+use model::node::Work;
 use model::random::{self, Habits, Random};
 use model::rehearsal::{rehearse, rehearse_in, Header, Kind, PLACES, SCRIPT_LIMIT};
 use model::LONGEST;
+use std::fs;
+use std::path::Path;
 
 const HEADER: &str = "node answer phase pass dim flag busy\n";
 
@@ -41,6 +44,19 @@ node answer phase pass dim flag busy
 1 23 1 1 0 1 1
 ";
     assert_eq!(play(&script), expected);
+}
+
+/// Every script of the repository prints what stands beside it.
+#[test]
+fn the_scripts_of_the_repository() {
+    let folder = Path::new(env!("CARGO_MANIFEST_DIR")).join("../../scripts");
+    let mut played = 0;
+    for entry in fs::read_dir(&folder).unwrap().map(Result::unwrap).filter(|entry| entry.path().is_file()) {
+        let printed = fs::read(folder.join("printed").join(entry.file_name())).unwrap();
+        assert!(rehearse(&fs::read(entry.path()).unwrap()) == printed, "{:?} prints otherwise", entry.path());
+        played += 1;
+    }
+    assert_eq!(played, fs::read_dir(folder.join("printed")).unwrap().count());
 }
 
 #[test]
@@ -81,6 +97,14 @@ fn scripts_that_stop() {
         ("nodes 2\ns 0 1 1\n", 17, 2),
         ("nodes 2\ns 0 1 \n", 17, 2),
         ("nodes 2\ns0 1\n", 17, 2),
+        ("nodes 2\nt 0\n", 17, 2),
+        ("nodes 2\nt 0 2\n", 17, 2),
+        ("nodes 2\nt 2 0\n", 17, 2),
+        ("nodes 2\nt 0 1 1\n", 17, 2),
+        ("nodes 2\nt 0 01\n", 17, 2),
+        ("nodes 2\nt  0 1\n", 17, 2),
+        ("nodes 2\nT 0 1\n", 17, 2),
+        ("nodes 2\nts 0 1\n", 17, 2),
         ("nodes 2\nd 2 0\n", 17, 2),
         ("nodes 2\nb 0 1\n", 17, 2),
         ("nodes 2\nb 0x\n", 17, 2),
@@ -126,6 +150,34 @@ fn refusals_are_printed() {
         "1 16 0 1 0 1 1",
     ];
     assert_eq!(lines(script), expected);
+    assert_eq!(lines(&script.replace("\ns ", "\nt ")), expected);
+}
+
+/// A node of two that has signed in takes a job, and another one a note.
+#[test]
+fn a_note_leaves_its_taker_idle() {
+    let script = "nodes 2\ns 0 1\ni 1\nb 1\nd 0 1\nb 1\n";
+    let head = ["0 0 0 1 0 1 1", "1 0 0 1 0 1 0", "1 20 0 1 0 0 0"];
+    let woken = ["1 0 0 1 0 1 1", "1 12 0 1 0 1 1"];
+    let idle = ["1 0 0 1 0 1 0", "1 20 0 1 0 0 0"];
+    assert_eq!(lines(script), [&head[..], &woken].concat());
+    assert_eq!(lines(&script.replace("s 0 1", "t 0 1")), [&head[..], &idle].concat());
+}
+
+/// The items of a link keep their order, whatever they are.
+#[test]
+fn jobs_and_notes_of_a_link_keep_their_order() {
+    let sent = "nodes 2\nt 0 1\ns 0 1\nt 0 1\n";
+    let taken = "i 1\nd 0 1\nd 0 1\ni 1\nd 0 1\nd 0 1\n";
+    let expected = [
+        "1 0 0 1 0 1 0",
+        "1 0 0 1 0 1 0", // a note
+        "1 0 0 1 0 1 1", // the job
+        "1 0 0 1 0 1 0",
+        "1 0 0 1 0 1 0", // a note
+        "1 16 0 1 0 1 0",
+    ];
+    assert_eq!(lines(&(sent.to_string() + taken))[3..], expected);
 }
 
 /// An early item stays (rule S8): the worked script up to where 0 has left, and 0 sends on.
@@ -134,6 +186,7 @@ fn an_early_item_stays() {
     let head = "nodes 2\ni 0\nb 0\ni 1\nd 0 1\nb 1\nb 1\nb 1\nd 1 0\nb 0\nb 0\nd 1 0\nb 0\n";
     let script = head.to_string() + "d 0 1\ns 0 1\nd 0 1\nd 0 1\nb 1\nd 0 1\nd 0 1\n";
     let all = lines(&script);
+    assert_eq!(lines(&script.replace("s 0 1", "t 0 1")), all);
     let expected = [
         "1 0 0 2 0 0 0", // the pass 2 frame of 0
         "0 0 1 1 0 1 1",
@@ -151,6 +204,7 @@ fn an_early_item_stays() {
 fn places_for_512_items() {
     let script = "nodes 2\n".to_string() + &"s 0 1\n".repeat(513) + "d 0 1\ns 0 1\ns 0 1\ns 0 0\ni 1\nb 1\n";
     let all = lines(&script);
+    assert_eq!(lines(&script.replace("s 0", "t 0")), all);
     assert!(all[..512].iter().all(|line| line == "0 0 0 1 0 1 1"));
     let expected = [
         "0 15 0 1 0 1 1",
@@ -205,10 +259,10 @@ fn the_lent_memory() {
     let mut headers = vec![Header::default(); 4];
     let mut buffer = vec![0xee; 4 * LONGEST];
     rehearse_in(b"nodes 3\ns 0 1\ni 2\nb 2\nb 2\n", &mut headers, &mut buffer);
-    let work = Header { from: 0, to: 1, kind: Kind::Work, phase: 0 };
+    let job = Header { from: 0, to: 1, kind: Kind::Job, phase: 0 };
     let near = Header { from: 2, to: 0, kind: Kind::Frame, phase: 0 };
     let hermit = Header { from: 2, to: 1, kind: Kind::Frame, phase: 0 };
-    assert_eq!(headers, [work, near, hermit, Header::default()]);
+    assert_eq!(headers, [job, near, hermit, Header::default()]);
     let mut frame = vec![0xee; LONGEST];
     frame[..20].fill(0);
     (frame[0], frame[2], frame[3]) = (1, 1, 2);
@@ -221,6 +275,17 @@ fn the_lent_memory() {
     rehearse_in(b"nodes 3\ns 0 1\ni 2\nb 2\nb 2\nd 0 1\n", &mut headers, &mut buffer);
     assert_eq!(headers, [near, hermit, hermit, Header::default()]);
     assert_eq!(buffer, [frame.clone(), frame.clone(), frame, untouched].concat());
+}
+
+/// A note has a place as a job has one, with another kind and no bytes.
+#[test]
+fn the_place_of_a_note() {
+    let mut headers = vec![Header::default(); 3];
+    let mut buffer = vec![0xee; 3 * LONGEST];
+    rehearse_in(b"nodes 3\nt 2 1\ns 2 1\n", &mut headers, &mut buffer);
+    let note = Header { from: 2, to: 1, kind: Kind::Note, phase: 0 };
+    assert_eq!(headers, [note, Header { kind: Kind::Job, ..note }, Header::default()]);
+    assert!(buffer.iter().all(|&byte| byte == 0xee));
 }
 
 /// The printed line of an event on a board.
@@ -240,7 +305,8 @@ fn board_line(board: &mut Board, event: Event) -> String {
 
 fn script_line(event: Event) -> String {
     match event {
-        Event::Send { at, to } => format!("s {at} {to}\n"),
+        Event::Send { work: Work::Job, at, to } => format!("s {at} {to}\n"),
+        Event::Send { work: Work::Note, at, to } => format!("t {at} {to}\n"),
         Event::Idle { at } => format!("i {at}\n"),
         Event::Barrier { at, .. } => format!("b {at}\n"),
         Event::Deliver { from, to } => format!("d {from} {to}\n"),
@@ -251,7 +317,7 @@ fn script_line(event: Event) -> String {
 /// Random scripts print what a board answers.
 #[test]
 fn rehearsals_are_runs() {
-    let habits = Habits { send: 3, idle: 12, barrier: 40, deliver: 40, lose: 0, odd: 0 };
+    let habits = Habits { job: 2, note: 2, idle: 12, barrier: 40, deliver: 40, lose: 0, odd: 0 };
     let mut random = Random::new(6);
     let mut phases = 0;
     for round in 0..400 {

@@ -1,14 +1,16 @@
 //! Runs with rule P4 and rule P5 checked after every event.
 
 use model::board::{Board, Event, Item, Load, Outcome};
-use model::node::{self, Answer, Barrier, Node};
+use model::node::{self, Answer, Barrier, Node, Work};
 use model::random::{self, Habits, Random};
 use model::LONGEST;
 use std::collections::{BTreeMap, HashSet};
 
-const CALM: Habits = Habits { send: 4, idle: 8, barrier: 40, deliver: 40, lose: 0, odd: 1 };
+/// Half the messages are notes.
+const CALM: Habits = Habits { job: 2, note: 2, idle: 8, barrier: 40, deliver: 40, lose: 0, odd: 1 };
 
-/// Counts how often each number was answered, with rolled back positions as 100.
+/// How often each number was answered, with rolled back positions as 100, and with notes taken as 101 by busy
+/// nodes, as 102 by idle ones.
 type Seen = BTreeMap<u8, u64>;
 
 fn number(outcome: &Outcome) -> u8 {
@@ -19,14 +21,26 @@ fn number(outcome: &Outcome) -> u8 {
     }
 }
 
+/// The node to which an event brings a note.
+fn note_to(board: &Board, event: Event) -> Option<usize> {
+    let Event::Deliver { from, to } = event else { return None };
+    let oldest = board.links.iter().find(|item| item.from == from && item.to == to)?;
+    matches!(oldest.load, Load::Work { work: Work::Note, .. }).then_some(to as usize)
+}
+
 fn step(board: &mut Board, random: &mut Random, habits: &Habits, seen: &mut Seen) {
     let event = random::event(random, board, habits);
     let before: Vec<_> = board.nodes.iter().map(|n| (n.pass, n.dim, n.busy)).collect();
+    let noted = note_to(board, event);
     let outcome = board.play(event);
     *seen.entry(number(&outcome)).or_default() += 1;
     let back = |(was, is): (&(u8, u8, bool), &Node)| !is.busy && (is.pass, is.dim) < (was.0, was.1);
     if before.iter().zip(&board.nodes).any(back) {
         *seen.entry(100).or_default() += 1;
+    }
+    if let (Some(to), Outcome::Call(Answer::Done)) = (noted, &outcome) {
+        *seen.entry(if before[to].2 { 101 } else { 102 }).or_default() += 1;
+        assert_eq!(board.nodes[to].busy, before[to].2);
     }
 }
 
@@ -50,7 +64,7 @@ fn runs_past_255_phases() {
             *all.entry(answer).or_default() += count;
         }
     }
-    for answer in [0, 2, 3, 4, 7, 12, 14, 20, 21, 22, 23, 100] {
+    for answer in [0, 2, 3, 4, 7, 12, 14, 20, 21, 22, 23, 100, 101, 102] {
         assert!(all.contains_key(&answer), "{answer} never came");
     }
     for answer in [1, 5, 6, 8, 9, 10, 11, 13] {
@@ -63,9 +77,21 @@ fn a_long_run_of_16() {
     run_phases(16, 1100, &CALM, 77);
 }
 
+/// Boards whose messages are all jobs, or all notes.
+#[test]
+fn runs_with_one_kind_of_message() {
+    for size in 2..=9 {
+        let jobs = run_phases(size, 60, &Habits { job: 4, note: 0, odd: 0, ..CALM }, u64::from(size));
+        assert!(!jobs.contains_key(&101) && !jobs.contains_key(&102));
+        let notes = run_phases(size, 60, &Habits { job: 0, note: 4, odd: 0, ..CALM }, u64::from(size));
+        assert!(notes.contains_key(&101) && notes.contains_key(&102) && notes.contains_key(&7));
+    }
+}
+
 fn random_habits(random: &mut Random, lose: u32) -> Habits {
     Habits {
-        send: 1 + random.below(20),
+        job: 1 + random.below(10),
+        note: 1 + random.below(10),
         idle: 1 + random.below(20),
         barrier: 1 + random.below(60),
         deliver: 1 + random.below(60),
@@ -103,13 +129,13 @@ fn many_short_runs_with_losses() {
     assert!(left_after_a_loss > 100);
 }
 
-/// With a lost work message nobody ever leaves its phase, whatever comes after.
+/// With a lost job or note nobody ever leaves its phase, whatever comes after.
 #[test]
 fn a_lost_message_is_untaken_for_good() {
     let mut random = Random::new(5);
-    for size in 2..=9 {
+    for (size, work) in (2..=9).flat_map(|size| Work::BOTH.map(|work| (size, work))) {
         let mut board = Board::new(size);
-        board.play(Event::Send { at: 0, to: size - 1 });
+        board.play(Event::Send { work, at: 0, to: size - 1 });
         board.play(Event::Lose { item: 0 });
         for _ in 0..20_000 {
             step(&mut board, &mut random, &CALM, &mut Seen::new());
@@ -136,7 +162,7 @@ fn boards_up_to_256() {
         let mut board = Board::new(size);
         for at in 0..size {
             let other = (at * 7 + 3) % size;
-            board.play(Event::Send { at, to: other });
+            board.play(Event::Send { work: Work::BOTH[at as usize % 2], at, to: other });
         }
         let mut rounds = 0;
         while board.oldest() < 2 {
@@ -193,7 +219,7 @@ fn events(board: &Board, sends: u64, losses: bool) -> Vec<Event> {
         for other in (0..size).filter(|&other| other != at) {
             events.push(Event::Deliver { from: other, to: at });
             if board.messages < sends {
-                events.push(Event::Send { at, to: other });
+                events.extend(Work::BOTH.map(|work| Event::Send { work, at, to: other }));
             }
         }
     }
@@ -272,23 +298,28 @@ fn the_checker_notices_a_leaving_too_soon() {
     let mut behind = board.clone();
     (behind.phases[0], behind.nodes[0].phase) = (1, 1);
     assert!(faults(&mut behind, leave).contains("before 1 reached it"));
-    let mut untaken = Board::new(2);
-    untaken.play(Event::Send { at: 1, to: 0 });
-    untaken.play(Event::Idle { at: 1 });
-    (untaken.nodes[0], untaken.busy[0]) = (about_to_leave(), false);
-    assert!(faults(&mut untaken, leave).contains("while a message of it was untaken"));
+    for work in Work::BOTH {
+        let mut untaken = Board::new(2);
+        untaken.play(Event::Send { work, at: 1, to: 0 });
+        untaken.play(Event::Idle { at: 1 });
+        (untaken.nodes[0], untaken.busy[0]) = (about_to_leave(), false);
+        assert!(faults(&mut untaken, leave).contains("while a message of it was untaken"));
+    }
 }
 
 #[test]
 fn the_checker_notices_work_of_a_left_phase() {
-    let mut board = Board::new(2);
-    board.play(Event::Send { at: 1, to: 0 });
-    let mut third = Board::new(3);
-    third.play(Event::Send { at: 1, to: 0 });
-    (third.phases[2], third.nodes[2].phase) = (1, 1);
-    assert!(faults(&mut third.clone(), Event::Send { at: 1, to: 0 }).contains("after a node left it"));
-    assert!(faults(&mut third, Event::Deliver { from: 1, to: 0 }).contains("after a node left it"));
-    assert_eq!(faults(&mut board, Event::Deliver { from: 1, to: 0 }), "");
+    for work in Work::BOTH {
+        let send = Event::Send { work, at: 1, to: 0 };
+        let mut board = Board::new(2);
+        board.play(send);
+        let mut third = Board::new(3);
+        third.play(send);
+        (third.phases[2], third.nodes[2].phase) = (1, 1);
+        assert!(faults(&mut third.clone(), send).contains("after a node left it"));
+        assert!(faults(&mut third, Event::Deliver { from: 1, to: 0 }).contains("after a node left it"));
+        assert_eq!(faults(&mut board, Event::Deliver { from: 1, to: 0 }), "");
+    }
 }
 
 #[test]
@@ -320,9 +351,11 @@ fn refused_calls_change_nothing() {
     let nodes = board.nodes.clone();
     assert_eq!(board.play(Event::Deliver { from: 0, to: 1 }), Outcome::Nothing);
     assert_eq!(board.play(Event::Lose { item: 0 }), Outcome::Nothing);
-    assert_eq!(board.play(Event::Send { at: 0, to: 1 }), Outcome::Call(Answer::Refused(4)));
-    assert_eq!(board.play(Event::Send { at: 0, to: 0 }), Outcome::Call(Answer::Refused(3)));
-    assert_eq!(board.play(Event::Send { at: 0, to: 2 }), Outcome::Call(Answer::Refused(2)));
+    for work in Work::BOTH {
+        assert_eq!(board.play(Event::Send { work, at: 0, to: 1 }), Outcome::Call(Answer::Refused(4)));
+        assert_eq!(board.play(Event::Send { work, at: 0, to: 0 }), Outcome::Call(Answer::Refused(3)));
+        assert_eq!(board.play(Event::Send { work, at: 0, to: 2 }), Outcome::Call(Answer::Refused(2)));
+    }
     let short = board.play(Event::Barrier { at: 0, room: 19 });
     assert_eq!(short, Outcome::Step(Barrier::Refused(14)));
     assert_eq!((board.nodes, board.links.len(), board.lost), (nodes, 0, false));

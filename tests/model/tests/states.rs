@@ -2,7 +2,7 @@
 
 use model::node::{
     agrees, barrier, failing, frame_in, fresh, idle, own_sum_pass_2, own_sums, send, state_stands, take,
-    Answer, Barrier, First, Node, Second,
+    Answer, Barrier, First, Node, Second, Work,
 };
 use model::{FIELD_LIMIT, LONGEST, SENT_LIMIT, TAKEN_LIMIT};
 
@@ -32,7 +32,9 @@ fn changed(base: Node, change: fn(&mut Node)) -> Node {
 fn assert_13(node: Node) {
     assert!(!state_stands(&node), "{node:?}");
     assert_eq!(send(node, 1), (node, Answer::Refused(13)));
-    assert_eq!(take(node, 1, node.phase), (node, Answer::Refused(13)));
+    for work in Work::BOTH {
+        assert_eq!(take(node, work, 1, node.phase), (node, Answer::Refused(13)));
+    }
     assert_eq!(idle(node), (node, Answer::Refused(13)));
     assert_eq!(frame_in(node, &[]), (node, Answer::Refused(13)));
     let mut buffer = [0x77; LONGEST];

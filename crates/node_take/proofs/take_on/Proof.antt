@@ -10,12 +10,13 @@ use Prim.Native.Nat.{ℕ, _+_, _≤_, _<_}
 use lib.ListN.{length}
 use Rattle.base.specs.Limits.{Limits, Fits, limitsOf, takenLimit, width}
 use Rattle.base.specs.Refusal.{Check}
+use Rattle.base.specs.declared.Kind.{Kind}
 use Rattle.base.proofs.Limits.{fits-of, taken-low}
 use Rattle.base.proofs.Laws.{Passes, Stops, later, order-passes}
 use Rattle.tree.specs.Tree.{dimension, distance}
 use Rattle.node.specs.Sums.{allTaken, tally}
 use Rattle.node.specs.Answers.{give, done}
-use Rattle.node.specs.Calls.{refusal, woken, take}
+use Rattle.node.specs.Calls.{refusal, counted, take}
 use Rattle.node.specs.declared.Answer.the-variants.{Done, Refused}
 use Rattle.node.specs.declared.Node.{Node}
 use Rattle.node.proofs.Valid.{Valid, valid-known}
@@ -29,8 +30,8 @@ use Rattle.layout.proofs.Becomes.{Becomes}
 use Rattle.layout.proofs.Answers.{gives, stays}
 use Rattle.refusals.specs.Tests.{takeTests}
 use Rattle.refusals.proofs.First.{met-some, met-none}
-use Rattle.node_take.specs.Pieces.{wokenWords}
-use Rattle.node_take.proofs.Counted.{tallies-room, taken-within, put-woken}
+use Rattle.node_take.specs.Pieces.{countedWords, wokenWords}
+use Rattle.node_take.proofs.Counted.{tallies-room, taken-within, counted-length, put-taken-one}
 use Rattle.node_take.proofs.Shells.{shell-known}
 use Rattle.node_take.proofs.take_on.Statement.{statement}
 use Rattle.node_take.proofs.take_on.Tie as tie
@@ -45,6 +46,9 @@ module _ (s : tie.Start) where
 
   abbrev n : Node
   n = unpacked ws
+
+  abbrev kind : Kind
+  kind = s .args .kind
 
   abbrev from : ℕ
   from = s .args .from
@@ -75,14 +79,14 @@ module _ (s : tie.Start) where
   abbrev tests : List Check
   tests = takeTests L (word ws atNodes) (word ws atNumber) (word ws atPhase) (s .args .takes .0) from phase
 
-  stops : {x : ℕ} → Stops tests x → take L n from phase ≡ refusal n x
+  stops : {x : ℕ} → Stops tests x → take L n kind from phase ≡ refusal n x
   unfolding unpacked
   stops {x} t =
-      take-refuses L n from phase
+      take-refuses L n kind from phase
       (later (ap not (passed .valid))
       (subst (λ k. Stops (takeTests L (word ws atNodes) (word ws atNumber) (word ws atPhase) k from phase) x) (s .pre .2) t))
 
-  passes : Passes tests → take L n from phase ≡ give (woken n (distance (n .nodes) (n .number) from)) done
+  passes : Passes tests → take L n kind from phase ≡ give (counted n kind (distance (n .nodes) (n .number) from)) done
   unfolding unpacked take
   passes t =
       order-passes (refusal n) (takeChecks L n from phase) _ (
@@ -108,7 +112,7 @@ returns : tie.Need-returns
 returns c =
     let t = c .before in
     let s = t .before .before .before .before .before in
-    stays (L s) (fit s) (λ m. take (L s) m (from s) (phase s)) (ws s) (Refused _) (passed s .whole)
+    stays (L s) (fit s) (λ m. take (L s) m (kind s) (from s) (phase s)) (ws s) (Refused _) (passed s .whole)
     (stops s (met-some (tests s) (t .take-no .ensures) (c .if1 .taken)))
 
 -- a take that is not refused
@@ -123,8 +127,8 @@ module _ (c : tie.Else1) where
   takes =
       omega (arith, leb-false (takenLimit (L start)) (start .args .takes .0) (none .1 .1 .1 .1 .0), start .pre .2)
 
-add-wake : tie.Need-add-wake
-add-wake c = let s = start (c .before) in omega (arith, dims-is s, narrow s)
+add-count : tie.Need-add-count
+add-count c = let s = start (c .before) in omega (arith, dims-is s, narrow s)
 
 module _ (c : tie.After-shell-of) where
   abbrev mine : tie.Start
@@ -166,29 +170,37 @@ module _ (c : tie.After-shell-of) where
   unfolding unpacked
   shell-is = known .0
 
-add-wake-2 : tie.Need-add-wake-2
-add-wake-2 c = omega (arith, dims-is (mine c), narrow (mine c), shell-in c)
+add-count-2 : tie.Need-add-count-2
+add-count-2 c = omega (arith, dims-is (mine c), narrow (mine c), shell-in c)
 
-wake-requires : tie.Need-wake-requires
-wake-requires c κs = (
+count-requires : tie.Need-count-requires
+count-requires c κs = (
   omega arith,
   omega (arith, dims-is (mine c), long (mine c), shell-in c),
   omega (arith, more c),
 )
 
+wake-requires : tie.Need-wake-requires
+wake-requires c κs =
+    let w = c .before .before .before in
+    let h = w .before in
+    omega (arith, ap length (w .count .ensures), counted-length (ws (mine h)) (place h), long (mine h))
+
 returns-2 : tie.Need-returns-2
 returns-2 c =
-    let w = c .before .before in
+    let v = c .before .before in
+    let w = v .before .before .before .before in
     let h = w .before in
     let s = mine h in
-    let put = put-woken (L s) (ws s) (passed s .whole) (shell h) (shell-in h) (known h .2) in
-    let after = w .wake .ensures ∙ ap (wokenWords (ws s)) (place-is h) in
-    gives (L s) (fit s) (λ m. take (L s) m (from s) (phase s)) (ws s) Done _ _
-    (passes s (none (h .before .before)) ∙ ap (λ m. give (woken (n s) m) done) (sym (shell-is h)))
-    (subst (λ l. Becomes (L s) (ws s) l (woken (n s) (shell h))) (sym after) put)
+    let put = put-taken-one (L s) (ws s) (passed s .whole) (shell h) (shell-in h) (known h .2) (kind s) in
+    let after =
+    v .wake .ensures ∙ ap (wokenWords (kind s)) (w .count .ensures ∙ ap (countedWords (ws s)) (place-is h)) in
+    gives (L s) (fit s) (λ m. take (L s) m (kind s) (from s) (phase s)) (ws s) Done _ _
+    (passes s (none (h .before .before)) ∙ ap (λ m. give (counted (n s) (kind s) m) done) (sym (shell-is h)))
+    (subst (λ l. Becomes (L s) (ws s) l (counted (n s) (kind s) (shell h))) (sym after) put)
 
 pub take-on-spec : {M : Type 1} → statement M
 take-on-spec =
     tie.close
-    (tie.spec slice-read-nodes slice-read-number slice-read-here cast-here (λ c κs. search needs) returns add-wake
-    (λ c κs. search needs) add-wake-2 wake-requires (λ c. search needs) returns-2)
+    (tie.spec slice-read-nodes slice-read-number slice-read-here cast-here (λ c κs. search needs) returns add-count
+    (λ c κs. search needs) add-count-2 count-requires wake-requires (λ c. search needs) returns-2)

@@ -16,7 +16,7 @@ returns-2 : tie.Need-returns-2
 returns-2 c =
     let told = c .before .before .before in
     let x = told .before .before .before .args in
-    let n = send-any (x .st) (x .headers) (x .bytes .now) (x .at) (x .it) _ _ in
+    let n = send-any (x .st) (x .headers) (x .bytes .now) (x .at) (x .it) _ _ _ in
     rw (told .line2 .given .1) (c .send-act .ensures (x .bytes .now) (c .before .room-for .ensures) ∙ n .0, n .1)
 
 returns-3 : tie.Need-returns-3
