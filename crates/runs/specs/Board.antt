@@ -44,8 +44,8 @@ pub record Board : Type 0 where
   pub untaken : ℕ → Option ℕ
   pub sends : ℕ
 
--- rule H2: a send of a node to a number, of a job or a note; an idle call; a barrier call with a buffer of a length; a delivery from a node
--- to another; a loss of the j-th item
+-- rule H2: a send of a job or a note by a node to a number; an idle call; a barrier call with a buffer of a length; a
+-- delivery from a node to another; a loss of the j-th item
 pub data Event : Type 0 where
   sends : Kind → ℕ → ℕ → Event
   idles : ℕ → Event
