@@ -1,4 +1,5 @@
 pub mod Clauses
+pub mod FirstFailing
 pub mod Valid
 pub mod Ways
 pub mod Totals
