@@ -81,12 +81,7 @@ pub extern "C" fn ocb_barrier(state: &mut [u32], buf: &mut [u8], details: &mut [
     ensures buffer { λ r. ⌜ now (buf .exit) ≡ barrierBuffer base (now (state .entry)) (now (buf .entry)) ⌝ }
     ensures details { λ r.
         ⌜ now (details .exit)
-        ≡ detailWords (now (details .entry)) (getD (now (details .exit)) 4 0)
-        (barrierOn base (now (state .entry)) (length (now (buf .entry)))) ⌝ }
-    ensures clause { λ r.
-        ⌜ isClause base (now (state .entry)) (getD (now (details .exit)) 4 0)
-        (barrierOn base (now (state .entry)) (length (now (buf .entry))))
-        ≡ true ⌝ }
+        ≡ detailWords (now (details .entry)) (barrierOn base (now (state .entry)) (length (now (buf .entry)))) ⌝ }
 {
     answers::answer_barrier(calls::step(base::of_build(), state, buf), details)
 }
