@@ -1,7 +1,6 @@
 // What a maker links: the calls in place on a state that the caller lends as words, answers as numbers.
 ghost use mathlib.Core.Path.{_≡_};
-ghost use mathlib.Core.Bool.{true};
-ghost use lib.ListN.{length, getD};
+ghost use lib.ListN.{length};
 ghost use Rattle.base.specs.Limits.{base};
 ghost use Rattle.base.specs.declared.Kind.the-variants.{Job, Note};
 ghost use Rattle.tree.specs.Lookups.{dimensionLookup, placeLookup, distanceLookup};
@@ -12,7 +11,7 @@ ghost use Rattle.node.specs.Answers.{outcomeNumber, barrierNumber};
 ghost use Rattle.node.specs.Calls.{send, take, idle, frameIn};
 ghost use Rattle.node_calls.specs.Fresh.{freshOn, freshWords};
 ghost use Rattle.answers.specs.Words.{lookupNumber, numberWords, placeWords, detailWords};
-ghost use Rattle.barrier_c.specs.Exports.{answerOn, wordsOn, barrierOn, barrierState, barrierBuffer, isClause};
+ghost use Rattle.barrier_c.specs.Exports.{answerOn, wordsOn, barrierOn, barrierState, barrierBuffer};
 use base::Kind;
 
 // ---- Exported: the calls on a state

@@ -10,4 +10,5 @@ pub mod Storing
 pub mod ValidOut
 pub mod Passes
 pub mod Taken
+pub mod Waiting
 pub mod Sizes
