@@ -290,8 +290,8 @@ uint32_t ocb_frame_in(uint32_t *state, size_t words, const uint8_t *bytes, size_
  *
  * - 0: no frame of this step has come from the awaited node in this cycle. That node is busy or not as far, or its frame
  *   is on its way.
- * - 1: the frame is there. What this side has sent to the other side is not what that side has taken: something is on its
- *   way, or the counts of one side are older than those of the other.
+ * - 1: the frame is there. What this side has sent to the other side is not what that side has taken: something is on
+ *   its way, or the counts of one side are older than those of the other.
  * - 2: 1 holds. What the other side has sent to this side is not what this side has taken, for the same reasons.
  * - 3: 0 holds, and in pass 1 also 1 and 2. A sum of counts is above the limit, more than the largest board can send in
  *   a cycle: a count is wrong.
