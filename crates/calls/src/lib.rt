@@ -1,13 +1,10 @@
 // The calls in place on the words that the caller lends, each with words of its own for the sums. Words that hold no state
 // are refused with 13.
 ghost use mathlib.Core.Path.{_≡_};
-ghost use mathlib.Core.Bool.{true};
 ghost use lib.ListN.{length};
 ghost use Rattle.base.specs.Limits.{limitsOf};
 ghost use Rattle.node.specs.Answers.{outcomeOf, barrierOf};
-ghost use Rattle.node.specs.Barrier.{clauseFails};
 ghost use Rattle.node.specs.Calls.{send, take, idle, frameIn};
-ghost use Rattle.layout.specs.Held.{unpacked};
 ghost use Rattle.calls.specs.OnWords.{answerOn, wordsOn, barrierOn, barrierState, barrierBuffer};
 use base::Bounds;
 use base::Kind;
@@ -63,7 +60,6 @@ pub fn frame_in(b: Bounds, state: &mut [u32], bytes: &[u8]) -> Answer
 // One step of an idle node: sends its frame, moves on, leaves or waits. Refuses 13, 12, 14.
 pub fn step(b: Bounds, state: &mut [u32], buf: &mut [u8]) -> BarrierAnswer
     ensures answer { λ r. ⌜ barrierOf r ≡ barrierOn (limitsOf b) (now (state .entry)) (length (now (buf .entry))) ⌝ }
-    ensures clause { λ r. ⌜ clauseFails (limitsOf b) (unpacked (now (state .entry))) r ≡ true ⌝ }
     ensures memory { λ r.
         ⌜ now (state .exit) ≡ barrierState (limitsOf b) (now (state .entry)) (length (now (buf .entry))) ⌝ }
     ensures buffer { λ r. ⌜ now (buf .exit) ≡ barrierBuffer (limitsOf b) (now (state .entry)) (now (buf .entry)) ⌝ }

@@ -5,7 +5,7 @@ ghost use Prim.Native.Nat.{ℕ, _+_};
 ghost use lib.Dec.{ltb, leb, eqb};
 ghost use Rattle.base.specs.Choice.{choose, both};
 ghost use Rattle.survey.specs.Verdict.{isAgreed};
-ghost use Rattle.walk_tests.specs.Tests.{totalTested, mayStand, firstFits, lastVerdict};
+ghost use Rattle.walk_tests.specs.Tests.{totalTested, mayStand, firstFits};
 use frame::Sent;
 use frame::Taken;
 use survey::Verdict;
@@ -130,17 +130,4 @@ pub fn first_fits(p: u32, k: u32, at: u32, words: usize, room: usize) -> bool
         return false;
     }
     (2 * p + layout::TOTALS) as usize <= room
-}
-
-// Clause 4: in the last dimension total sent is total taken, the frame's being added to both.
-pub fn last_verdict(last: bool, issued: Sent, received: Taken) -> Verdict
-    ensures { λ r. ⌜ r ≡ lastVerdict last (issued .0) (received .0) ⌝ }
-{
-    if !last {
-        return Verdict::Agrees;
-    }
-    if issued.0 != received.0 {
-        return Verdict::Fails(4);
-    }
-    Verdict::Agrees
 }
