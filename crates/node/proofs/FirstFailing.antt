@@ -1,11 +1,10 @@
 -- The first clause that fails: all before it hold, and there is no other such clause.
-use mathlib.Core.Path.{_≡_, refl, sym, ap, _∙_}
+use mathlib.Core.Path.{_≡_, refl}
 use mathlib.Core.Bool.{Bool, true, false}
 use mathlib.Core.List.{List, [], _∷_}
 use Prim.Native.Nat.{ℕ, zero, suc, _<_}
 use native.Mathlib.Omega.{arith}
 use lib.ListN.{getD}
-use Rattle.base.specs.Choice.{choose, both}
 use Rattle.base.proofs.Laws.{clash}
 use Rattle.node.specs.Agree.{allHold, firstFailing}
 
@@ -21,9 +20,6 @@ stops e = record { some = rw e; first = rw e }
 pub passes : {t : Bool} {cs : List Bool} {c : ℕ} → t ≡ true → Named cs c → Named (t ∷ cs) (suc c)
 unfolding firstFailing
 passes e n = record { some = rw (e, n .some); first = rw (e, n .first) }
-
-pub not-all : (cs : List Bool) → allHold cs ≡ false → Named cs (firstFailing cs)
-not-all cs e = record { some = e; first = refl }
 
 -- what it is: it fails, and those with lower numbers hold
 pub record Lowest (cs : List Bool) (c : ℕ) : Type 0 where

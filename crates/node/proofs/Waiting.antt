@@ -11,7 +11,7 @@ use Rattle.base.specs.Choice.{choose}
 use Rattle.base.specs.Limits.{Limits}
 use Rattle.base.proofs.Laws.{clash}
 use Rattle.node.specs.Sums.{dims, firstAt, secondAt, own, ownIssued}
-use Rattle.node.specs.Agree.{isAlone, firstClauses, secondClauses, clauses, allHold, agrees, firstFailing}
+use Rattle.node.specs.Agree.{isAlone, firstClauses, secondClauses, clauses, allHold, agrees}
 use Rattle.node.specs.Answers.{Given, Barrier, sent, waits, moved, left, barred}
 use Rattle.node.specs.Barrier.{barrier}
 use Rattle.node.specs.declared.Node.{Node}

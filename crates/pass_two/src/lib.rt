@@ -25,8 +25,9 @@ fn tried(b: Bounds, s: &[u32], p: u32, k: u32, at: u32, issued: Sent, agreed: u3
     }
     let other = Sent(s[(at + layout::SECOND_ISSUED) as usize]);
     let other_agreed = s[(at + layout::SECOND_AGREED) as usize];
+    let fits = walk_tests::sent_fits(issued, other, base::field_limit(b));
     // with the frame's added, total sent is within the limit
-    if !walk_tests::sent_fits(issued, other, base::field_limit(b)) {
+    if !fits {
         return Verdict::Fails(3);
     }
     // the other side has agreed on the same total
