@@ -81,7 +81,7 @@ moving n =
     choose (ltb (suc (n .dim)) (dims n)) (give (at n (n .pass) (suc (n .dim)) true (n .agreed)) moved)
     (choose (eqb (n .pass) 1) (give (at n 2 0 true (own n (dims n) allTaken)) moved) (leaving n))
 
--- rules N12 and N17: nothing but the flag is altered, and the first clause that fails is named
+-- rule N12 and rule N17: nothing but the flag is altered, and the first clause that fails is named
 abbrev pub waiting : Limits → Node → Given Barrier
 waiting L n =
     give (at n (n .pass) (n .dim) false (n .agreed)) (waits (firstFailing (clauses L n (n .pass) (n .dim))))
