@@ -75,7 +75,7 @@ pub fn missed(report: &Report) -> Vec<String> {
     let rows = TABLE.iter().flat_map(|(kind, ..)| Origin::BUILT.map(|place| (*kind, place)));
     let all = rows.flat_map(|(kind, place)| combinations(kind, place).into_iter().map(move |set| (kind, place, set)));
     let never = all.filter(|(kind, place, set)| report.waits(&(*kind, set.clone(), u32::from(set[0])), *place) == 0);
-    never.map(|(kind, place, set)| format!("{kind}: clauses {set:?} never made to fail. {}", place.title())).collect()
+    never.map(|(kind, place, set)| format!("{}, {kind}: clauses {set:?} never at once", place.title())).collect()
 }
 
 /// How a state is built: all sums of its step are at the limit before clauses are made to fail; frames of later steps
