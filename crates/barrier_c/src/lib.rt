@@ -67,7 +67,7 @@ pub extern "C" fn ocb_frame_in(state: &mut [u32], bytes: &[u8]) -> u32
     ensures answer { λ r. ⌜ r ≡ answerOn base (λ n. frameIn base n (now (bytes .entry))) (now (state .entry)) ⌝ }
     ensures memory { λ r. ⌜ now (state .exit) ≡ wordsOn base (λ n. frameIn base n (now (bytes .entry))) (now (state .entry)) ⌝ }
 {
-    answers::number_of(frame_calls::frame_in(base::of_build(), state, bytes))
+    answers::number_of(calls::frame_in(base::of_build(), state, bytes))
 }
 
 // ---- Exported: the barrier call
@@ -82,7 +82,7 @@ pub extern "C" fn ocb_barrier(state: &mut [u32], buf: &mut [u8], details: &mut [
         ⌜ now (details .exit)
         ≡ detailWords (now (details .entry)) (barrierOn base (now (state .entry)) (length (now (buf .entry)))) ⌝ }
 {
-    answers::answer_barrier(frame_calls::step(base::of_build(), state, buf), details)
+    answers::answer_barrier(calls::step(base::of_build(), state, buf), details)
 }
 
 // ---- Exported: the lookups

@@ -56,7 +56,7 @@ pub fn frame_in(s: State, bytes: &[u8]) -> Reply
     ensures { λ r. ⌜ replied r ≡ onState (λ n. frameIn base n (now (bytes .entry))) s ⌝ }
 {
     let mut words = s.words;
-    let answer = frame_calls::frame_in(base::of_build(), &mut words, bytes);
+    let answer = calls::frame_in(base::of_build(), &mut words, bytes);
     Reply {
         state: State { words: words },
         answer: answer,
@@ -68,7 +68,7 @@ pub fn step(s: State, buf: &mut [u8]) -> StepReply
     ensures memory { λ r. ⌜ now (buf .exit) ≡ stepBytes s (now (buf .entry)) ⌝ }
 {
     let mut words = s.words;
-    let answer = frame_calls::step(base::of_build(), &mut words, buf);
+    let answer = calls::step(base::of_build(), &mut words, buf);
     StepReply {
         state: State { words: words },
         answer: answer,

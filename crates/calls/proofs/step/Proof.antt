@@ -3,9 +3,9 @@ use borrow.Author.Needs.{needs}
 use denote.Ref.{now}
 use native.Mathlib.Omega.{arith}
 use Rattle.base.proofs.Limits.{fits-of}
-use Rattle.calls.proofs.Room.{stepped}
-use Rattle.frame_calls.proofs.step.Statement.{statement}
-use Rattle.frame_calls.proofs.step.Tie as tie
+use Rattle.message_calls.proofs.Room.{stepped}
+use Rattle.calls.proofs.step.Statement.{statement}
+use Rattle.calls.proofs.step.Tie as tie
 
 returns : tie.Need-returns
 returns c =

@@ -5,9 +5,9 @@ use native.Mathlib.Omega.{arith}
 use Rattle.base.specs.Limits.{limitsOf}
 use Rattle.base.proofs.Limits.{fits-of}
 use Rattle.node.specs.Calls.{frameIn}
-use Rattle.calls.proofs.Room.{called}
-use Rattle.frame_calls.proofs.frame_in.Statement.{statement}
-use Rattle.frame_calls.proofs.frame_in.Tie as tie
+use Rattle.message_calls.proofs.Room.{called}
+use Rattle.calls.proofs.frame_in.Statement.{statement}
+use Rattle.calls.proofs.frame_in.Tie as tie
 
 returns : tie.Need-returns
 returns c =
