@@ -1,7 +1,7 @@
 -- `is_tried`: awaited, and below the steps.
 use borrow.Author.Tests.{not-true, not-false}
-use Rattle.walk_tests.proofs.is_tried.Statement.{statement}
-use Rattle.walk_tests.proofs.is_tried.Tie as tie
+use Rattle.scan_tests.proofs.is_tried.Statement.{statement}
+use Rattle.scan_tests.proofs.is_tried.Tie as tie
 
 returns : tie.Need-returns
 returns c = rw (not-true (c .before .args .awaits) (c .if1 .taken))

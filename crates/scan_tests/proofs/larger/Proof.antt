@@ -7,8 +7,8 @@ use mathlib.Core.Bool.{Bool, true, false}
 use Prim.Native.Nat.{ℕ, _≤_}
 use lib.Dec.{leb}
 use Rattle.base.specs.Choice.{both}
-use Rattle.walk_tests.proofs.larger.Statement.{statement}
-use Rattle.walk_tests.proofs.larger.Tie as tie
+use Rattle.scan_tests.proofs.larger.Statement.{statement}
+use Rattle.scan_tests.proofs.larger.Tie as tie
 
 -- the larger of two numbers decides
 over : (x y limit : ℕ) → x ≤ y → leb y limit ≡ both (leb x limit) (leb y limit)

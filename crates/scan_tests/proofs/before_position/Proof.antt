@@ -1,7 +1,7 @@
 -- `before_position`: what the pass gives.
 use borrow.Author.Tests.{eq-eqb, ne-eqb}
-use Rattle.walk_tests.proofs.before_position.Statement.{statement}
-use Rattle.walk_tests.proofs.before_position.Tie as tie
+use Rattle.scan_tests.proofs.before_position.Statement.{statement}
+use Rattle.scan_tests.proofs.before_position.Tie as tie
 
 returns : tie.Need-returns
 returns c = rw (eq-eqb _ _ (c .if1 .taken))

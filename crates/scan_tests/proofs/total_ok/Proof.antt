@@ -1,7 +1,7 @@
 -- `total_ok`: all steps pass, and `totalTested`.
 use borrow.Author.Tests.{eq-eqb, ne-eqb, not-true, not-false}
-use Rattle.walk_tests.proofs.total_ok.Statement.{statement}
-use Rattle.walk_tests.proofs.total_ok.Tie as tie
+use Rattle.scan_tests.proofs.total_ok.Statement.{statement}
+use Rattle.scan_tests.proofs.total_ok.Tie as tie
 
 returns : tie.Need-returns
 returns c = rw (not-true (c .before .args .passed) (c .if1 .taken))

@@ -1,8 +1,8 @@
 -- `awaits_at`: not alone in dimension 0.
 use borrow.Author.Tests.{eq-eqb, ne-eqb}
 use native.Mathlib.Omega.{arith}
-use Rattle.walk_tests.proofs.awaits_at.Statement.{statement}
-use Rattle.walk_tests.proofs.awaits_at.Tie as tie
+use Rattle.scan_tests.proofs.awaits_at.Statement.{statement}
+use Rattle.scan_tests.proofs.awaits_at.Tie as tie
 
 returns : tie.Need-returns
 returns c =

@@ -5,8 +5,8 @@ use native.Mathlib.Omega.{arith}
 use mathlib.Core.Path.{_≡_, refl, _∙_}
 use Prim.Native.Nat.{ℕ, _≤_}
 use lib.Dec.{leb, eqb}
-use Rattle.walk_tests.proofs.may_stand.Statement.{statement}
-use Rattle.walk_tests.proofs.may_stand.Tie as tie
+use Rattle.scan_tests.proofs.may_stand.Statement.{statement}
+use Rattle.scan_tests.proofs.may_stand.Tie as tie
 
 -- none is above 0
 at-most-none : (x : ℕ) → eqb x 0 ≡ leb x 0
