@@ -4,10 +4,10 @@ use native.Mathlib.Omega.{arith}
 use mathlib.Core.Path.{sym, ap, _∙_}
 use Prim.Native.Nat.{_+_, _<_}
 use Rattle.base.specs.Refusal.{found}
 use Rattle.tree.specs.Tree.{leftSize, rightSize, hermit}
 use Rattle.tree.proofs.Places.{place-alone, place-even, place-hermit, place-messenger, place-plain}
-use Rattle.tree.proofs.place_in.Statement.{statement}
-use Rattle.tree.proofs.place_in.Tie as tie
+use Rattle.lookups.proofs.place_in.Statement.{statement}
+use Rattle.lookups.proofs.place_in.Tie as tie
 
 returns : tie.Need-returns
 returns c = ap found (sym (place-alone _ _ (omega arith)))

@@ -1,9 +1,9 @@
 -- `distance_of` answers `distanceLookup` with the limits of this build.
 use borrow.Author.Needs.{needs}
 use mathlib.Core.Path.{ap, _∙_}
 use Rattle.tree.specs.Lookups.{distanceLookup}
-use Rattle.tree.proofs.distance_of.Statement.{statement}
-use Rattle.tree.proofs.distance_of.Tie as tie
+use Rattle.lookups.proofs.distance_of.Statement.{statement}
+use Rattle.lookups.proofs.distance_of.Tie as tie
 
 returns : tie.Need-returns
 returns c =

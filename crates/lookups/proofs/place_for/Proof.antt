@@ -6,12 +6,12 @@ use mathlib.Core.Path.{_≡_, sym, ap, _∙_}
 use mathlib.Core.Bool.{false}
 use Rattle.base.specs.Limits.{limitsOf}
 use Rattle.base.specs.Refusal.{found}
 use Rattle.tree.specs.Tree.{dimension, placeIn, place}
 use Rattle.tree.specs.Lookups.{badBoard, foundAnswer, placeLookup}
 use Rattle.tree.proofs.Runs.{below-has, run-up}
 use Rattle.tree.proofs.Lookups.{board-good, dimension-refused, dimension-found}
-use Rattle.tree.proofs.place_for.Statement.{statement}
-use Rattle.tree.proofs.place_for.Tie as tie
+use Rattle.lookups.proofs.place_for.Statement.{statement}
+use Rattle.lookups.proofs.place_for.Tie as tie
 
 returns : tie.Need-returns
 unfolding placeLookup

@@ -2,9 +2,9 @@
 use borrow.Author.Needs.{needs}
 use native.Mathlib.Omega.{arith}
 use mathlib.Core.Path.{sym, _∙_}
 use Rattle.tree.proofs.Runs.{run-is, part-left, part-right}
-use Rattle.tree.proofs.part_of.Statement.{statement}
-use Rattle.tree.proofs.part_of.Tie as tie
+use Rattle.lookups.proofs.part_of.Statement.{statement}
+use Rattle.lookups.proofs.part_of.Tie as tie
 
 returns : tie.Need-returns
 returns c =

@@ -2,9 +2,9 @@
 use borrow.Author.Needs.{needs}
 use native.Mathlib.Omega.{arith}
 use mathlib.Core.Path.{sym, _∙_}
 use Rattle.tree.proofs.Places.{across-left, across-right}
-use Rattle.tree.proofs.across_from.Statement.{statement}
-use Rattle.tree.proofs.across_from.Tie as tie
+use Rattle.lookups.proofs.across_from.Statement.{statement}
+use Rattle.lookups.proofs.across_from.Tie as tie
 
 returns : tie.Need-returns
 returns c = let x = c .before .before .before .args in sym (across-left (x .r) (x .node) (omega arith) ∙ (omega arith))

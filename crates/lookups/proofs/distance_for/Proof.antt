@@ -6,11 +6,11 @@ use mathlib.Core.Path.{_≡_, sym, ap, _∙_}
 use mathlib.Core.Bool.{false}
 use Rattle.base.specs.Limits.{limitsOf}
 use Rattle.base.specs.Refusal.{found}
 use Rattle.tree.specs.Tree.{dimension, distance, distanceBelow}
 use Rattle.tree.specs.Lookups.{badBoard, foundAnswer, distanceLookup}
 use Rattle.tree.proofs.Lookups.{board-good, dimension-refused, dimension-found}
-use Rattle.tree.proofs.distance_for.Statement.{statement}
-use Rattle.tree.proofs.distance_for.Tie as tie
+use Rattle.lookups.proofs.distance_for.Statement.{statement}
+use Rattle.lookups.proofs.distance_for.Tie as tie
 
 returns : tie.Need-returns
 unfolding distanceLookup

@@ -5,10 +5,10 @@ use native.Mathlib.Omega.{arith}
 use mathlib.Core.Path.{_≡_, refl, _∙_, sym, ap}
 use mathlib.Core.Bool.{true, false}
 use Prim.Native.Nat.{_≤_, _<_, _-_}
 use Rattle.tree.specs.Tree.{runBelow, inside, distanceBelow}
 use Rattle.tree.proofs.Distances.{walk-run, walk-together, walk-apart}
-use Rattle.tree.proofs.parted_below.Statement.{statement}
-use Rattle.tree.proofs.parted_below.Tie as tie
+use Rattle.lookups.proofs.parted_below.Statement.{statement}
+use Rattle.lookups.proofs.parted_below.Tie as tie
 
 abbrev Inv-loop : tie.InvT-loop
 Inv-loop nodes p a b r₀ k₀ r k =

@@ -1,9 +1,9 @@
 -- `place_of` answers `placeLookup` with the limits of this build.
 use borrow.Author.Needs.{needs}
 use mathlib.Core.Path.{ap, _∙_}
 use Rattle.tree.specs.Lookups.{placeLookup}
-use Rattle.tree.proofs.place_of.Statement.{statement}
-use Rattle.tree.proofs.place_of.Tie as tie
+use Rattle.lookups.proofs.place_of.Statement.{statement}
+use Rattle.lookups.proofs.place_of.Tie as tie
 
 returns : tie.Need-returns
 returns c =
