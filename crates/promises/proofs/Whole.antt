@@ -4,7 +4,7 @@ use Prim.Native.Nat.{ℕ, _≤_}
 use native.Mathlib.Omega.{arith}
 use Rattle.base.specs.Limits.{base}
 use Rattle.node.proofs.Taken.{note-as-job, job-wakes}
-use Rattle.runs.specs.Claim.{Fit}
+use Rattle.events.specs.Fit.{Fit}
 use Rattle.runs.proofs.Whole.{demand3}
 use Rattle.runs.proofs.Facts.{every-run}
 use Rattle.runs.proofs.LinkBytes.{link-bytes}

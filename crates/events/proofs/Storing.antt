@@ -22,7 +22,7 @@ use Rattle.node.specs.Change.{at, withFirst, withSecond}
 use Rattle.node.specs.Answers.{Given, Outcome}
 use Rattle.node.specs.Calls.{frameIn, stepNumber, firstOf, secondOf, stored, gotten}
 use Rattle.node.specs.declared.Node.{Node}
-use Rattle.runs.specs.Board.{put, frame, Item, Board, delivers, gave, carries, afterFrame}
+use Rattle.events.specs.Board.{put, frame, Item, Board, delivers, gave, carries, afterFrame}
 use Rattle.cycle.proofs.Sums.{pick, update, update-all, update-same, update-other, count}
 use Rattle.cycle.proofs.Lists.{All, all-mid}
 use Rattle.cycle.proofs.Exact.{Entries}
@@ -31,20 +31,20 @@ use Rattle.cycle.proofs.Ledger.{Ledger, Step, Reached}
 use Rattle.cycle.proofs.Window.{Move, window-keeps, Close}
 use Rattle.cycle.proofs.Events.{stateOf, withState, pageWith, act-drop}
 use Rattle.cycle.proofs.Events.{act-store, act-fall}
-use Rattle.runs.proofs.PhaseByte.{apart, apart-same, apart-late}
-use Rattle.runs.proofs.Setting.{Setting, tree, dim-low}
+use Rattle.events.proofs.PhaseByte.{apart, apart-same, apart-late}
+use Rattle.events.proofs.Setting.{Setting, tree, dim-low}
 use Rattle.node.specs.Sums.{Has}
 use Rattle.node.proofs.Ways.{FrameWay, frameOf as fieldsIn}
-use Rattle.runs.proofs.View.{fieldOf, view, Like}
-use Rattle.runs.proofs.Changes.{like-at, like-first, like-second}
-use Rattle.runs.proofs.Pairs.{Cut, Found}
-use Rattle.runs.proofs.Sim.{isSome, hasStored, seats, window-same, awaitedIn, Holds, Says, Loads, Carried, Sim}
-use Rattle.runs.proofs.Marks.{Marks}
+use Rattle.events.proofs.View.{fieldOf, view, Like}
+use Rattle.events.proofs.Changes.{like-at, like-first, like-second}
+use Rattle.events.proofs.Pairs.{Cut, Found}
+use Rattle.events.proofs.Sim.{isSome, hasStored, seats, window-same, awaitedIn, Holds, Says, Loads, Carried, Sim}
+use Rattle.events.proofs.Marks.{Marks}
 use Rattle.node.proofs.Valid.{step-first, step-second}
-use Rattle.runs.proofs.Emit.{dim-step, step-lt}
-use Rattle.runs.proofs.Played.{Played, Next, Mishap, lossy-same, turned-to, hold, dims-is, awaits-at}
-use Rattle.runs.proofs.Arriving.{Arrives, place as placeOf, twin as twinOf, receiver-lt, whole, nothing-before}
-use Rattle.runs.proofs.Arriving.{pairs, named-less, apart-less, not-ahead, off-next, refused-next}
+use Rattle.events.proofs.Emit.{dim-step, step-lt}
+use Rattle.events.proofs.Played.{Played, Next, Mishap, lossy-same, turned-to, hold, dims-is, awaits-at}
+use Rattle.events.proofs.Arriving.{Arrives, place as placeOf, twin as twinOf, receiver-lt, whole, nothing-before}
+use Rattle.events.proofs.Arriving.{pairs, named-less, apart-less, not-ahead, off-next, refused-next}
 
 module _ {L : Limits} {P : ℕ} {setting : Setting L P} {w : Board} (play : Played setting w) where
   abbrev p : ℕ

@@ -9,7 +9,7 @@ use borrow.Author.Tests.{eqb-true, eqb-false, eq-eqb, ne-eqb}
 use Rattle.base.specs.Choice.{choose}
 use Rattle.base.proofs.Laws.{choose-yes, choose-no, cases}
 use Rattle.node.specs.Change.{at}
-use Rattle.runs.specs.Board.{put}
+use Rattle.events.specs.Board.{put}
 use Rattle.cycle.proofs.Sums.{pick, update}
 
 -- a choice by a test and one by a decision

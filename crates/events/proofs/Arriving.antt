@@ -9,7 +9,7 @@ use borrow.Author.Tests.{eqb-false}
 use Rattle.base.specs.Limits.{Limits, fieldLimit}
 use Rattle.base.proofs.Laws.{cases}
 use Rattle.tree.specs.Tree.{dimension}
-use Rattle.runs.specs.Board.{Item, Board, delivers, oldest, without, gave, carries, offUnlessEarly}
+use Rattle.events.specs.Board.{Item, Board, delivers, oldest, without, gave, carries, offUnlessEarly}
 use Rattle.cycle.proofs.Sums.{update, update-all, sum, sum-ext}
 use Rattle.cycle.proofs.Lists.{All, all-mid}
 use Rattle.cycle.proofs.Exact.{takenAll}
@@ -20,12 +20,12 @@ use Rattle.cycle.proofs.Reached.{within-one}
 use Rattle.cycle.proofs.Window.{Window, Move, window-keeps, Sent}
 use Rattle.cycle.proofs.Dating.{FirstDated}
 use Rattle.cycle.proofs.Events.{ledgerWith, pageLost, act-lose}
-use Rattle.runs.proofs.Setting.{Setting, tree}
-use Rattle.runs.proofs.Pairs.{Pair, pair-append, Cut, cut, pair-all, Found, found}
-use Rattle.runs.proofs.Sim.{hasStored, awaitedIn, Carried, Sim}
-use Rattle.runs.proofs.Sim.{unmoved, carried}
-use Rattle.runs.proofs.Marks.{Named, Apart, Marks, marks-same, less-named, less-apart, log-same}
-use Rattle.runs.proofs.Played.{Played, Next, Mishap, held}
+use Rattle.events.proofs.Setting.{Setting, tree}
+use Rattle.events.proofs.Pairs.{Pair, pair-append, Cut, cut, pair-all, Found, found}
+use Rattle.events.proofs.Sim.{hasStored, awaitedIn, Carried, Sim}
+use Rattle.events.proofs.Sim.{unmoved, carried}
+use Rattle.events.proofs.Marks.{Named, Apart, Marks, marks-same, less-named, less-apart, log-same}
+use Rattle.events.proofs.Played.{Played, Next, Mishap, held}
 
 -- the oldest item of the link from a to b
 pub record Arrives (w : Board) (a b : ℕ) (m : Item) : Type 0 where

@@ -10,23 +10,23 @@ use Rattle.base.proofs.Laws.{cases}
 use Rattle.tree.specs.Tree.{dimension}
 use Rattle.node.specs.Calls.{send, idle}
 use Rattle.node.specs.Barrier.{barrier}
-use Rattle.runs.specs.Board.{Item, Board, Event, sends, idles, calls}
-use Rattle.runs.specs.Board.{delivers, loses, oldest, lessOne, carries, step}
+use Rattle.events.specs.Board.{Item, Board, Event, sends, idles, calls}
+use Rattle.events.specs.Board.{delivers, loses, oldest, lessOne, carries, step}
 use Rattle.cycle.proofs.Sums.{update, update-all, sum}
 use Rattle.cycle.proofs.Lists.{All}
 use Rattle.cycle.proofs.Exact.{takenAll}
 use Rattle.cycle.proofs.Ledger.{Dated, Page, Ledger, Reached}
 use Rattle.cycle.proofs.Window.{Move, window-keeps}
 use Rattle.cycle.proofs.Events.{ledgerWith, pageLost, act-lose}
-use Rattle.runs.proofs.Setting.{Setting, tree}
+use Rattle.events.proofs.Setting.{Setting, tree}
 use Rattle.node.proofs.Ways.{send-way, idle-way, call-way}
-use Rattle.runs.proofs.Pairs.{Pair, pair-append, Cut, cut, Lost, lost}
-use Rattle.runs.proofs.Sim.{awaitedIn, Carried, Sim, carried}
-use Rattle.runs.proofs.Marks.{Named, Apart, Marks, marks-same, less-named, less-apart, log-same}
-use Rattle.runs.proofs.Played.{Played, Next, Mishap, stay}
-use Rattle.runs.proofs.Sending.{idle-next, send-next}
-use Rattle.runs.proofs.Calling.{call-next}
-use Rattle.runs.proofs.Delivering.{oldest-next}
+use Rattle.events.proofs.Pairs.{Pair, pair-append, Cut, cut, Lost, lost}
+use Rattle.events.proofs.Sim.{awaitedIn, Carried, Sim, carried}
+use Rattle.events.proofs.Marks.{Named, Apart, Marks, marks-same, less-named, less-apart, log-same}
+use Rattle.events.proofs.Played.{Played, Next, Mishap, stay}
+use Rattle.events.proofs.Sending.{idle-next, send-next}
+use Rattle.events.proofs.Calling.{call-next}
+use Rattle.events.proofs.Delivering.{oldest-next}
 
 module _ {L : Limits} {P : ℕ} {setting : Setting L P} {w : Board} (play : Played setting w) where
   abbrev p : ℕ

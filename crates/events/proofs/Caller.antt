@@ -12,22 +12,22 @@ use Rattle.node.specs.Agree.{agrees}
 use Rattle.node.specs.Change.{at}
 use Rattle.node.specs.Calls.{stepNumber}
 use Rattle.node.specs.declared.Node.{Node}
-use Rattle.runs.specs.Board.{Board}
+use Rattle.events.specs.Board.{Board}
 use Rattle.cycle.proofs.OnePhase.{dimOf, Unheard, Agrees, atStep}
 use Rattle.cycle.proofs.Ledger.{Ledger, Reached}
 use Rattle.cycle.proofs.Reached.{invariant}
 use Rattle.cycle.proofs.Partners.{Among}
 use Rattle.cycle.proofs.Events.{stateOf}
-use Rattle.runs.proofs.Setting.{Setting, tree, awaited-is, hear}
+use Rattle.events.proofs.Setting.{Setting, tree, awaited-is, hear}
 use Rattle.node.proofs.Ways.{NoneDue}
-use Rattle.runs.proofs.View.{view, agree-like, agree-first, agree-second}
-use Rattle.runs.proofs.Changes.{like-at}
-use Rattle.runs.proofs.Sim.{Holds}
-use Rattle.runs.proofs.Sim.{Sim}
-use Rattle.runs.proofs.Marks.{Marks}
+use Rattle.events.proofs.View.{view, agree-like, agree-first, agree-second}
+use Rattle.events.proofs.Changes.{like-at}
+use Rattle.events.proofs.Sim.{Holds}
+use Rattle.events.proofs.Sim.{Sim}
+use Rattle.events.proofs.Marks.{Marks}
 use Rattle.node.proofs.Valid.{step-first, step-second}
-use Rattle.runs.proofs.Emit.{dim-step}
-use Rattle.runs.proofs.Played.{Played, hold, dims-is}
+use Rattle.events.proofs.Emit.{dim-step}
+use Rattle.events.proofs.Played.{Played, hold, dims-is}
 
 module _ {L : Limits} {P : ℕ} {setting : Setting L P} {w : Board} (play : Played setting w) where
   abbrev p : ℕ

@@ -9,7 +9,7 @@ use lib.Dec.{eqb}
 use borrow.Author.Tests.{eqb-true, eq-eqb}
 use Rattle.base.specs.Choice.{choose}
 use Rattle.base.proofs.Laws.{clash, both-true, both-make}
-use Rattle.runs.specs.Board.{Item, onLink, oldest, without, lessOne}
+use Rattle.events.specs.Board.{Item, onLink, oldest, without, lessOne}
 use Rattle.cycle.proofs.Lists.{All}
 
 -- where a value of a list stands

@@ -30,8 +30,8 @@ use Rattle.cycle.proofs.OnePhase.{bumpTaken}
 use Rattle.cycle.proofs.Opening.{fresh}
 use Rattle.node.proofs.Totals.{total-more, total-zero}
 use Rattle.node.specs.Sums.{Has}
-use Rattle.runs.proofs.View.{pastEnd, fieldOf, firstEntries, secondEntries, firstSlot, secondSlot, slots, view}
-use Rattle.runs.proofs.View.{Alike, slots-first, slots-second, Like}
+use Rattle.events.proofs.View.{pastEnd, fieldOf, firstEntries, secondEntries, firstSlot, secondSlot, slots, view}
+use Rattle.events.proofs.View.{Alike, slots-first, slots-second, Like}
 
 same-tal : (n n′ : Node) → n′ .nodes ≡ n .nodes → n′ .sent ≡ n .sent → n′ .taken ≡ n .taken → (f : Field)
     → tally n′ f ≡ tally n f

@@ -12,7 +12,7 @@ use Rattle.node.specs.Sums.{dims}
 use Rattle.node.specs.Answers.{refused}
 use Rattle.node.specs.Calls.{take, frameIn}
 use Rattle.node.specs.declared.Node.{Node}
-use Rattle.runs.specs.Board.{put, work, frame, Item, Board, Event, delivers, loses, oldest, gave}
+use Rattle.events.specs.Board.{put, work, frame, Item, Board, Event, delivers, loses, oldest, gave}
 use Rattle.cycle.proofs.Sums.{update-all, count}
 use Rattle.cycle.proofs.Lists.{All}
 use Rattle.cycle.proofs.Exact.{sentAll, takenAll, Entries}
@@ -20,10 +20,10 @@ use Rattle.cycle.proofs.OnePhase.{State}
 use Rattle.cycle.proofs.Ledger.{Dated, Page, Ledger, Step, Reached}
 use Rattle.cycle.proofs.Window.{Window}
 use Rattle.cycle.proofs.Events.{stateOf, ledgerWith, withState, pageWith}
-use Rattle.runs.proofs.Setting.{Setting, tree, awaited-is}
-use Rattle.runs.proofs.Pairs.{Pair}
-use Rattle.runs.proofs.Sim.{hasStored, window-same, awaitedIn, Holds, Carried, Sim, acted, stored-same, unmoved}
-use Rattle.runs.proofs.Marks.{Named, Apart, Marks, marks-same, takes-same, log-same}
+use Rattle.events.proofs.Setting.{Setting, tree, awaited-is}
+use Rattle.events.proofs.Pairs.{Pair}
+use Rattle.events.proofs.Sim.{hasStored, window-same, awaitedIn, Holds, Carried, Sim, acted, stored-same, unmoved}
+use Rattle.events.proofs.Marks.{Named, Apart, Marks, marks-same, takes-same, log-same}
 
 pub lossy-same : (B : Ledger) (n : ℕ) (u : Page) (ms : List Dated) → u .lossy ≡ B .pages n .lossy → (m : ℕ)
     → ledgerWith B n u ms .pages m .lossy ≡ B .pages m .lossy

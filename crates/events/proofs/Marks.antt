@@ -9,14 +9,14 @@ use native.Mathlib.Omega.{arith}
 use lib.ListN.{length}
 use Rattle.base.specs.Choice.{both}
 use Rattle.base.specs.declared.Kind.{Kind}
-use Rattle.runs.specs.Board.{put, work, frame, Item, posted}
+use Rattle.events.specs.Board.{put, work, frame, Item, posted}
 use Rattle.cycle.proofs.Sums.{sum-at, pick, update, update-all, sum, sum-ext, sum-update, length-snoc}
 use Rattle.cycle.proofs.Lists.{All, all-append, all-map, all-mid}
 use Rattle.cycle.proofs.Exact.{takenAll}
 use Rattle.cycle.proofs.OnePhase.{State}
 use Rattle.cycle.proofs.Ledger.{Dated, Page, Ledger}
 use Rattle.cycle.proofs.Events.{stateOf, ledgerWith, pageSent, pageTaken}
-use Rattle.runs.proofs.Tools.{put-same, put-other, put-update}
+use Rattle.events.proofs.Tools.{put-same, put-other, put-update}
 
 -- 1 for a mark of phase n
 abbrev pub hit : ℕ → Option ℕ → ℕ

@@ -14,19 +14,19 @@ use Rattle.frame.specs.declared.Frame.{Frame}
 use Rattle.node.specs.Change.{at}
 use Rattle.node.specs.Calls.{stepNumber, firstOf, secondOf}
 use Rattle.node.specs.declared.Node.{Node}
-use Rattle.runs.specs.Board.{put, Load, work, frame, Item, Board, gave}
+use Rattle.events.specs.Board.{put, Load, work, frame, Item, Board, gave}
 use Rattle.cycle.proofs.Sums.{pick, update, update-all, update-same, update-other}
 use Rattle.cycle.proofs.Exact.{Entry, sentAll, Entries}
 use Rattle.cycle.proofs.OnePhase.{message, report, State, dimOf, Content}
 use Rattle.cycle.proofs.Ledger.{Dated, Page, Ledger}
 use Rattle.cycle.proofs.Window.{Window}
 use Rattle.cycle.proofs.Events.{stateOf, ledgerWith}
-use Rattle.runs.proofs.Tools.{put-same, put-other, put-all}
-use Rattle.runs.proofs.Setting.{Setting, tree}
+use Rattle.events.proofs.Tools.{put-same, put-other, put-all}
+use Rattle.events.proofs.Setting.{Setting, tree}
 use Rattle.node.specs.Sums.{Has}
 use Rattle.node.proofs.Sizes.{Sized}
-use Rattle.runs.proofs.View.{fieldOf, firstEntries, secondEntries, view, Like}
-use Rattle.runs.proofs.Pairs.{Pair}
+use Rattle.events.proofs.View.{fieldOf, firstEntries, secondEntries, view, Like}
+use Rattle.events.proofs.Pairs.{Pair}
 
 abbrev pub isSome : Option Entries → Bool
 isSome none = false

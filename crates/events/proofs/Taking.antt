@@ -13,25 +13,25 @@ use Rattle.frame.specs.Timing.{difference}
 use Rattle.node.specs.Answers.{Given, Outcome, done}
 use Rattle.node.specs.Calls.{wakes, counted, take}
 use Rattle.node.specs.declared.Node.{Node}
-use Rattle.runs.specs.Board.{put, work, Item, Board, delivers, gave, carries, afterTake}
+use Rattle.events.specs.Board.{put, work, Item, Board, delivers, gave, carries, afterTake}
 use Rattle.cycle.proofs.OnePhase.{message, report, State, atStep, withTallies, bumpTaken, Content}
 use Rattle.cycle.proofs.OnePhase.{Shell}
 use Rattle.cycle.proofs.Ledger.{Dated, Page, Ledger, Reached}
 use Rattle.cycle.proofs.Reached.{message-holds}
 use Rattle.cycle.proofs.Events.{stateOf, ledgerWith, pageTaken}
 use Rattle.cycle.proofs.Events.{act-take}
-use Rattle.runs.proofs.Tools.{put-same, put-other}
-use Rattle.runs.proofs.PhaseByte.{apart-same}
-use Rattle.runs.proofs.Setting.{Setting, tree, dim-low, dim-pos, shell-ok, shell-lt}
+use Rattle.events.proofs.Tools.{put-same, put-other}
+use Rattle.events.proofs.PhaseByte.{apart-same}
+use Rattle.events.proofs.Setting.{Setting, tree, dim-low, dim-pos, shell-ok, shell-lt}
 use Rattle.node.proofs.Ways.{TakeWay}
-use Rattle.runs.proofs.Changes.{like-taken}
-use Rattle.runs.proofs.Pairs.{Cut, Found}
-use Rattle.runs.proofs.Sim.{window-same, Holds, Loads, Carried, Sim}
-use Rattle.runs.proofs.Sim.{acted, stored-same}
-use Rattle.runs.proofs.Marks.{Marks, marks-take}
-use Rattle.runs.proofs.Played.{Played, Next, Mishap, lossy-same, hold, dims-is}
-use Rattle.runs.proofs.Arriving.{Arrives, place as placeOf, twin as twinOf, sender-lt, receiver-lt, whole, pairs}
-use Rattle.runs.proofs.Arriving.{off-win, not-ahead, refused-next}
+use Rattle.events.proofs.Changes.{like-taken}
+use Rattle.events.proofs.Pairs.{Cut, Found}
+use Rattle.events.proofs.Sim.{window-same, Holds, Loads, Carried, Sim}
+use Rattle.events.proofs.Sim.{acted, stored-same}
+use Rattle.events.proofs.Marks.{Marks, marks-take}
+use Rattle.events.proofs.Played.{Played, Next, Mishap, lossy-same, hold, dims-is}
+use Rattle.events.proofs.Arriving.{Arrives, place as placeOf, twin as twinOf, sender-lt, receiver-lt, whole, pairs}
+use Rattle.events.proofs.Arriving.{off-win, not-ahead, refused-next}
 
 module _ {L : Limits} {P : ℕ} {setting : Setting L P} {w : Board} (play : Played setting w) where
   abbrev p : ℕ

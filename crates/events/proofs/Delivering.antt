@@ -5,18 +5,18 @@ use Prim.Native.Nat.{ℕ}
 use Rattle.base.specs.Limits.{Limits, fieldLimit}
 use Rattle.tree.specs.Tree.{dimension}
 use Rattle.node.specs.Calls.{take, frameIn}
-use Rattle.runs.specs.Board.{Load, work, frame, Item, Board, delivers, oldest, delivered, deliveredOldest}
+use Rattle.events.specs.Board.{Load, work, frame, Item, Board, delivers, oldest, delivered, deliveredOldest}
 use Rattle.cycle.proofs.OnePhase.{message, report, Content}
 use Rattle.cycle.proofs.Ledger.{Ledger, Reached}
-use Rattle.runs.proofs.Setting.{Setting, tree}
+use Rattle.events.proofs.Setting.{Setting, tree}
 use Rattle.node.proofs.Ways.{take-way, frame-way}
-use Rattle.runs.proofs.Pairs.{Cut, Found}
-use Rattle.runs.proofs.Sim.{Loads, Carried, Sim}
-use Rattle.runs.proofs.Marks.{Marks}
-use Rattle.runs.proofs.Played.{Played, Next, stay}
-use Rattle.runs.proofs.Arriving.{Arrives, arrives, place as placeOf, twin as twinOf}
-use Rattle.runs.proofs.Taking.{take-next}
-use Rattle.runs.proofs.Storing.{frame-next}
+use Rattle.events.proofs.Pairs.{Cut, Found}
+use Rattle.events.proofs.Sim.{Loads, Carried, Sim}
+use Rattle.events.proofs.Marks.{Marks}
+use Rattle.events.proofs.Played.{Played, Next, stay}
+use Rattle.events.proofs.Arriving.{Arrives, arrives, place as placeOf, twin as twinOf}
+use Rattle.events.proofs.Taking.{take-next}
+use Rattle.events.proofs.Storing.{frame-next}
 
 module _ {L : Limits} {P : ℕ} {setting : Setting L P} {w : Board} (play : Played setting w) where
   abbrev p : ℕ

@@ -21,10 +21,10 @@ use Rattle.cycle.proofs.Exact.{Entry, sentTo, takenFrom, sentAll, takenAll, own
 use Rattle.cycle.proofs.OnePhase.{State, confirming, frameOf, dimOf}
 use Rattle.cycle.proofs.AtRest.{frame-first, frame-second, dim-first, dim-second}
 use Rattle.frame.proofs.RoundTripAccepted.{Read}
-use Rattle.runs.proofs.Setting.{Setting, dim-low}
+use Rattle.events.proofs.Setting.{Setting, dim-low}
 use Rattle.node.specs.Sums.{Has}
-use Rattle.runs.proofs.View.{fieldOf, firstEntries, secondEntries, view, own-is, issued-is, own-like, own2-like}
-use Rattle.runs.proofs.Sim.{Holds, Says}
+use Rattle.events.proofs.View.{fieldOf, firstEntries, secondEntries, view, own-is, issued-is, own-like, own2-like}
+use Rattle.events.proofs.Sim.{Holds, Says}
 use Rattle.node.proofs.Valid.{step-first, step-second, valid-known}
 use Rattle.node.proofs.Bound.{due-first, due-second, due-read}
 use Rattle.frame.proofs.RoundTripAccepted.{read-known}

@@ -6,7 +6,7 @@ use Prim.Native.Nat.{ℕ, _≤_, _<_}
 use native.Mathlib.Omega.{arith}
 use Rattle.base.specs.Limits.{Limits, width}
 use Rattle.tree.specs.Tree.{dimension, awaited, receivers, distance}
-use Rattle.runs.specs.Claim.{Fit}
+use Rattle.events.specs.Fit.{Fit}
 use Rattle.cycle.proofs.Tree.{Tree}
 use Rattle.cycle.proofs.Partners.{partners, await-is, hear as hear-of, receivers-await as receivers-await-of}
 use Rattle.cycle.proofs.Partners.{Among, shell-ok as shell-of}

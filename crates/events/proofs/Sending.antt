@@ -14,7 +14,7 @@ use Rattle.node.specs.Change.{withBusy}
 use Rattle.node.specs.Answers.{Given, Outcome}
 use Rattle.node.specs.Calls.{oneSent}
 use Rattle.node.specs.declared.Node.{Node}
-use Rattle.runs.specs.Board.{put, work, Item, Board, sends, idles, gave, afterSend, afterIdle}
+use Rattle.events.specs.Board.{put, work, Item, Board, sends, idles, gave, afterSend, afterIdle}
 use native.Mathlib.Nat.{mul-le-mul-right}
 use Rattle.cycle.proofs.Sums.{sum-count, sum-ext, sum-less, count}
 use Rattle.cycle.proofs.Exact.{sentAll}
@@ -23,14 +23,14 @@ use Rattle.cycle.proofs.Ledger.{Dated, Page, Ledger, Reached}
 use Rattle.cycle.proofs.Reached.{invariant, within-one}
 use Rattle.cycle.proofs.Window.{Move, window-keeps}
 use Rattle.cycle.proofs.Events.{stateOf, ledgerWith, pageSent, act-rest, act-send}
-use Rattle.runs.proofs.Tools.{put-same, put-other}
-use Rattle.runs.proofs.Setting.{Setting, tree, dim-low, shell-ok, shell-lt}
+use Rattle.events.proofs.Tools.{put-same, put-other}
+use Rattle.events.proofs.Setting.{Setting, tree, dim-low, shell-ok, shell-lt}
 use Rattle.node.proofs.Ways.{SendWay, IdleWay}
-use Rattle.runs.proofs.Changes.{like-sent, like-idle}
-use Rattle.runs.proofs.Pairs.{pair-append}
-use Rattle.runs.proofs.Sim.{window-same, awaitedIn, Holds, Carried, Sim, acted, stored-same}
-use Rattle.runs.proofs.Marks.{Marks, marks-send}
-use Rattle.runs.proofs.Played.{Played, Next, lossy-same, held, turns-still, hold, dims-is}
+use Rattle.events.proofs.Changes.{like-sent, like-idle}
+use Rattle.events.proofs.Pairs.{pair-append}
+use Rattle.events.proofs.Sim.{window-same, awaitedIn, Holds, Carried, Sim, acted, stored-same}
+use Rattle.events.proofs.Marks.{Marks, marks-send}
+use Rattle.events.proofs.Played.{Played, Next, lossy-same, held, turns-still, hold, dims-is}
 
 module _ {L : Limits} {P : ℕ} {setting : Setting L P} {w : Board} (play : Played setting w) where
   abbrev p : ℕ

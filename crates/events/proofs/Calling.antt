@@ -14,7 +14,7 @@ use Rattle.node.specs.Change.{at}
 use Rattle.node.specs.Answers.{Given, Barrier}
 use Rattle.node.specs.Calls.{stepNumber}
 use Rattle.node.specs.Barrier.{frameDue, receiversDue}
-use Rattle.runs.specs.Board.{Board, calls, gave, posted, afterCall}
+use Rattle.events.specs.Board.{Board, calls, gave, posted, afterCall}
 use Rattle.cycle.proofs.Lists.{All}
 use Rattle.cycle.proofs.Exact.{takenAll, Entries, ownSums}
 use Rattle.cycle.proofs.OnePhase.{report, posts, frameOf, dimOf, atStep}
@@ -23,18 +23,18 @@ use Rattle.cycle.proofs.Reached.{invariant, within-one}
 use Rattle.cycle.proofs.Window.{Window, Move, window-keeps}
 use Rattle.cycle.proofs.Dating.{dated}
 use Rattle.cycle.proofs.Events.{stateOf, pageWith, act-wait, act-move, act-put}
-use Rattle.runs.proofs.Setting.{Setting, tree, dim-pos, receivers-await}
+use Rattle.events.proofs.Setting.{Setting, tree, dim-pos, receivers-await}
 use Rattle.node.proofs.Ways.{CallWay}
-use Rattle.runs.proofs.View.{view, own-is, own-like}
-use Rattle.runs.proofs.Pairs.{Pair, pair-append}
-use Rattle.runs.proofs.Sim.{hasStored, window-same, awaitedIn, awaited-in, Says}
-use Rattle.runs.proofs.Sim.{Carried, Sim, stored-same}
-use Rattle.runs.proofs.Marks.{Marks, frames-named, frames-apart}
+use Rattle.events.proofs.View.{view, own-is, own-like}
+use Rattle.events.proofs.Pairs.{Pair, pair-append}
+use Rattle.events.proofs.Sim.{hasStored, window-same, awaitedIn, awaited-in, Says}
+use Rattle.events.proofs.Sim.{Carried, Sim, stored-same}
+use Rattle.events.proofs.Marks.{Marks, frames-named, frames-apart}
 use Rattle.node.proofs.Valid.{step-first, step-second}
-use Rattle.runs.proofs.Emit.{emitted}
-use Rattle.runs.proofs.Played.{Played, Next, held, turned-to, turns-still, hold, dims-is}
-use Rattle.runs.proofs.Caller.{dim-at, rest-of, rcv-is, heard-by, mute-of, agree-of, hold-at, hold-still}
-use Rattle.runs.proofs.Leaving.{leave-next}
+use Rattle.events.proofs.Emit.{emitted}
+use Rattle.events.proofs.Played.{Played, Next, held, turned-to, turns-still, hold, dims-is}
+use Rattle.events.proofs.Caller.{dim-at, rest-of, rcv-is, heard-by, mute-of, agree-of, hold-at, hold-still}
+use Rattle.events.proofs.Leaving.{leave-next}
 
 module _ {L : Limits} {P : ℕ} {setting : Setting L P} {w : Board} (play : Played setting w) where
   abbrev p : ℕ

@@ -12,7 +12,7 @@ use Rattle.node.specs.Agree.{agrees}
 use Rattle.node.specs.Change.{freshIn}
 use Rattle.node.specs.Answers.{left}
 use Rattle.node.specs.declared.Node.{Node}
-use Rattle.runs.specs.Board.{put, Board, calls, gave, afterCall}
+use Rattle.events.specs.Board.{put, Board, calls, gave, afterCall}
 use Rattle.cycle.proofs.Sums.{update, update-all, update-same, update-other}
 use Rattle.cycle.proofs.Exact.{sentAll}
 use Rattle.cycle.proofs.OnePhase.{State, dimOf, Agrees, atStep}
@@ -21,17 +21,17 @@ use Rattle.cycle.proofs.Ledger.{Page, Ledger, Reached}
 use Rattle.cycle.proofs.Reached.{invariant}
 use Rattle.cycle.proofs.Window.{Move, window-keeps}
 use Rattle.cycle.proofs.Events.{stateOf, pageWith, act-leave}
-use Rattle.runs.proofs.Tools.{put-same, put-other, put-all}
-use Rattle.runs.proofs.PhaseByte.{next-byte}
-use Rattle.runs.proofs.Setting.{Setting, tree, dim-low, dim-pos}
+use Rattle.events.proofs.Tools.{put-same, put-other, put-all}
+use Rattle.events.proofs.PhaseByte.{next-byte}
+use Rattle.events.proofs.Setting.{Setting, tree, dim-low, dim-pos}
 use Rattle.node.proofs.Ways.{NoneDue}
-use Rattle.runs.proofs.Changes.{like-fresh}
-use Rattle.runs.proofs.Sim.{isSome, hasStored, window-same, awaitedIn, awaited-below, Holds}
-use Rattle.runs.proofs.Sim.{Sim}
-use Rattle.runs.proofs.Marks.{Marks, marks-same, takes-same, log-same}
+use Rattle.events.proofs.Changes.{like-fresh}
+use Rattle.events.proofs.Sim.{isSome, hasStored, window-same, awaitedIn, awaited-below, Holds}
+use Rattle.events.proofs.Sim.{Sim}
+use Rattle.events.proofs.Marks.{Marks, marks-same, takes-same, log-same}
 use Rattle.node.proofs.Valid.{step-second}
-use Rattle.runs.proofs.Played.{Played, Next, lossy-same, hold, dims-is}
-use Rattle.runs.proofs.Caller.{rest-of, mute-of, agree-of}
+use Rattle.events.proofs.Played.{Played, Next, lossy-same, hold, dims-is}
+use Rattle.events.proofs.Caller.{rest-of, mute-of, agree-of}
 
 module _ {L : Limits} {P : ℕ} {setting : Setting L P} {w : Board} (play : Played setting w) where
   abbrev p : ℕ
