@@ -21,7 +21,7 @@ pub fn tested(b: Bounds, nodes: u32, fields: &[u32; 23]) -> Found
     if 256 <= fields[PHASE] {
         return Found::Refused(10);
     }
-    if wire_read::step_bad(p, fields[PASS], fields[DIM]) {
+    if frame::step_bad(p, fields[PASS], fields[DIM]) {
         return Found::Refused(10);
     }
     if !field_words::numbers_ok(b, p, fields) {

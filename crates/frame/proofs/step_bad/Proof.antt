@@ -7,8 +7,8 @@ use mathlib.Core.Bool.{true}
 use Prim.Native.Nat.{ℕ, _≤_, _<_}
 use lib.Dec.{eqb}
 use Rattle.base.specs.Choice.{either}
-use Rattle.wire_read.proofs.step_bad.Statement.{statement}
-use Rattle.wire_read.proofs.step_bad.Tie as tie
+use Rattle.frame.proofs.step_bad.Statement.{statement}
+use Rattle.frame.proofs.step_bad.Tie as tie
 
 one-or-two : (x : ℕ) → 1 ≤ x → x < 3 → either (eqb x 1) (eqb x 2) ≡ true
 one-or-two x a b = go (ℕ-discrete x 1)
