@@ -102,7 +102,7 @@ pub extern "C" fn ocb_place(nodes: u32, dimension: u32, node: u32, found: &mut [
     ensures answer { λ r. ⌜ r ≡ lookupNumber (placeLookup base nodes dimension node) ⌝ }
     ensures memory { λ r. ⌜ now (found .exit) ≡ placeWords (placeLookup base nodes dimension node) (now (found .entry)) ⌝ }
 {
-    answers::answer_placed(tree::place_of(nodes, dimension, node), found)
+    answers::answer_placed(lookups::place_of(nodes, dimension, node), found)
 }
 
 // The distance of two nodes. Refuses 1, 2, 3.
@@ -111,7 +111,7 @@ pub extern "C" fn ocb_distance(nodes: u32, a: u32, b: u32, found: &mut [u32; 1])
     ensures answer { λ r. ⌜ r ≡ lookupNumber (distanceLookup base nodes a b) ⌝ }
     ensures memory { λ r. ⌜ now (found .exit) ≡ numberWords (distanceLookup base nodes a b) (now (found .entry)) ⌝ }
 {
-    answers::answer_found(tree::distance_of(nodes, a, b), found)
+    answers::answer_found(lookups::distance_of(nodes, a, b), found)
 }
 
 // ---- Exported: frames, for tools and tests

@@ -46,7 +46,7 @@ fn print_line(nodes: u32, node: u32, dimension: u32) {
     print_number(nodes);
     print_next(node);
     print_next(dimension);
-    print_place(tree::place_of(nodes, dimension, node));
+    print_place(lookups::place_of(nodes, dimension, node));
     io::write_all(STDOUT_FILENO, b"\n");
 }
 

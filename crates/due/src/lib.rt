@@ -40,7 +40,7 @@ fn place_of(b: Bounds, s: &[u32]) -> Placed
     requires { ⌜ headWords ≤ length (now s) ⌝ }
     ensures { λ r. ⌜ placedAnswer r ≡ lookedUp (limitsOf b) (now (s .entry)) ⌝ }
 {
-    tree::place_for(b, s[layout::NODES], s[layout::DIM], s[layout::NUMBER])
+    lookups::place_for(b, s[layout::NODES], s[layout::DIM], s[layout::NUMBER])
 }
 
 // The receivers of a node at a place.

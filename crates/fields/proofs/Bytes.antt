@@ -1,33 +1,35 @@
 -- The bytes put together from words are those of the frame that the words hold, and what the writer answers and leaves.
 use mathlib.Core.Path.{_≡_, refl, sym, ap, _∙_}
 use mathlib.Core.Logic.{_⊎_, inl, inr}
-use mathlib.Core.Bool.{true, false}
+use mathlib.Core.Bool.{Bool, true, false}
 use mathlib.Core.List.{List, [], _∷_, _++_, append-assoc}
 use Prim.Native.Nat.{ℕ, _+_, _-_, _*_, _≤_, _<_}
-use native.Mathlib.Decide.{decLt}
 use native.Mathlib.Omega.{arith}
+use lib.Dec.{ltb, leb}
 use lib.ListN.{length, getD, length-append}
-use borrow.Author.Tests.{le-leb, lt-leb, lt-ltb, le-ltb, eq-eqb, ne-eqb}
-use Rattle.base.specs.Choice.{list}
-use Rattle.base.specs.Limits.{Limits, width}
-use Rattle.base.specs.Refusal.{Answered, refused, found}
-use Rattle.base.proofs.Laws.{choose-yes, choose-no}
+use borrow.Author.Tests.{leb-false, lt-ltb, le-ltb}
+use Rattle.base.specs.Choice.{choose, list}
+use Rattle.base.specs.Limits.{Limits, Fits, width}
+use Rattle.base.specs.Refusal.{Refusal, Answered, Check, refused, found, when, inOrder}
+use Rattle.base.proofs.Laws.{choose-yes, choose-no, Passes, order-stops, stops-before, checks-stop, checks-known}
 use Rattle.tree.specs.Tree.{dimension}
 use Rattle.tree.specs.Lookups.{badBoard}
+use Rattle.tree.proofs.Lookups.{board-good}
 use Rattle.frame.specs.Numbers.{bytesOf}
-use Rattle.frame.specs.Frame.{sentAt, takenAt, frameLength, numbersOf, frameBytes, badStep, numbersOk, writeFrame, over}
+use Rattle.frame.specs.Frame.{sentAt, takenAt, frameLength, numbersOf, frameBytes, badStep, writeFrame, over}
 use Rattle.frame.specs.Parts.{pasted}
 use Rattle.frame.specs.declared.Frame.{Frame}
 use Rattle.frame.proofs.Writing.{first-row, second-row, length-frame}
 use Rattle.frame.proofs.RoundTripChecks.{step-known}
-use Rattle.frame.proofs.Answers.{write-step, write-numbers, write-stranger, write-buffer, write-found}
-use Rattle.wire.specs.Wire.{part}
-use Rattle.wire.proofs.Putting.{length-pieces, whole-put, length-part, part-is}
+use Rattle.wire.specs.Wire.{part, putAt, putNumbers}
+use Rattle.wire.proofs.Putting.{length-pieces, whole-put, one-put, next-put, length-part, part-is}
+use Rattle.wire_read.proofs.Within.{few}
 use Rattle.field_words.specs.Words.{atPass, atPhase, atDim, atSender, atIssued, atReceived, atAgreed, atSent, atTaken}
 use Rattle.field_words.specs.Words.{fieldsEnd, frameFrom}
 use Rattle.fields.specs.Fields.{writeOn, writtenOn}
-use Rattle.fields.specs.Pieces.{between, headWith, firstNumbers, secondNumbers, bytesWith, bytesFrom, putAnswer}
+use Rattle.fields.specs.Pieces.{between, headWith, firstNumbers, secondNumbers, bytesWith, putAnswer}
 use Rattle.field_words.proofs.Numbers.{sent-held, taken-held}
+use Rattle.field_tests.specs.Tests.{tests, testedOn}
 
 -- ---- the bytes
 
@@ -62,7 +64,7 @@ module _ (p : ℕ) (ws : List ℕ) (count : length ws ≡ fieldsEnd) where
         let z : atTaken k + i ≡ atTaken (k + i) = omega arith in
         ap (λ j. getD ws j 0) z ∙ sym (taken-held ws (k + i) (omega arith))))
 
-    first-held : getD ws atPass 0 ≡ 1 → bytesWith 1 ws (firstNumbers p ws) ≡ frameBytes p f
+    pub first-held : getD ws atPass 0 ≡ 1 → bytesWith 1 ws (firstNumbers p ws) ≡ frameBytes p f
     unfolding frameFrom frameBytes
     first-held one =
         let row : firstNumbers p ws ≡ numbersOf p f =
@@ -71,7 +73,7 @@ module _ (p : ℕ) (ws : List ℕ) (count : length ws ≡ fieldsEnd) where
         ∙ sym (first-row p f one) in
         (λ i. sym one i ∷ getD ws atPhase 0 ∷ k ∷ getD ws atSender 0 ∷ bytesOf (row i))
 
-  second-held : getD ws atPass 0 ≡ 2 → bytesWith 2 ws (secondNumbers ws) ≡ frameBytes p f
+  pub second-held : getD ws atPass 0 ≡ 2 → bytesWith 2 ws (secondNumbers ws) ≡ frameBytes p f
   unfolding frameFrom frameBytes
   second-held two =
       let row : secondNumbers ws ≡ numbersOf p f =
@@ -79,14 +81,11 @@ module _ (p : ℕ) (ws : List ℕ) (count : length ws ≡ fieldsEnd) where
       ∙ sym (second-row p f (λ q. omega arith)) in
       (λ i. sym two i ∷ getD ws atPhase 0 ∷ k ∷ getD ws atSender 0 ∷ bytesOf (row i))
 
-  pub bytes-held : p ≤ width → badStep p (getD ws atPass 0) k ≡ false → bytesFrom p ws ≡ frameBytes p f
-  bytes-held few s = let q = step-known p (getD ws atPass 0) k s in go (q .0) (q .1)
-    where
-      go : (getD ws atPass 0 ≡ 1) ⊎ (getD ws atPass 0 ≡ 2) → k < p → bytesFrom p ws ≡ frameBytes p f
-      go (inl one) h = choose-yes _ _ (eq-eqb _ _ one) ∙ first-held few (omega arith) one
-      go (inr two) h = choose-no _ _ (ne-eqb (getD ws atPass 0) 1 (λ q. omega arith)) ∙ second-held two
-
 -- ---- the bytes put
+
+-- what is answered and left where these bytes are put into a buffer
+abbrev pub Put : List ℕ → List ℕ → Answered ℕ → List ℕ → Type 0
+Put bytes buf a after = (a ≡ putAnswer bytes (length buf)) × (after ≡ over bytes buf (putAnswer bytes (length buf)))
 
 module _ (ws buf : List ℕ) (pass : ℕ) (xs : List ℕ) where
   abbrev head : List ℕ
@@ -96,8 +95,7 @@ module _ (ws buf : List ℕ) (pass : ℕ) (xs : List ℕ) where
   frame = bytesWith pass ws xs
 
   -- where there is no room
-  pub put-no : length buf < 4 + 4 * length xs
-      → (refused 14 ≡ putAnswer frame (length buf)) × (buf ≡ over frame buf (putAnswer frame (length buf)))
+  put-no : length buf < 4 + 4 * length xs → Put frame buf (refused 14) buf
   put-no h =
       let b = length-pieces buf head refl xs in
       let t = lt-ltb (length buf) (length frame) (omega arith) in
@@ -105,8 +103,8 @@ module _ (ws buf : List ℕ) (pass : ℕ) (xs : List ℕ) where
       (sym e, sym (ap (over frame buf) e))
 
   -- and where there is
-  pub put-yes : (n : ℕ) (l : List ℕ) → n ≡ 4 + 4 * length xs → n ≤ length buf → l ≡ pasted buf 0 frame
-      → (found n ≡ putAnswer frame (length buf)) × (l ≡ over frame buf (putAnswer frame (length buf)))
+  put-yes : (n : ℕ) (l : List ℕ) → n ≡ 4 + 4 * length xs → n ≤ length buf → l ≡ pasted buf 0 frame
+      → Put frame buf (found n) l
   put-yes n l e h f =
       let b = length-pieces buf head refl xs in
       let t = le-ltb (length buf) (length frame) (omega arith) in
@@ -114,35 +112,75 @@ module _ (ws buf : List ℕ) (pass : ℕ) (xs : List ℕ) where
       let a : putAnswer frame (length buf) ≡ found (length frame) = choose-no _ _ t in
       (ap found m ∙ sym a, f ∙ whole-put buf head refl xs ∙ sym (ap (over frame buf) a))
 
--- how many numbers there are
-module _ (ws : List ℕ) (count : length ws ≡ fieldsEnd) where
-  pub length-between : (from end : ℕ) → from ≤ end → end ≤ fieldsEnd → length (between ws from end) ≡ end - from
+module _ (ws buf : List ℕ) (count : length ws ≡ fieldsEnd) where
+  -- how many numbers there are
+  length-between : (from end : ℕ) → from ≤ end → end ≤ fieldsEnd → length (between ws from end) ≡ end - from
   length-between from end h l = length-part ws from (end - from) (omega (arith, count))
 
-  pub length-first : (p : ℕ) → getD ws atDim 0 ≤ p → p ≤ width
-      → length (firstNumbers p ws) ≡ 2 * (p - getD ws atDim 0) + 2
-  length-first p h few =
-      let k : ℕ = getD ws atDim 0 in
-      let xs : List ℕ = between ws (atSent k) (atSent p) in
-      let ys : List ℕ = between ws (atTaken k) (atTaken p) in
-      let zs : List ℕ = between ws atIssued atAgreed in
-      omega (
-        arith,
-        length-append (xs ++ ys) zs,
-        length-append xs ys,
-        length-between (atSent k) (atSent p) (omega arith) (omega arith),
-        length-between (atTaken k) (atTaken p) (omega arith) (omega arith),
-        length-between atIssued atAgreed (omega arith) (omega arith),
-      )
+  -- a frame of pass 1: the head, the tallies sent, the tallies taken, both totals
+  module _ (p : ℕ) (below : getD ws atDim 0 ≤ p) (few : p ≤ width) where
+    abbrev shell : ℕ
+    shell = getD ws atDim 0
 
-  pub length-second : length (secondNumbers ws) ≡ 2
-  length-second =
-      omega (
-        arith,
-        length-append (between ws atAgreed (atSent 0)) (between ws atIssued atReceived),
-        length-between atAgreed (atSent 0) (omega arith) (omega arith),
-        length-between atIssued atReceived (omega arith) (omega arith),
-      )
+    abbrev xs : List ℕ
+    xs = between ws (atSent shell) (atSent p)
+
+    abbrev ys : List ℕ
+    ys = between ws (atTaken shell) (atTaken p)
+
+    abbrev zs : List ℕ
+    zs = between ws atIssued atAgreed
+
+    lengths : (length xs ≡ p - shell) × (length ys ≡ p - shell) × (length zs ≡ 2)
+    lengths = (
+      length-between (atSent shell) (atSent p) (omega arith) (omega arith) ∙ (omega arith),
+      length-between (atTaken shell) (atTaken p) (omega arith) (omega arith) ∙ (omega arith),
+      length-between atIssued atAgreed (omega arith) (omega arith),
+    )
+
+    length-first : length (firstNumbers p ws) ≡ 2 * (p - shell) + 2
+    length-first = omega (arith, length-append (xs ++ ys) zs, length-append xs ys, lengths)
+
+    pub first-no : length buf < 12 + 2 * (4 * (p - shell)) → Put (bytesWith 1 ws (firstNumbers p ws)) buf (refused 14) buf
+    first-no h = put-no ws buf 1 (firstNumbers p ws) (omega (arith, length-first))
+
+    pub first-yes : (a b c d : List ℕ) → 12 + 2 * (4 * (p - shell)) ≤ length buf → a ≡ putAt buf 0 (headWith 1 ws)
+        → b ≡ putNumbers a 4 xs → c ≡ putNumbers b (4 + 4 * (p - shell)) ys → d ≡ putNumbers c (4 + 2 * (4 * (p - shell))) zs
+        → Put (bytesWith 1 ws (firstNumbers p ws)) buf (found (12 + 2 * (4 * (p - shell)))) d
+    first-yes a b c d h ea eb ec ed =
+        let n = length-append xs ys in
+        let first = eb ∙ ap (λ l. putNumbers l 4 xs) ea ∙ one-put buf (headWith 1 ws) refl xs (omega (arith, lengths)) in
+        let second =
+        ec ∙ next-put buf (headWith 1 ws) refl b xs ys _ first (omega (arith, lengths)) (omega (arith, lengths)) in
+        put-yes ws buf 1 (firstNumbers p ws) _ d (omega (arith, length-first)) h
+        (ed
+        ∙ next-put buf (headWith 1 ws) refl c (xs ++ ys) zs _ second (omega (arith, lengths, n)) (omega (arith, lengths, n)))
+
+  -- a frame of pass 2: the head, T, total sent
+  abbrev us : List ℕ
+  us = between ws atAgreed (atSent 0)
+
+  abbrev vs : List ℕ
+  vs = between ws atIssued atReceived
+
+  ones : (length us ≡ 1) × (length vs ≡ 1)
+  ones = (
+    length-between atAgreed (atSent 0) (omega arith) (omega arith),
+    length-between atIssued atReceived (omega arith) (omega arith),
+  )
+
+  length-second : length (secondNumbers ws) ≡ 2
+  length-second = omega (arith, length-append us vs, ones)
+
+  pub second-no : length buf < 12 → Put (bytesWith 2 ws (secondNumbers ws)) buf (refused 14) buf
+  second-no h = put-no ws buf 2 (secondNumbers ws) (omega (arith, length-second))
+
+  pub second-yes : (a b c : List ℕ) → 12 ≤ length buf → a ≡ putAt buf 0 (headWith 2 ws) → b ≡ putNumbers a 4 us
+      → c ≡ putNumbers b 8 vs → Put (bytesWith 2 ws (secondNumbers ws)) buf (found 12) c
+  second-yes a b c h ea eb ec =
+      let first = eb ∙ ap (λ l. putNumbers l 4 us) ea ∙ one-put buf (headWith 2 ws) refl us (omega (arith, ones)) in
+      put-yes ws buf 2 (secondNumbers ws) 12 c (omega (arith, length-second)) h
+      (ec ∙ next-put buf (headWith 2 ws) refl b us vs _ first (omega (arith, ones)) (omega (arith, ones)))
 
 -- ---- the answers
 
@@ -150,68 +188,74 @@ module _ (ws : List ℕ) (count : length ws ≡ fieldsEnd) where
 abbrev pub Wrote : Limits → ℕ → List ℕ → List ℕ → Answered ℕ → List ℕ → Type 0
 Wrote L P ws buf a after = (a ≡ writeOn L P ws (length buf)) × (after ≡ writtenOn L P ws buf)
 
+-- a test made twice
+twice : {A : Type 0} (s t : Bool) (a b c : A) → choose s a (choose t b (choose s a c)) ≡ choose s a (choose t b c)
+twice true t a b c = refl
+twice false t a b c = refl
+
 module _ (L : Limits) (P : ℕ) (ws buf : List ℕ) where
   abbrev room : ℕ
   room = length buf
 
+  abbrev size : ℕ
+  size = frameLength (dimension P) (getD ws atPass 0) (getD ws atDim 0)
+
+  abbrev last : List Check
+  last = when (ltb room size) Refusal.buffer ∷ []
+
+  -- the tests made before anything is put, and last the test of the room
+  asks : writeOn L P ws room ≡ inOrder refused (tests L P ws ++ last) (found size)
+  unfolding writeFrame frameFrom
+  asks = twice (badBoard L P) (leb 256 (getD ws atPhase 0)) _ _ _
+
   -- a refused call leaves the bytes
-  refuses : (x : ℕ) → writeOn L P ws room ≡ refused x → Wrote L P ws buf (refused x) buf
-  refuses x e = (sym e, sym (ap (over (frameBytes (dimension P) (frameFrom ws)) buf) e))
+  pub wrote-refused : (x : ℕ) → testedOn L P ws ≡ refused x → Wrote L P ws buf (refused x) buf
+  wrote-refused x t =
+      let e = asks ∙ order-stops refused (found size) (stops-before last (checks-stop (tests L P ws) (dimension P) x t)) in
+      (sym e, sym (ap (over (frameBytes (dimension P) (frameFrom ws)) buf) e))
 
-  pub wrote-board : badBoard L P ≡ true → Wrote L P ws buf (refused 1) buf
-  wrote-board g = refuses 1 (rw g)
+  module _ (p : ℕ) (t : testedOn L P ws ≡ found p) where
+    good : Passes (tests L P ws) × (dimension P ≡ p)
+    good = checks-known (tests L P ws) (dimension P) p t
 
-  module _ (p : ℕ) (g : badBoard L P ≡ false) (e : p ≡ dimension P) where
-    pub wrote-phase : 256 ≤ getD ws atPhase 0 → Wrote L P ws buf (refused 10) buf
-    wrote-phase h = refuses 10 (rw (g, le-leb 256 (getD ws atPhase 0) h))
+    step : badStep p (getD ws atPass 0) (getD ws atDim 0) ≡ false
+    step = rw (sym (good .1)) (good .0 .1 .1 .0)
 
-    module _ (low : getD ws atPhase 0 < 256) where
-      asks : writeOn L P ws room ≡ writeFrame L P (frameFrom ws) room
-      asks = rw (g, lt-leb 256 (getD ws atPhase 0) low)
+    -- the numbers are those that the bytes have room for
+    pub tested-low : Fits L → (getD ws atDim 0 < p) × (p ≤ width) × (getD ws atPhase 0 < 256) × (getD ws atSender 0 < 256)
+    tested-low fit =
+        let b = good .0 .0 in (
+          step-known p (getD ws atPass 0) (getD ws atDim 0) step .1,
+          few L fit P p b (sym (good .1)),
+          leb-false _ _ (good .0 .1 .0),
+          omega (arith, leb-false P (getD ws atSender 0) (good .0 .1 .1 .1 .1 .0), board-good L P b .1, fit .nodes),
+        )
 
-      pub wrote-step : badStep p (getD ws atPass 0) (getD ws atDim 0) ≡ true → Wrote L P ws buf (refused 10) buf
-      unfolding frameFrom
-      wrote-step s = refuses 10 (asks ∙ write-step L P (frameFrom ws) room p g e s)
+    -- the frame is put where there is room for it
+    answers : putAnswer (frameBytes p (frameFrom ws)) room ≡ writeOn L P ws room
+    unfolding frameFrom
+    answers =
+        let n : length (frameBytes p (frameFrom ws)) ≡ size =
+        length-frame p (frameFrom ws) ∙ ap (λ d. frameLength d (getD ws atPass 0) (getD ws atDim 0)) (sym (good .1)) in
+        let g = good .0 in
+        let e : inOrder refused (tests L P ws ++ last) (found size) ≡ inOrder refused last (found size) =
+        rw (g .0, g .1 .0, g .1 .1 .0, g .1 .1 .1 .0, g .1 .1 .1 .1 .0) in
+        ap (λ m. choose (ltb room m) (refused 14) (found m)) n ∙ sym (asks ∙ e)
 
-      module _ (s : badStep p (getD ws atPass 0) (getD ws atDim 0) ≡ false) where
-        pub wrote-numbers : numbersOk L p (frameFrom ws) ≡ false → Wrote L P ws buf (refused 10) buf
-        unfolding frameFrom
-        wrote-numbers n = refuses 10 (asks ∙ write-numbers L P (frameFrom ws) room p g e s n)
+    module _ (count : length ws ≡ fieldsEnd) (fit : Fits L) (a : Answered ℕ) (after : List ℕ) where
+      put : (bytes : List ℕ) → bytes ≡ frameBytes p (frameFrom ws) → Put bytes buf a after → Wrote L P ws buf a after
+      put bytes e q =
+          let r : putAnswer bytes room ≡ writeOn L P ws room = ap (λ l. putAnswer l room) e ∙ answers in
+          let w : bytes ≡ frameBytes (dimension P) (frameFrom ws) = e ∙ ap (λ d. frameBytes d (frameFrom ws)) (sym (good .1)) in
+          (q .0 ∙ r, q .1 ∙ (λ i. over (w i) buf (r i)))
 
-        module _ (n : numbersOk L p (frameFrom ws) ≡ true) where
-          pub wrote-stranger : P ≤ getD ws atSender 0 → Wrote L P ws buf (refused 2) buf
-          unfolding frameFrom
-          wrote-stranger h = refuses 2 (asks ∙ write-stranger L P (frameFrom ws) room p g e s n h)
+      pub wrote-first : getD ws atPass 0 ≡ 1 → Put (bytesWith 1 ws (firstNumbers p ws)) buf a after → Wrote L P ws buf a after
+      wrote-first one =
+          let l = tested-low fit in put _ (first-held p ws count (l .1) (omega (arith, l .0)) one)
 
-          module _ (h : getD ws atSender 0 < P) where
-            abbrev bytes : List ℕ
-            bytes = frameBytes p (frameFrom ws)
-
-            -- the frame is put where there is room for it
-            answers : putAnswer bytes room ≡ writeFrame L P (frameFrom ws) room
-            unfolding frameFrom
-            answers = go (decLt room (length bytes))
-              where
-                count : length bytes ≡ frameLength p (getD ws atPass 0) (getD ws atDim 0)
-                count = length-frame p (frameFrom ws)
-
-                go : Dec (room < length bytes) → putAnswer bytes room ≡ writeFrame L P (frameFrom ws) room
-                go (yes r) =
-                    choose-yes _ _ (lt-ltb room (length bytes) r)
-                    ∙ sym (write-buffer L P (frameFrom ws) room p g e s n h (omega (arith, count)))
-                go (no r) =
-                    choose-no _ _ (le-ltb room (length bytes) (omega arith))
-                    ∙ ap found count
-                    ∙ sym (write-found L P (frameFrom ws) room p g e s n h (omega (arith, count)))
-
-            pub wrote-frame : (a : Answered ℕ) (after : List ℕ) → length ws ≡ fieldsEnd → p ≤ width
-                → a ≡ putAnswer (bytesFrom p ws) room
-                → after ≡ over (bytesFrom p ws) buf (putAnswer (bytesFrom p ws) room)
-                → Wrote L P ws buf a after
-            wrote-frame a after count few q r =
-                let b = bytes-held p ws count few s in
-                let t : putAnswer (bytesFrom p ws) room ≡ writeOn L P ws room =
-                ap (λ l. putAnswer l room) b ∙ answers ∙ sym asks in
-                let c : bytesFrom p ws ≡ frameBytes (dimension P) (frameFrom ws) =
-                b ∙ ap (λ d. frameBytes d (frameFrom ws)) e in
-                (q ∙ t, r ∙ (λ i. over (c i) buf (t i)))
+      pub wrote-second : (getD ws atPass 0 ≡ 1 → ⊥) → Put (bytesWith 2 ws (secondNumbers ws)) buf a after → Wrote L P ws buf a after
+      wrote-second not-one = put _ (second-held p ws count (go (step-known p (getD ws atPass 0) (getD ws atDim 0) step .0)))
+        where
+          go : (getD ws atPass 0 ≡ 1) ⊎ (getD ws atPass 0 ≡ 2) → getD ws atPass 0 ≡ 2
+          go (inl one) = absurd (not-one one)
+          go (inr two) = two

@@ -1,13 +1,13 @@
 -- Definitions that only the contracts of private functions cite: the bytes put together from words.
 use mathlib.Core.List.{List, [], _∷_, _++_}
 use Prim.Native.Nat.{ℕ, _-_}
-use lib.Dec.{ltb, eqb}
+use lib.Dec.{ltb}
 use lib.ListN.{length, getD}
 use Rattle.base.specs.Choice.{choose}
 use Rattle.base.specs.Refusal.{Answered, refused, found}
 use Rattle.frame.specs.Numbers.{bytesOf}
 use Rattle.wire.specs.Wire.{part}
-use Rattle.field_words.specs.Words.{atPass, atPhase, atDim, atSender, atIssued, atReceived, atAgreed, atSent, atTaken}
+use Rattle.field_words.specs.Words.{atPhase, atDim, atSender, atIssued, atReceived, atAgreed, atSent, atTaken}
 
 -- the words from a place up to another
 abbrev pub between : List ℕ → ℕ → ℕ → List ℕ
@@ -29,11 +29,6 @@ headWith pass ws = pass ∷ getD ws atPhase 0 ∷ getD ws atDim 0 ∷ getD ws at
 -- a frame of these numbers
 abbrev pub bytesWith : ℕ → List ℕ → List ℕ → List ℕ
 bytesWith pass ws xs = headWith pass ws ++ bytesOf xs
-
--- the frame that words hold, by its pass
-abbrev pub bytesFrom : ℕ → List ℕ → List ℕ
-bytesFrom p ws =
-    choose (eqb (getD ws atPass 0) 1) (bytesWith 1 ws (firstNumbers p ws)) (bytesWith 2 ws (secondNumbers ws))
 
 -- what is answered where these bytes are put into a buffer of so many
 abbrev pub putAnswer : List ℕ → ℕ → Answered ℕ

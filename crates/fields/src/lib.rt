@@ -10,7 +10,7 @@ ghost use Rattle.frame.specs.Frame.{over};
 ghost use Rattle.wire.specs.Wire.{putAt, putNumbers};
 ghost use Rattle.field_words.specs.Words.{atPhase, atDim, atSender, fieldsEnd};
 ghost use Rattle.fields.specs.Fields.{writeOn, writtenOn};
-ghost use Rattle.fields.specs.Pieces.{between, headWith, firstNumbers, secondNumbers, bytesWith, bytesFrom, putAnswer};
+ghost use Rattle.fields.specs.Pieces.{between, headWith, firstNumbers, secondNumbers, bytesWith, putAnswer};
 use base::Bounds;
 use field_words::AGREED;
 use field_words::DIM;
@@ -105,26 +105,6 @@ fn put_second(fields: &[u32], buf: &mut [u8]) -> Found
     Found::Is(12)
 }
 
-// Puts a frame, by its pass.
-fn put_frame(p: u32, fields: &[u32], buf: &mut [u8]) -> Found
-    requires { ⌜ (length (now fields) ≡ fieldsEnd)
-        × (getD (now fields) atDim 0 ≤ p)
-        × (p ≤ width)
-        × (getD (now fields) atPhase 0 < 256)
-        × (getD (now fields) atSender 0 < 256) ⌝ }
-    ensures answer { λ r.
-        ⌜ foundAnswer r ≡ putAnswer (bytesFrom p (now (fields .entry))) (length (now (buf .entry))) ⌝ }
-    ensures memory { λ r.
-        ⌜ now (buf .exit)
-        ≡ over (bytesFrom p (now (fields .entry))) (now (buf .entry))
-        (putAnswer (bytesFrom p (now (fields .entry))) (length (now (buf .entry)))) ⌝ }
-{
-    if fields[PASS] == 1 {
-        return put_first(p, fields, &mut *buf);
-    }
-    put_second(fields, &mut *buf)
-}
-
 // Writes a frame at the start of the buffer and answers its length. Refuses 1, 10, 2, 14.
 pub fn write(b: Bounds, nodes: u32, fields: &[u32; 23], buf: &mut [u8]) -> Found
     ensures answer { λ r.
@@ -132,20 +112,12 @@ pub fn write(b: Bounds, nodes: u32, fields: &[u32; 23], buf: &mut [u8]) -> Found
     ensures buffer { λ r.
         ⌜ now (buf .exit) ≡ writtenOn (limitsOf b) nodes (now (fields .entry)) (now (buf .entry)) ⌝ }
 {
-    let Found::Is(p) = tree::dimension_for(b, nodes) else {
-        return Found::Refused(1);
+    let tested = field_tests::tested(b, nodes, fields);
+    let Found::Is(p) = tested else {
+        return tested;
     };
-    if 256 <= fields[PHASE] {
-        return Found::Refused(10);
+    if fields[PASS] == 1 {
+        return put_first(p, fields, &mut *buf);
     }
-    if wire_read::step_bad(p, fields[PASS], fields[DIM]) {
-        return Found::Refused(10);
-    }
-    if !field_words::numbers_ok(b, p, fields) {
-        return Found::Refused(10);
-    }
-    if nodes <= fields[SENDER] {
-        return Found::Refused(2);
-    }
-    put_frame(p, fields, &mut *buf)
+    put_second(fields, &mut *buf)
 }

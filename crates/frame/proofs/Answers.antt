@@ -1,4 +1,4 @@
--- Laws of the writer's and the reader's answers: each refusal in its order, and what is found when none is met.
+-- Laws of the reader's answers: each refusal in its order, and what is found when none is met.
 use mathlib.Core.Path.{_≡_, refl}
 use mathlib.Core.Bool.{true, false}
 use mathlib.Core.List.{List}
@@ -12,33 +12,7 @@ use Rattle.tree.specs.Tree.{dimension}
 use Rattle.tree.specs.Lookups.{badBoard}
 use Rattle.frame.specs.declared.Frame.{Frame}
 use Rattle.frame.specs.declared.Outcome.the-variants.{Done, Refused}
-use Rattle.frame.specs.Frame.{badStep, frameLength, numbersOk, fieldsOf, readFrame, writeFrame, answerOf}
-
-module _ (L : Limits) (P : ℕ) (f : Frame) (room : ℕ) where
-  module _ (p : ℕ) (g : badBoard L P ≡ false) (e : p ≡ dimension P) where
-    pub write-step : badStep p (f .pass) (f .dim) ≡ true → writeFrame L P f room ≡ refused 10
-    unfolding writeFrame
-    write-step s = rw (g, ← e, s)
-
-    module _ (s : badStep p (f .pass) (f .dim) ≡ false) where
-      pub write-numbers : numbersOk L p f ≡ false → writeFrame L P f room ≡ refused 10
-      unfolding writeFrame
-      write-numbers n = rw (g, ← e, s, n)
-
-      module _ (n : numbersOk L p f ≡ true) where
-        pub write-stranger : P ≤ f .sender → writeFrame L P f room ≡ refused 2
-        unfolding writeFrame
-        write-stranger h = rw (g, ← e, s, n, le-leb P (f .sender) h)
-
-        module _ (h : f .sender < P) where
-          pub write-buffer : room < frameLength p (f .pass) (f .dim) → writeFrame L P f room ≡ refused 14
-          unfolding writeFrame
-          write-buffer r = rw (g, ← e, s, n, lt-leb P (f .sender) h, lt-ltb room (frameLength p (f .pass) (f .dim)) r)
-
-          pub write-found : frameLength p (f .pass) (f .dim) ≤ room
-              → writeFrame L P f room ≡ found (frameLength p (f .pass) (f .dim))
-          unfolding writeFrame
-          write-found r = rw (g, ← e, s, n, lt-leb P (f .sender) h, le-ltb room (frameLength p (f .pass) (f .dim)) r)
+use Rattle.frame.specs.Frame.{badStep, frameLength, numbersOk, fieldsOf, readFrame, answerOf}
 
 module _ (L : Limits) (P : ℕ) (bs : List ℕ) where
   pub read-board : badBoard L P ≡ true → readFrame L P bs ≡ refused 1

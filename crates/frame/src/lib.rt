@@ -1,6 +1,7 @@
-// Frames on a maker's links: the fields of a frame, and the timing of a phase byte. Their bytes are read and written in
-// place, by the crates above.
+// Frames on a maker's links: the fields of a frame, the timing of a phase byte, and the test of a step. Their bytes are read
+// and written in place, by the crates above.
 ghost use mathlib.Core.Path.{_≡_};
+ghost use Rattle.frame.specs.Frame.{badStep};
 ghost use Rattle.frame.specs.Timing.{timing};
 
 // A tally of messages sent.
@@ -50,5 +51,15 @@ pub fn timing_of(other: u8, node: u8) -> Timing
         1 => Timing::Early,
         255 => Timing::Late,
         2..=254 => Timing::Foreign,
+    }
+}
+
+// The pass is not 1 or 2, or the dimension is not below p.
+pub fn step_bad(p: u32, pass: u32, k: u32) -> bool
+    ensures { λ r. ⌜ r ≡ badStep p pass k ⌝ }
+{
+    match pass {
+        1 | 2 => p <= k,
+        _ => true,
     }
 }

@@ -14,7 +14,7 @@ use tree::Placed;
 pub fn is_awaited(b: Bounds, nodes: u32, number: u32, dim: u32, sender: u32) -> bool
     ensures { λ r. ⌜ r ≡ isAwaited (awaitedBy (placeLookup (limitsOf b) nodes dim number)) sender ⌝ }
 {
-    let place = tree::place_for(b, nodes, dim, number);
+    let place = lookups::place_for(b, nodes, dim, number);
     match place {
         Placed::Alone => false,
         Placed::Hermit(next) => next == sender,

@@ -109,7 +109,7 @@ fn head_ok(s: &[u32], limit: u32, p: u32) -> bool
 fn is_alone(b: Bounds, nodes: u32, number: u32) -> bool
     ensures { λ r. ⌜ r ≡ lone (limitsOf b) nodes number ⌝ }
 {
-    let place = tree::place_for(b, nodes, 0, number);
+    let place = lookups::place_for(b, nodes, 0, number);
     match place {
         Placed::Alone => true,
         Placed::Hermit(next) => false,

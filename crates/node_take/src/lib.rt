@@ -24,7 +24,7 @@ use tree::Found;
 pub fn shell_of(b: Bounds, nodes: u32, number: u32, other: u32) -> u32
     ensures { λ m. ⌜ m ≡ shellOf (distanceLookup (limitsOf b) nodes number other) ⌝ }
 {
-    let Found::Is(m) = tree::distance_for(b, nodes, number, other) else {
+    let Found::Is(m) = lookups::distance_for(b, nodes, number, other) else {
         return 0;
     };
     m

@@ -5,7 +5,7 @@ use native.Mathlib.Omega.{arith}
 use Rattle.base.specs.Limits.{base}
 use Rattle.node.proofs.Taken.{note-as-job, job-wakes}
 use Rattle.node.proofs.Waiting.{wait-fails, wait-lower, wait-unstored, wait-stored}
-use Rattle.runs.specs.Claim.{Fit}
+use Rattle.events.specs.Fit.{Fit}
 use Rattle.runs.proofs.Whole.{demand3}
 use Rattle.runs.proofs.Facts.{every-run}
 use Rattle.runs.proofs.LinkBytes.{link-bytes}

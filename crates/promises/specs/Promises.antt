@@ -31,7 +31,7 @@ use Rattle.node_calls.specs.Fresh.{freshOn, freshWords}
 use Rattle.fields.specs.Fields.{writeOn, writtenOn, frameWords}
 use Rattle.barrier_c.specs.Exports.{answerOn, wordsOn, barrierOn, barrierState, barrierBuffer, detailWords}
 use Rattle.barrier_c.specs.Exports.{lookupNumber, numberWords, placeWords}
-use Rattle.runs.specs.Board.{Event, run}
+use Rattle.events.specs.Board.{Event, run}
 use Rattle.runs.specs.Claim.{Safe, Lives, NoLoss}
 use Rattle.runs.specs.Facts.{Facts}
 use Rattle.runs.specs.LinkBytes.{LinkBytes}

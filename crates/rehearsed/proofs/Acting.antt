@@ -24,12 +24,12 @@ use Rattle.node.specs.declared.Node.{Node}
 use Rattle.node.proofs.Valid.{valid-known}
 use Rattle.node.proofs.Bound.{due-headed, due-length}
 use Rattle.node.proofs.Ways.{SendWay, send-way, idle-does, CallWay, call-way}
-use Rattle.runs.specs.Board.{put, work, frame, Item, Board, sends, idles, calls, gave, carries, posted, sentOut}
-use Rattle.runs.specs.Board.{sendEvent, idleEvent, callEvent}
-use Rattle.runs.specs.Board.{afterSend, afterIdle, afterCall, step}
+use Rattle.events.specs.Board.{put, work, frame, Item, Board, sends, idles, calls, gave, carries, posted, sentOut}
+use Rattle.events.specs.Board.{sendEvent, idleEvent, callEvent}
+use Rattle.events.specs.Board.{afterSend, afterIdle, afterCall, step}
 use Rattle.runs.specs.Facts.{Facts}
 use Rattle.runs.specs.Printed.{line, printed}
-use Rattle.runs.proofs.Tools.{put-same}
+use Rattle.events.proofs.Tools.{put-same}
 use Rattle.items.specs.declared.Item.{Item as Header}
 use Rattle.state_calls.specs.On.{Kept, onState, stepOn}
 use Rattle.states.specs.declared.State.{State}

@@ -18,9 +18,9 @@ use Rattle.node.specs.Answers.{Given, Outcome, outcomeNumber}
 use Rattle.node.specs.Calls.{take, frameIn}
 use Rattle.node.specs.declared.Node.{Node}
 use Rattle.node.proofs.Ways.{TakeWay, take-way, FrameWay, frame-way}
-use Rattle.runs.specs.Board.{put, Load, work, frame, Item, Board, delivers, gave, oldest, without, afterTake}
-use Rattle.runs.specs.Board.{afterFrame, offUnlessEarly}
-use Rattle.runs.specs.Board.{delivered, deliveredOldest, step}
+use Rattle.events.specs.Board.{put, Load, work, frame, Item, Board, delivers, gave, oldest, without, afterTake}
+use Rattle.events.specs.Board.{afterFrame, offUnlessEarly}
+use Rattle.events.specs.Board.{delivered, deliveredOldest, step}
 use Rattle.runs.specs.Facts.{Facts}
 use Rattle.runs.specs.Printed.{line, loadAnswer, deliveryAnswer, printed}
 use Rattle.items.specs.Places.{mark, noItem, placeFrom, oldestAt, removed}

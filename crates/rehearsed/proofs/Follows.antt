@@ -8,7 +8,7 @@ use native.Mathlib.Decide.{ℕ-discrete}
 use native.Mathlib.Omega.{arith}
 use lib.ListN.{length, length-set}
 use Rattle.node.specs.declared.Node.{Node}
-use Rattle.runs.specs.Board.{put, Board, gave}
+use Rattle.events.specs.Board.{put, Board, gave}
 use Rattle.runs.specs.Printed.{line}
 use Rattle.items.specs.declared.Item.{Item as Header}
 use Rattle.states.specs.declared.State.{State}

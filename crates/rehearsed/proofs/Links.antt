@@ -7,7 +7,7 @@ use native.Mathlib.Omega.{arith}
 use lib.ListN.{length, getD}
 use Rattle.base.specs.Choice.{choose}
 use Rattle.base.proofs.Laws.{cases, choose-yes, choose-no}
-use Rattle.runs.specs.Board.{Item, onLink, oldest, without}
+use Rattle.events.specs.Board.{Item, onLink, oldest, without}
 use Rattle.items.specs.Places.{noItem, onLink as heads, placeFrom}
 use Rattle.items.specs.declared.Item.{Item as Header}
 

@@ -12,8 +12,8 @@ use Rattle.base.specs.declared.Kind.the-variants.{Job, Note}
 use Rattle.base.specs.declared.Kind.{Kind}
 use Rattle.tree.specs.Tree.{dimension}
 use Rattle.node.specs.declared.Node.{Node}
-use Rattle.runs.specs.Board.{put, Load, work, frame, Item, Board, without}
-use Rattle.runs.proofs.Tools.{put-all}
+use Rattle.events.specs.Board.{put, Load, work, frame, Item, Board, without}
+use Rattle.events.proofs.Tools.{put-all}
 use Rattle.items.specs.Places.{mark, noItem, removed}
 use Rattle.items.specs.declared.Item.{Item as Header}
 use Rattle.states.specs.Words.{noState}

@@ -12,8 +12,9 @@ use Rattle.base.specs.Limits.{base}
 use Rattle.base.specs.Refusal.{Refusal, number}
 use Rattle.base.proofs.Laws.{clash, choose-yes, choose-no, cases, both-true, length-list, list-at}
 use Rattle.node.specs.Change.{freshIn}
-use Rattle.runs.specs.Board.{Board, Event, sends, idles, calls, delivers, start, step, after, run}
-use Rattle.runs.specs.Claim.{NoLoss, Fit}
+use Rattle.events.specs.Board.{Board, Event, sends, idles, calls, delivers, start, step, after, run}
+use Rattle.events.specs.Fit.{Fit}
+use Rattle.runs.specs.Claim.{NoLoss}
 use Rattle.runs.specs.Facts.{Facts}
 use Rattle.runs.specs.Printed.{line, printed, lines}
 use Rattle.runs.proofs.Facts.{every-run}

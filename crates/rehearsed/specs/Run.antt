@@ -8,7 +8,7 @@ use Rattle.base.specs.Choice.{choose}
 use Rattle.base.specs.Limits.{base}
 use Rattle.base.specs.Refusal.{Refusal, number}
 use Rattle.node.specs.declared.Node.{Node}
-use Rattle.runs.specs.Board.{Event, sends, idles, calls, delivers, start, run}
+use Rattle.events.specs.Board.{Event, sends, idles, calls, delivers, start, run}
 use Rattle.runs.specs.Claim.{Safe, Lives}
 use Rattle.runs.specs.Printed.{line, lines}
 use Rattle.script.specs.Script.{lineAt}

@@ -16,12 +16,12 @@ use Rattle.cycle.proofs.OnePhase.{State, dimOf, Agrees, Above}
 use Rattle.cycle.proofs.AtRest.{dim-first, dim-second}
 use Rattle.cycle.proofs.Ledger.{Ledger, Reached}
 use Rattle.cycle.proofs.Events.{stateOf}
-use Rattle.runs.proofs.Setting.{Setting, tree, awaited-is}
+use Rattle.events.proofs.Setting.{Setting, tree, awaited-is}
 use Rattle.node.specs.Sums.{Has}
 use Rattle.node.proofs.Clauses.{first-step, second-step}
-use Rattle.runs.proofs.View.{fieldOf, firstEntries, secondEntries, view, Alike, Like, slots-first, slots-second}
-use Rattle.runs.proofs.View.{own-is, issued-is, agree-like}
-use Rattle.runs.proofs.Sim.{Holds}
+use Rattle.events.proofs.View.{fieldOf, firstEntries, secondEntries, view, Alike, Like, slots-first, slots-second}
+use Rattle.events.proofs.View.{own-is, issued-is, agree-like}
+use Rattle.events.proofs.Sim.{Holds}
 
 alike-sym : (p s : ℕ) (a b : Option Entries) → Alike p s a b → Alike p s b a
 alike-sym p s none none h = tt

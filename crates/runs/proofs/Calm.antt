@@ -5,13 +5,13 @@ use mathlib.Core.Bool.{false}
 use mathlib.Core.List.{List, [], _∷_}
 use Prim.Native.Nat.{ℕ}
 use Rattle.base.specs.Limits.{Limits}
-use Rattle.runs.specs.Board.{Board, Event, sends, idles}
-use Rattle.runs.specs.Board.{calls, delivers, loses, start, step, after, run}
+use Rattle.events.specs.Board.{Board, Event, sends, idles}
+use Rattle.events.specs.Board.{calls, delivers, loses, start, step, after, run}
 use Rattle.runs.specs.Claim.{NoLoss}
-use Rattle.runs.proofs.Setting.{Setting}
-use Rattle.runs.proofs.Arriving.{arrives}
-use Rattle.runs.proofs.Played.{Next, Mishap}
-use Rattle.runs.proofs.Steps.{next}
+use Rattle.events.proofs.Setting.{Setting}
+use Rattle.events.proofs.Arriving.{arrives}
+use Rattle.events.proofs.Played.{Next, Mishap}
+use Rattle.events.proofs.Steps.{next}
 use Rattle.runs.proofs.Safety.{begun-calm}
 use Rattle.runs.proofs.Early.{take-early, frame-early, Standing, standing-start, standing-step}
 

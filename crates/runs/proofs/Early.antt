@@ -13,8 +13,8 @@ use Rattle.frame.specs.Timing.{difference}
 use Rattle.node.specs.Sums.{allTaken, tally}
 use Rattle.node.specs.Answers.{refused}
 use Rattle.node.specs.Calls.{take, frameIn}
-use Rattle.runs.specs.Board.{work, frame, Item, Board, Event}
-use Rattle.runs.specs.Board.{start, step, after, run}
+use Rattle.events.specs.Board.{work, frame, Item, Board, Event}
+use Rattle.events.specs.Board.{start, step, after, run}
 use native.Mathlib.Nat.{mul-le-mul-right}
 use Rattle.cycle.proofs.Lists.{All, all-mid}
 use Rattle.cycle.proofs.Exact.{takenAll, Entries}
@@ -25,18 +25,18 @@ use Rattle.cycle.proofs.Window.{Partnered}
 use Rattle.cycle.proofs.Dating.{phase-mid}
 use Rattle.cycle.proofs.Events.{stateOf}
 use Rattle.frame.proofs.RoundTripAccepted.{Read}
-use Rattle.runs.proofs.PhaseByte.{apart, now-or-early, not-foreign}
-use Rattle.runs.proofs.Setting.{Setting, tree}
+use Rattle.events.proofs.PhaseByte.{apart, now-or-early, not-foreign}
+use Rattle.events.proofs.Setting.{Setting, tree}
 use Rattle.node.proofs.Ways.{frameOf as fieldsIn, Comes, away}
-use Rattle.runs.proofs.Pairs.{Cut, Found}
-use Rattle.runs.proofs.Sim.{Carried, awaitedIn, awaited-below, Holds, Says}
-use Rattle.runs.proofs.Emit.{dim-step}
-use Rattle.runs.proofs.Arriving.{Arrives, place as placeOf, twin, sender-lt, receiver-lt, whole}
-use Rattle.runs.proofs.Arriving.{not-ahead}
-use Rattle.runs.proofs.Taking.{message-of, not-behind}
-use Rattle.runs.proofs.Storing.{report-of, frame-not-behind, frame-differs}
-use Rattle.runs.proofs.Played.{hold, dims-is, awaits-at, Played}
-use Rattle.runs.proofs.Steps.{next}
+use Rattle.events.proofs.Pairs.{Cut, Found}
+use Rattle.events.proofs.Sim.{Carried, awaitedIn, awaited-below, Holds, Says}
+use Rattle.events.proofs.Emit.{dim-step}
+use Rattle.events.proofs.Arriving.{Arrives, place as placeOf, twin, sender-lt, receiver-lt, whole}
+use Rattle.events.proofs.Arriving.{not-ahead}
+use Rattle.events.proofs.Taking.{message-of, not-behind}
+use Rattle.events.proofs.Storing.{report-of, frame-not-behind, frame-differs}
+use Rattle.events.proofs.Played.{hold, dims-is, awaits-at, Played}
+use Rattle.events.proofs.Steps.{next}
 use Rattle.runs.proofs.Safety.{begun}
 use Rattle.runs.proofs.Clear.{take-clear, frame-clear}
 use Rattle.runs.proofs.Room.{taken-room}

@@ -15,7 +15,7 @@ use Rattle.node.specs.State.{boardOk, positionOk, talliesOk, totalOk, firstOk, 
 use Rattle.node.specs.Answers.{barrierNumber}
 use Rattle.node.specs.Calls.{send, take, idle, gotten, frameIn}
 use Rattle.node.specs.Barrier.{frameDue, barrier}
-use Rattle.runs.specs.Board.{Board, Event, sends, idles, calls, delivers, start, step, run}
+use Rattle.events.specs.Board.{Board, Event, sends, idles, calls, delivers, start, step, run}
 use Rattle.runs.specs.Printed.{line, lines}
 
 -- the lines of scripts/worked after the first, on a board of two

@@ -12,17 +12,17 @@ use Rattle.base.specs.declared.Kind.{Kind}
 use Rattle.tree.specs.Tree.{dimension}
 use Rattle.frame.proofs.RoundTripAccepted.{head-phase}
 use Rattle.node.specs.State.{valid}
-use Rattle.runs.specs.Board.{Load, work, frame, Item, Board, oldest, run}
+use Rattle.events.specs.Board.{Load, work, frame, Item, Board, oldest, run}
 use Rattle.runs.specs.Facts.{Facts, EveryRun}
 use Rattle.cycle.proofs.Lists.{All, all-mid}
 use Rattle.cycle.proofs.OnePhase.{Content, message, report}
 use Rattle.cycle.proofs.Ledger.{Dated, Ledger}
 use Rattle.cycle.proofs.Reached.{within-one, message-holds}
 use Rattle.cycle.proofs.Window.{Sent, Close}
-use Rattle.runs.proofs.Setting.{Setting}
-use Rattle.runs.proofs.Pairs.{Cut, Placed, placed, mate}
-use Rattle.runs.proofs.Sim.{Loads, Carried, Sim}
-use Rattle.runs.proofs.Arriving.{arrives}
+use Rattle.events.proofs.Setting.{Setting}
+use Rattle.events.proofs.Pairs.{Cut, Placed, placed, mate}
+use Rattle.events.proofs.Sim.{Loads, Carried, Sim}
+use Rattle.events.proofs.Arriving.{arrives}
 use Rattle.runs.proofs.Early.{take-early, frame-early, Standing, standing-run}
 use Rattle.runs.proofs.Lone.{only-valid, Alone, lone}
 

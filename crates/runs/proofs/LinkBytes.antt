@@ -16,7 +16,7 @@ use Rattle.node.specs.declared.Node.{Node}
 use Rattle.node.proofs.Valid.{valid-known}
 use Rattle.node.proofs.Ways.{CallWay, call-way}
 use Rattle.node.proofs.Bound.{due-length}
-use Rattle.runs.specs.Board.{Board, calls, gave, posted, afterCall, callEvent, step}
+use Rattle.events.specs.Board.{Board, calls, gave, posted, afterCall, callEvent, step}
 use Rattle.runs.specs.LinkBytes.{LinkBytes}
 
 module _ (L : Limits) (n : Node) (to : List ℕ) (len : ℕ) where

@@ -20,7 +20,7 @@ use Rattle.node.specs.Change.{at}
 use Rattle.node.specs.Answers.{Given, Barrier}
 use Rattle.node.specs.Barrier.{lengthDue, receiversDue, leaving, moving, looking, barrier}
 use Rattle.node.specs.declared.Node.{Node}
-use Rattle.runs.specs.Board.{Item, Board, Event, run}
+use Rattle.events.specs.Board.{Item, Board, Event, run}
 use Rattle.runs.specs.Claim.{Goes, Lives, NoLoss}
 use Rattle.cycle.proofs.Sums.{pick}
 use Rattle.cycle.proofs.Lists.{All}
@@ -29,12 +29,12 @@ use Rattle.cycle.proofs.AtRest.{least}
 use Rattle.cycle.proofs.Ledger.{Dated, Ledger, ofPhase}
 use Rattle.cycle.proofs.Reached.{no-board-sticks}
 use Rattle.cycle.proofs.Events.{stateOf}
-use Rattle.runs.proofs.Setting.{Setting, tree}
+use Rattle.events.proofs.Setting.{Setting, tree}
 use Rattle.node.proofs.Ways.{NoneDue, call-sends, call-looks}
-use Rattle.runs.proofs.Pairs.{pair-all, placed, mate}
-use Rattle.runs.proofs.Sim.{Carried, Sim}
+use Rattle.events.proofs.Pairs.{pair-all, placed, mate}
+use Rattle.events.proofs.Sim.{Carried, Sim}
 use Rattle.node.proofs.Valid.{step-first, step-second}
-use Rattle.runs.proofs.Caller.{mute-of}
+use Rattle.events.proofs.Caller.{mute-of}
 use Rattle.runs.proofs.Agreeing.{agrees-first, agrees-second}
 use Rattle.runs.proofs.Calm.{Calm, calm-run}
 

@@ -19,11 +19,11 @@ use Rattle.node.specs.Answers.{Given, give, Outcome, done, Barrier, left, barre
 use Rattle.node.specs.Calls.{send, idle}
 use Rattle.node.specs.Barrier.{leaving, barrier}
 use Rattle.node.specs.declared.Node.{Node}
-use Rattle.runs.specs.Board.{Board, Event, sends, idles, calls, delivers, loses, start, oldest}
-use Rattle.runs.specs.Board.{lessOne, gave, afterSend, afterIdle, afterCall, deliveredOldest, step, after, run}
+use Rattle.events.specs.Board.{Board, Event, sends, idles, calls, delivers, loses, start, oldest}
+use Rattle.events.specs.Board.{lessOne, gave, afterSend, afterIdle, afterCall, deliveredOldest, step, after, run}
 use Rattle.runs.specs.Claim.{SendDone, TakeDone, Leaves, Safe, Goes, Lives}
-use Rattle.runs.proofs.Tools.{put-same}
-use Rattle.runs.proofs.PhaseByte.{next-byte}
+use Rattle.events.proofs.Tools.{put-same}
+use Rattle.events.proofs.PhaseByte.{next-byte}
 use Rattle.node.proofs.Ways.{SendWay, send-way, IdleWay, idle-way}
 
 module _ (L : Limits) (one-node : 1 ≤ L .nodes) where

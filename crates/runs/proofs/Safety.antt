@@ -18,26 +18,26 @@ use Rattle.node.specs.Answers.{Given, Outcome, done, refused, Barrier, left}
 use Rattle.node.specs.Calls.{send, take, idle, frameIn}
 use Rattle.node.specs.Barrier.{barrier}
 use Rattle.node.specs.declared.Node.{Node}
-use Rattle.runs.specs.Board.{put, Load, work, frame, Item, Board, Event, sends, idles, calls, delivers, loses}
-use Rattle.runs.specs.Board.{start, oldest}
-use Rattle.runs.specs.Board.{without, gave, carries, afterSend, afterIdle, afterCall, offUnlessEarly, afterTake}
-use Rattle.runs.specs.Board.{afterFrame, delivered, deliveredOldest, step, after, run}
+use Rattle.events.specs.Board.{put, Load, work, frame, Item, Board, Event, sends, idles, calls, delivers, loses}
+use Rattle.events.specs.Board.{start, oldest}
+use Rattle.events.specs.Board.{without, gave, carries, afterSend, afterIdle, afterCall, offUnlessEarly, afterTake}
+use Rattle.events.specs.Board.{afterFrame, delivered, deliveredOldest, step, after, run}
 use Rattle.runs.specs.Claim.{SendDone, TakeDone, Leaves, Safe}
 use Rattle.cycle.proofs.Sums.{sum-zero}
 use Rattle.cycle.proofs.Ledger.{Ledger, opening, Reached, Over}
 use Rattle.cycle.proofs.Reached.{safe}
-use Rattle.runs.proofs.Tools.{put-same, put-other}
-use Rattle.runs.proofs.Setting.{Setting, tree, dim-low, dim-pos}
+use Rattle.events.proofs.Tools.{put-same, put-other}
+use Rattle.events.proofs.Setting.{Setting, tree, dim-low, dim-pos}
 use Rattle.node.proofs.Ways.{SendWay, send-way, TakeWay, take-way, IdleWay, idle-way, FrameWay, frame-way, CallWay}
 use Rattle.node.proofs.Ways.{call-way}
-use Rattle.runs.proofs.Changes.{like-fresh}
-use Rattle.runs.proofs.Sim.{Sim}
-use Rattle.runs.proofs.Marks.{none-left}
-use Rattle.runs.proofs.Arriving.{arrives}
-use Rattle.runs.proofs.Taking.{message-of, not-behind, same-phase}
-use Rattle.runs.proofs.Played.{Played, Next}
-use Rattle.runs.proofs.Leaving.{leave-next}
-use Rattle.runs.proofs.Steps.{next}
+use Rattle.events.proofs.Changes.{like-fresh}
+use Rattle.events.proofs.Sim.{Sim}
+use Rattle.events.proofs.Marks.{none-left}
+use Rattle.events.proofs.Arriving.{arrives}
+use Rattle.events.proofs.Taking.{message-of, not-behind, same-phase}
+use Rattle.events.proofs.Played.{Played, Next}
+use Rattle.events.proofs.Leaving.{leave-next}
+use Rattle.events.proofs.Steps.{next}
 
 done-not-refused : {A : Type 0} (x : ℕ) → refused x ≡ done → A
 done-not-refused x q = let z : _≡_ {A = ℕ} 0 1 = cc in absurd (omega arith)

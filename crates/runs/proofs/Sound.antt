@@ -21,10 +21,10 @@ use Rattle.node.specs.Answers.{Given, Outcome, done, dropped, refused, Barrier,
 use Rattle.node.specs.Calls.{send, take, idle, frameIn}
 use Rattle.node.specs.Barrier.{frameDue, receiversDue, barrier}
 use Rattle.node.specs.declared.Node.{Node}
-use Rattle.runs.specs.Board.{put, Load, work, frame, Item, Board, Event, sends, idles, calls, delivers, loses}
-use Rattle.runs.specs.Board.{start, oldest}
-use Rattle.runs.specs.Board.{without, lessOne, gave, afterSend, afterIdle, posted, afterCall, offUnlessEarly}
-use Rattle.runs.specs.Board.{afterTake, afterFrame, delivered, deliveredOldest, step}
+use Rattle.events.specs.Board.{put, Load, work, frame, Item, Board, Event, sends, idles, calls, delivers, loses}
+use Rattle.events.specs.Board.{start, oldest}
+use Rattle.events.specs.Board.{without, lessOne, gave, afterSend, afterIdle, posted, afterCall, offUnlessEarly}
+use Rattle.events.specs.Board.{afterTake, afterFrame, delivered, deliveredOldest, step}
 use Rattle.frame.proofs.RoundTripAccepted.{Read}
 use Rattle.tree.specs.Lookups.{badBoard}
 use Rattle.node.proofs.Ways.{SendWay, send-way, CallWay, call-way}
@@ -32,12 +32,12 @@ use Rattle.node.proofs.ValidOut.{fresh-valid, send-valid, take-valid, idle-vali
 use Rattle.cycle.proofs.Tree.{Meet}
 use Rattle.cycle.proofs.Lists.{All, all-append, all-mid}
 use Rattle.cycle.proofs.Events.{stateOf}
-use Rattle.runs.proofs.Tools.{put-all}
-use Rattle.runs.proofs.Setting.{Setting, tree, receivers-await}
-use Rattle.runs.proofs.Pairs.{found, Lost, lost}
-use Rattle.runs.proofs.Sim.{Holds}
-use Rattle.runs.proofs.Emit.{emitted-read}
-use Rattle.runs.proofs.Played.{Played}
+use Rattle.events.proofs.Tools.{put-all}
+use Rattle.events.proofs.Setting.{Setting, tree, receivers-await}
+use Rattle.events.proofs.Pairs.{found, Lost, lost}
+use Rattle.events.proofs.Sim.{Holds}
+use Rattle.events.proofs.Emit.{emitted-read}
+use Rattle.events.proofs.Played.{Played}
 
 abbrev pub FineLoad : Limits → ℕ → Load → Type 0
 FineLoad L P (work kind byte) = Unit {0}

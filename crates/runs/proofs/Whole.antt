@@ -5,8 +5,9 @@ use Prim.Native.Nat.{ℕ, _≤_, _<_}
 use native.Mathlib.Decide.{decLt}
 use native.Mathlib.Omega.{arith}
 use Rattle.base.specs.Limits.{Limits}
-use Rattle.runs.specs.Board.{Event, run}
-use Rattle.runs.specs.Claim.{Safe, Lives, NoLoss, Fit, Demand3}
+use Rattle.events.specs.Board.{Event, run}
+use Rattle.events.specs.Fit.{Fit}
+use Rattle.runs.specs.Claim.{Safe, Lives, NoLoss, Demand3}
 use Rattle.runs.proofs.Safety.{every-run-safe}
 use Rattle.runs.proofs.Lone.{lone, lone-safe, lone-lives}
 use Rattle.runs.proofs.Lively.{every-run-lives}

@@ -4,8 +4,8 @@ use mathlib.Core.Logic.{_≢_}
 use mathlib.Core.Bool.{true, false}
 use mathlib.Core.Option.{some}
 use mathlib.Core.List.{List, [], _∷_, List·Memᴰ}
-use Prim.Native.Nat.{ℕ, _^_, _≤_, _<_}
-use Rattle.base.specs.Limits.{Limits, fieldLimit, width}
+use Prim.Native.Nat.{ℕ, _≤_, _<_}
+use Rattle.base.specs.Limits.{Limits}
 use Rattle.base.specs.declared.Kind.{Kind}
 use Rattle.base.specs.declared.Kind.the-variants.{Job}
 use Rattle.tree.specs.Tree.{dimension}
@@ -13,7 +13,8 @@ use Rattle.frame.specs.Frame.{frameLength}
 use Rattle.node.specs.Answers.{done, Barrier, sent, moved, left}
 use Rattle.node.specs.Calls.{send, take}
 use Rattle.node.specs.Barrier.{barrier}
-use Rattle.runs.specs.Board.{work, Item, Board, Event, sends, idles, calls, delivers, loses, oldest, step, run}
+use Rattle.events.specs.Board.{work, Item, Board, Event, sends, idles, calls, delivers, loses, oldest, step, run}
+use Rattle.events.specs.Fit.{Fit}
 
 module _ (L : Limits) (P : ℕ) where
   -- a send of a to b would be done
@@ -76,11 +77,6 @@ NoLoss (idles a ∷ es) = NoLoss es
 NoLoss (calls a room ∷ es) = NoLoss es
 NoLoss (delivers a b ∷ es) = NoLoss es
 NoLoss (loses j ∷ es) = ⊥
-
--- limits that a build may have: the shells have room, and a number is four bytes
-pub record Fit (L : Limits) : Type 0 where
-  pub room : L .nodes ≤ 2 ^ width
-  pub four : fieldLimit L < 4294967296
 
 -- FOR EVERY RUN of a board of 1 to N nodes
 pub record Demand3 : Type 0 where

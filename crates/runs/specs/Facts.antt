@@ -10,8 +10,8 @@ use Rattle.base.specs.declared.Kind.{Kind}
 use Rattle.node.specs.State.{valid}
 use Rattle.node.specs.Answers.{refused}
 use Rattle.node.specs.Calls.{take, frameIn}
-use Rattle.runs.specs.Board.{work, frame, Item, Board, Event, oldest, run}
-use Rattle.runs.specs.Claim.{Fit}
+use Rattle.events.specs.Board.{work, frame, Item, Board, Event, oldest, run}
+use Rattle.events.specs.Fit.{Fit}
 
 module _ (L : Limits) (P : ℕ) where
   pub record Facts (w : Board) : Type 0 where

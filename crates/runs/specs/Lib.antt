@@ -1,4 +1,3 @@
-pub mod Board
 pub mod Claim
 pub mod Facts
 pub mod LinkBytes

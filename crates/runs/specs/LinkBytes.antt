@@ -9,7 +9,7 @@ use Rattle.node.specs.Sums.{dims}
 use Rattle.node.specs.Answers.{sent}
 use Rattle.node.specs.Barrier.{frameDue, barrier, barrierBytes}
 use Rattle.node.specs.declared.Node.{Node}
-use Rattle.runs.specs.Board.{Board, calls, posted, step}
+use Rattle.events.specs.Board.{Board, calls, posted, step}
 
 -- for every state, board and buffer: after an answer sent the buffer begins with the bytes that go on the links
 pub record LinkBytes : Type 0 where

@@ -9,8 +9,8 @@ use Rattle.node.specs.Answers.{outcomeNumber, barrierNumber}
 use Rattle.node.specs.Calls.{send, take, idle, frameIn}
 use Rattle.node.specs.Barrier.{barrier}
 use Rattle.node.specs.declared.Node.{Node}
-use Rattle.runs.specs.Board.{Load, work, frame, Item, Board, Event, sends, idles, calls, delivers, loses}
-use Rattle.runs.specs.Board.{oldest, step}
+use Rattle.events.specs.Board.{Load, work, frame, Item, Board, Event, sends, idles, calls, delivers, loses}
+use Rattle.events.specs.Board.{oldest, step}
 
 abbrev pub bit : Bool → ℕ
 bit b = choose b 1 0

@@ -41,7 +41,7 @@ fn largest(s: &[u32], from: u32, end: u32) -> u32
 {
     let mut most: u32 = 0;
     for i in from..end {
-        most = walk_tests::larger(most, s[i as usize]);
+        most = scan_tests::larger(most, s[i as usize]);
     }
     most
 }
@@ -52,7 +52,7 @@ fn stored_ok(s: &[u32], limit: u32, awaits: bool, at: u32, end: u32) -> bool
     ensures { λ r. ⌜ r ≡ heldTest limit (now (s .entry)) awaits at end ⌝ }
 {
     let most = largest(s, at + layout::MARK, end);
-    walk_tests::may_stand(s[at as usize], most, awaits, limit)
+    scan_tests::may_stand(s[at as usize], most, awaits, limit)
 }
 
 // ---- A step
@@ -129,8 +129,8 @@ fn step(
 {
     let p = spot.dims;
     let limit = base::field_limit(b);
-    let awaits = walk_tests::awaits_at(spot.alone, k);
-    let one = walk_tests::is_tried(awaits, k, past.firsts);
+    let awaits = scan_tests::awaits_at(spot.alone, k);
+    let one = scan_tests::is_tried(awaits, k, past.firsts);
     if !first_step(b, s, sums, limit, p, k, at, awaits, one) {
         return Passed {
             ok: false,
@@ -138,7 +138,7 @@ fn step(
         };
     }
     let after = at + (2 * (p - k) + layout::FIRST);
-    let two = walk_tests::is_tried(awaits, k, past.seconds);
+    let two = scan_tests::is_tried(awaits, k, past.seconds);
     second_step(b, s, limit, p, k, after, awaits, two, issued, spot.agreed)
 }
 
@@ -151,8 +151,8 @@ fn walk(b: Bounds, s: &[u32], sums: &mut [u32], spot: Spot, sends: Sent) -> Pass
 {
     let p = spot.dims;
     let past = Past {
-        firsts: walk_tests::before_position(spot.pass, spot.dim, p),
-        seconds: walk_tests::before_position(spot.pass, 0, spot.dim),
+        firsts: scan_tests::before_position(spot.pass, spot.dim, p),
+        seconds: scan_tests::before_position(spot.pass, 0, spot.dim),
     };
     let mut walked = Passed {
         ok: true,
@@ -178,7 +178,7 @@ fn scan_steps(b: Bounds, s: &[u32], sums: &mut [u32], spot: Spot, sends: Sent, t
 {
     let walked = walk(b, s, &mut *sums, spot, sends);
     let received = Taken(sums[(2 * spot.dims + layout::RECEIVED) as usize]);
-    if !walk_tests::total_ok(walked.ok, spot.pass, spot.agreed, received) {
+    if !scan_tests::total_ok(walked.ok, spot.pass, spot.agreed, received) {
         return no_scan();
     }
     let issued = walked.issued;

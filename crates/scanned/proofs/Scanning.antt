@@ -34,7 +34,7 @@ use Rattle.head.proofs.Heads.{dims-is, Passing}
 use Rattle.gather.specs.Gather.{sentTotal, takenTotal, Started}
 use Rattle.gather.proofs.Room.{Tallied}
 use Rattle.scanned.specs.Scan.{passes, noScan, scanned, Gathered}
-use Rattle.walk_tests.specs.Tests.{totalTested}
+use Rattle.scan_tests.specs.Tests.{totalTested}
 use Rattle.scanned.specs.Pieces.{stepIn, Walking, WalkedAll, Scanned}
 use Rattle.scanned.specs.declared.Scan.{Scan}
 use Rattle.pass_two.specs.declared.Passed.{Passed}

@@ -1,20 +1,8 @@
-// Who talks to whom on a board: the dimension of a board, the place of a node in a dimension, the distance of two nodes.
-// Any number may be handed to any of the three; what is not allowed is refused with its number (rule R3).
+// Who talks to whom on a board: the dimension of a board, and what the lookups of places and distances answer.
+// Any number may be handed; what is not allowed is refused with its number (rule R3).
 ghost use mathlib.Core.Path.{_≡_};
-ghost use Prim.Native.Nat.{_+_, _≤_, _<_};
 ghost use Rattle.base.specs.Limits.{base, limitsOf};
-ghost use Rattle.base.specs.Refusal.{found};
-ghost use Rattle.tree.specs.Tree.{
-  dimension,
-  middle,
-  part,
-  runBelow,
-  across,
-  placeIn,
-  inside,
-  distanceBelow,
-};
-ghost use Rattle.tree.specs.Lookups.{dimensionLookup, placeLookup, distanceLookup, foundAnswer, placedAnswer};
+ghost use Rattle.tree.specs.Lookups.{dimensionLookup, foundAnswer};
 use base::Bounds;
 
 // A number, or the number of a refusal.
@@ -59,163 +47,9 @@ pub fn dimension_for(b: Bounds, nodes: u32) -> Found
     Found::Is(32 - u32::leading_zeros(nodes - 1))
 }
 
-// The last node of the left part of a run.
-fn middle_of(r: Run) -> u32
-    requires { ⌜ (r .low ≤ 256) × (r .high < 256) ⌝ }
-    ensures { λ m. ⌜ (m ≡ middle r) × (m < 256) ⌝ }
-{
-    (r.low + r.high) / 2
-}
-
-// The part of a run that has the node.
-fn part_of(r: Run, node: u32) -> Run
-    requires { ⌜ (r .low ≤ 256) × (r .high < 256) ⌝ }
-    ensures { λ s. ⌜ (s ≡ part r node) × (s .low ≤ 256) × (s .high < 256) ⌝ }
-{
-    let middle = middle_of(r);
-    if node <= middle {
-        return Run {
-            low: r.low,
-            high: middle,
-        };
-    }
-    Run {
-        low: middle + 1,
-        high: r.high,
-    }
-}
-
-// The run of a node, so many splits below the root.
-fn run_below(nodes: u32, splits: u32, node: u32) -> Run
-    requires { ⌜ (0 < nodes) × (nodes ≤ 256) ⌝ }
-    ensures { λ r. ⌜ (r ≡ runBelow nodes splits node) × (r .low ≤ 256) × (r .high < 256) ⌝ }
-{
-    let mut r = Run {
-        low: 0,
-        high: nodes - 1,
-    };
-    for i in 0..splits {
-        r = part_of(r, node);
-    }
-    r
-}
-
-// The node across from a node of a run, in the other part of it.
-fn across_from(r: Run, node: u32) -> u32
-    requires { ⌜ (r .low ≤ node) × (node ≤ r .high) × (r .high < 256) ⌝ }
-    ensures { λ b. ⌜ b ≡ across r node ⌝ }
-{
-    let next = middle_of(r) + 1;
-    if node < next {
-        next + (node - r.low)
-    } else {
-        r.low + (node - next)
-    }
-}
-
-// The place of a node of a run whose two parts are siblings.
-fn place_in(r: Run, node: u32) -> Placed
-    requires { ⌜ (r .low ≤ node) × (node ≤ r .high) × (r .high < 256) ⌝ }
-    ensures { λ s. ⌜ placedAnswer s ≡ found (placeIn r node) ⌝ }
-{
-    let last = middle_of(r);
-    let next = last + 1;
-    let left = next - r.low;
-    let right = r.high - last;
-    if right == 0 {
-        return Placed::Alone;
-    }
-    let other = across_from(r, node);
-    if left <= right {
-        return Placed::Neighbour(other);
-    }
-    if node == last {
-        return Placed::Hermit(next);
-    }
-    if node == next {
-        return Placed::Messenger(other, last);
-    }
-    Placed::Neighbour(other)
-}
-
-// The place of a node in a dimension. Refuses 1, 2, 10.
-pub fn place_for(b: Bounds, nodes: u32, dimension: u32, node: u32) -> Placed
-    ensures { λ r. ⌜ placedAnswer r ≡ placeLookup (limitsOf b) nodes dimension node ⌝ }
-{
-    let Found::Is(p) = dimension_for(b, nodes) else {
-        return Placed::Refused(1);
-    };
-    if nodes <= node {
-        return Placed::Refused(2);
-    }
-    if p <= dimension {
-        return Placed::Refused(10);
-    }
-    place_in(run_below(nodes, p - (dimension + 1), node), node)
-}
-
-// Whether a run has the node.
-fn has_node(r: Run, node: u32) -> bool
-    ensures { λ t. ⌜ t ≡ inside r node ⌝ }
-{
-    r.low <= node && node <= r.high
-}
-
-// The largest dimension below p in which a and b are in different runs.
-fn parted_below(nodes: u32, p: u32, a: u32, b: u32) -> u32
-    requires { ⌜ (0 < nodes) × (nodes ≤ 256) × (p ≡ dimension nodes) ⌝ }
-    ensures { λ r. ⌜ r ≡ distanceBelow nodes a b p ⌝ }
-{
-    let mut r = Run {
-        low: 0,
-        high: nodes - 1,
-    };
-    let mut k = p;
-    while 0 < k {
-        r = part_of(r, a);
-        k -= 1;
-        if !has_node(r, b) {
-            return k;
-        }
-    }
-    0
-}
-
-// The distance of two nodes. Refuses 1, 2, 3.
-pub fn distance_for(limits: Bounds, nodes: u32, a: u32, b: u32) -> Found
-    ensures { λ r. ⌜ foundAnswer r ≡ distanceLookup (limitsOf limits) nodes a b ⌝ }
-{
-    let Found::Is(p) = dimension_for(limits, nodes) else {
-        return Found::Refused(1);
-    };
-    if nodes <= a {
-        return Found::Refused(2);
-    }
-    if nodes <= b {
-        return Found::Refused(2);
-    }
-    if a == b {
-        return Found::Refused(3);
-    }
-    Found::Is(parted_below(nodes, p, a, b))
-}
-
-// ---- The same with the limits of this build
-
+// The same with the limits of this build.
 pub fn dimension_of(nodes: u32) -> Found
     ensures { λ r. ⌜ foundAnswer r ≡ dimensionLookup base nodes ⌝ }
 {
     dimension_for(base::of_build(), nodes)
-}
-
-pub fn place_of(nodes: u32, dimension: u32, node: u32) -> Placed
-    ensures { λ r. ⌜ placedAnswer r ≡ placeLookup base nodes dimension node ⌝ }
-{
-    place_for(base::of_build(), nodes, dimension, node)
-}
-
-pub fn distance_of(nodes: u32, a: u32, b: u32) -> Found
-    ensures { λ r. ⌜ foundAnswer r ≡ distanceLookup base nodes a b ⌝ }
-{
-    distance_for(base::of_build(), nodes, a, b)
 }

@@ -6,7 +6,7 @@ ghost use lib.ListN.{length};
 ghost use Rattle.base.specs.Choice.{every};
 ghost use Rattle.base.specs.Limits.{limitsOf, width};
 ghost use Rattle.frame.specs.Numbers.{wordAt};
-ghost use Rattle.frame.specs.Frame.{badStep, frameLength, numberAt, readFrame, answerOf};
+ghost use Rattle.frame.specs.Frame.{frameLength, numberAt, readFrame, answerOf};
 ghost use Rattle.wire_read.specs.Read.{mostNumbers, numbersFrom};
 use base::Bounds;
 use frame::Outcome;
@@ -34,16 +34,6 @@ fn word_at(s: &[u8], at: usize) -> u32
 }
 
 // ---- Whether bytes are a frame
-
-// The pass is not 1 or 2, or the dimension is not below p.
-pub fn step_bad(p: u32, pass: u32, k: u32) -> bool
-    ensures { λ r. ⌜ r ≡ badStep p pass k ⌝ }
-{
-    match pass {
-        1 | 2 => p <= k,
-        _ => true,
-    }
-}
 
 // How many numbers a frame has.
 fn count_of(p: u32, pass: u32, k: u32) -> u32
@@ -80,7 +70,7 @@ pub fn checked(b: Bounds, nodes: u32, bytes: &[u8]) -> Outcome
     }
     let pass = wide(bytes[0]);
     let k = wide(bytes[2]);
-    if step_bad(p, pass, k) {
+    if frame::step_bad(p, pass, k) {
         return Outcome::Refused(10);
     }
     let count = count_of(p, pass, k);

@@ -1,136 +1,73 @@
--- `write` answers `writeOn` and leaves `writtenOn`: each test is the definition's, in its order.
+-- `write` answers `writeOn` and leaves `writtenOn`: what is asked is tested, then the frame of the pass that the words name
+-- is put.
 use borrow.Author.Needs.{needs}
-use borrow.Author.Tests.{not-true, not-false}
 use native.Mathlib.Omega.{arith}
 use mathlib.Core.Path.{_≡_, sym, ap, _∙_}
-use mathlib.Core.Bool.{true, false}
-use mathlib.Core.List.{List}
-use Prim.Native.Nat.{ℕ, _≤_}
 use denote.Ref.{now}
-use lib.ListN.{getD}
-use Rattle.base.specs.Limits.{Limits, Fits, limitsOf, width}
+use Rattle.base.specs.Limits.{Fits, limitsOf}
+use Rattle.base.specs.Refusal.{found}
 use Rattle.base.proofs.Limits.{fits-of}
-use Rattle.tree.specs.Tree.{dimension}
-use Rattle.tree.specs.Lookups.{badBoard, foundAnswer}
-use Rattle.tree.proofs.Lookups.{dimension-refused, dimension-found, board-good}
-use Rattle.frame.specs.Frame.{badStep, numbersOk}
-use Rattle.frame.proofs.RoundTripChecks.{step-known}
-use Rattle.wire_read.proofs.Within.{few}
-use Rattle.field_words.specs.Words.{atPass, atDim, frameFrom}
-use Rattle.fields.proofs.Bytes.{wrote-board, wrote-phase, wrote-step, wrote-numbers, wrote-stranger, wrote-frame}
+use Rattle.tree.specs.Lookups.{foundAnswer}
+use Rattle.field_tests.specs.Tests.{testedOn}
+use Rattle.fields.proofs.Bytes.{wrote-refused, tested-low, wrote-first, wrote-second}
 use Rattle.fields.proofs.write.Statement.{statement}
 use Rattle.fields.proofs.write.Tie as tie
 
 returns : tie.Need-returns
 returns c =
-    let d = c .before .before in
-    let x = d .before .before .args in
-    let L = limitsOf (x .b) in
-    wrote-board L (x .nodes) (now (x .fields)) (now (x .buf))
-    (dimension-refused L _ _ (sym (d .dimension-for .ensures) ∙ ap foundAnswer (c .enum-told .given .1)))
+    let t = c .before .before in
+    let x = t .before .before .args in
+    let e = ap foundAnswer (c .enum-told .given .1) in
+    let w =
+    wrote-refused (limitsOf (x .b)) (x .nodes) (now (x .fields)) (now (x .buf)) _ (sym (t .tested .ensures) ∙ e) in
+    (e ∙ w .0, w .1)
 
--- what is handed, and the dimension found
-abbrev start : tie.After-known-told → tie.Start
-start k = k .before .before .before .before .before
+-- what is handed, and what the tests found
+abbrev start : tie.After-tested2 → tie.Start
+start k = k .before .before .before .before
 
-abbrev limits : tie.After-known-told → Limits
-limits k = limitsOf (start k .args .b)
+found-on : (k : tie.After-tested2)
+    → let x = start k .args in
+    testedOn (limitsOf (x .b)) (x .nodes) (now (x .fields)) ≡ found (k .tested2 .given .0 .0)
+found-on k = sym (k .before .before .tested .ensures) ∙ ap foundAnswer (k .tested2 .given .1)
 
-abbrev nodes : tie.After-known-told → ℕ
-nodes k = start k .args .nodes
-
-abbrev words : tie.After-known-told → List ℕ
-words k = now (start k .args .fields)
-
-abbrev buffer : tie.After-known-told → List ℕ
-buffer k = now (start k .args .buf)
-
-abbrev dims : tie.After-known-told → ℕ
-dims k = k .before .p .given .0 .0
-
-known : (k : tie.After-known-told) → (badBoard (limits k) (nodes k) ≡ false) × (dims k ≡ dimension (nodes k))
-known k =
-    let d = k .before .before .before .dimension-for in
-    dimension-found (limits k) _ _ (sym (d .ensures) ∙ ap foundAnswer (k .before .p .given .1))
-
-fit : (k : tie.After-known-told) → Fits (limits k)
+fit : (k : tie.After-tested2) → Fits (limitsOf (start k .args .b))
 fit k = fits-of (start k .args .b) (search needs) (search needs)
 
-narrow : (k : tie.After-known-told) → dims k ≤ width
-narrow k = few (limits k) (fit k) (nodes k) (dims k) (known k .0) (known k .1)
+put-first-requires : tie.Need-put-first-requires
+put-first-requires c κs =
+    let k = c .before .before .before .before .before in
+    let x = start k .args in
+    let l = tested-low (limitsOf (x .b)) (x .nodes) (now (x .fields)) (now (x .buf)) _ (found-on k) (fit k) in
+    (search needs, omega (arith, l .0), l .1, l .2, l .3)
 
 returns-2 : tie.Need-returns-2
 returns-2 c =
-    let k = c .before .before in
-    wrote-phase (limits k) (nodes k) (words k) (buffer k) (dims k) (known k .0) (known k .1) (c .if1 .taken)
+    let f = c .before .before in
+    let t = f .before .before .before in
+    let k = t .before .before .before in
+    let x = start k .args in
+    wrote-first (limitsOf (x .b)) (x .nodes) (now (x .fields)) (now (x .buf)) _ (found-on k) (search needs) (fit k) _ _
+    (t .if1 .taken) (f .put-first .ensures)
+
+put-second-requires : tie.Need-put-second-requires
+put-second-requires c κs =
+    let k = c .before .before .before .before .before in
+    let x = start k .args in
+    let l = tested-low (limitsOf (x .b)) (x .nodes) (now (x .fields)) (now (x .buf)) _ (found-on k) (fit k) in
+    (search needs, omega (arith, l .0, l .1), l .2, l .3)
 
 returns-3 : tie.Need-returns-3
 returns-3 c =
-    let t = c .before in
-    let e = t .before .before .before in
-    let k = e .before .before in
-    wrote-step (limits k) (nodes k) (words k) (buffer k) (dims k) (known k .0) (known k .1) (omega (arith, e .if1 .left))
-    (sym (t .step-bad .ensures) ∙ c .if2 .taken)
-
--- the pass and the dimension are right
-step : (c : tie.Else2)
-    → let k = c .before .before .before .before .before .before in
-    badStep (dims k) (getD (words k) atPass 0) (getD (words k) atDim 0) ≡ false
-step c = sym (c .before .step-bad .ensures) ∙ c .if2 .left
-
-returns-4 : tie.Need-returns-4
-returns-4 c =
-    let s = c .before .before in
-    let e = s .before .before .before .before in
-    let k = e .before .before in
-    wrote-numbers (limits k) (nodes k) (words k) (buffer k) (dims k) (known k .0) (known k .1)
-    (omega (arith, e .if1 .left)) (step s) (sym (c .before .numbers-ok .ensures) ∙ not-true _ (c .if3 .taken))
-
--- the numbers are right
-numbers : (c : tie.Else3)
-    → let k = c .before .before .before .before .before .before .before .before in
-    numbersOk (limits k) (dims k) (frameFrom (words k)) ≡ true
-numbers c = sym (c .before .numbers-ok .ensures) ∙ not-false _ (c .if3 .left)
-
-returns-5 : tie.Need-returns-5
-returns-5 c =
-    let n = c .before .before in
-    let s = n .before .before in
-    let e = s .before .before .before .before in
-    let k = e .before .before in
-    wrote-stranger (limits k) (nodes k) (words k) (buffer k) (dims k) (known k .0) (known k .1)
-    (omega (arith, e .if1 .left)) (step s) (numbers n) (c .if4 .taken)
-
-put-frame-requires : tie.Need-put-frame-requires
-put-frame-requires c κs =
-    let r = c .before .before in
-    let n = r .before .before in
-    let s = n .before .before in
-    let e = s .before .before .before .before in
-    let k = e .before .before in
-    let d = step-known (dims k) (getD (words k) atPass 0) (getD (words k) atDim 0) (step s) .1 in (
-      search needs,
-      omega (arith, d),
-      narrow k,
-      omega (arith, e .if1 .left),
-      omega (arith, r .if4 .left, board-good (limits k) (nodes k) (known k .0), fit k .nodes),
-    )
-
-returns-6 : tie.Need-returns-6
-returns-6 c =
-    let p = c .before .before in
-    let r = p .before .before .before in
-    let n = r .before .before in
-    let s = n .before .before in
-    let e = s .before .before .before .before in
-    let k = e .before .before in
-    wrote-frame (limits k) (nodes k) (words k) (buffer k) (dims k) (known k .0) (known k .1)
-    (omega (arith, e .if1 .left)) (step s) (numbers n) (omega (arith, r .if4 .left)) _ _ (search needs) (narrow k)
-    (p .put-frame .ensures .0) (p .put-frame .ensures .1)
+    let f = c .before .before in
+    let t = f .before .before .before in
+    let k = t .before .before .before in
+    let x = start k .args in
+    wrote-second (limitsOf (x .b)) (x .nodes) (now (x .fields)) (now (x .buf)) _ (found-on k) (search needs) (fit k) _ _
+    (t .if1 .left) (f .put-second .ensures)
 
 pub write-spec : {M : Type 1} → statement M
 write-spec =
     tie.close
-    (tie.spec (λ c κs. search needs) (λ c. search needs) (λ c. search needs) returns (λ c. search needs) returns-2
-    (λ c. search needs) (λ c. search needs) (λ c κs. search needs) returns-3 (λ c κs. search needs) returns-4
-    (λ c. search needs) returns-5 put-frame-requires (λ c. search needs) returns-6)
+    (tie.spec (λ c κs. search needs) (λ c. search needs) (λ c. search needs) returns (λ c. search needs)
+    put-first-requires (λ c. search needs) returns-2 put-second-requires (λ c. search needs) returns-3)

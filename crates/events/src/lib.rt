@@ -1,0 +1,1 @@
+// A board and its events: definitions and theorems; there is no code here.
