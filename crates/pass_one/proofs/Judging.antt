@@ -1,8 +1,14 @@
 -- What is judged once the numbers of a frame are added: clause 3 by the runs, then clause 4.
-use mathlib.Core.Path.{_≡_, sym, _∙_}
+use mathlib.Core.Path.{_≡_, refl, sym, _∙_}
+use mathlib.Core.Bool.{Bool, true, false}
 use mathlib.Core.List.{List}
-use Prim.Native.Nat.{ℕ, suc}
+use Prim.Native.Nat.{ℕ, _+_}
+use native.Mathlib.Numerals.{add-one}
+use lib.Dec.{eqb}
 use lib.ListN.{length}
+use borrow.Author.Tests.{eq-eqb, eqb-true, eqb-false}
+use Rattle.base.specs.Choice.{choose}
+use Rattle.base.proofs.Laws.{clash, cases}
 use Rattle.base.specs.Limits.{Limits, fieldLimit}
 use Rattle.node.specs.Sums.{Field, allSent, allTaken}
 use Rattle.node.specs.Agree.{firstClauses}
@@ -14,7 +20,17 @@ use Rattle.survey.proofs.Clauses.{named, all-agree, no-agreement, first-3, firs
 use Rattle.layout.specs.Places.{sumIssued, sumReceived}
 use Rattle.layout.specs.Held.{word, firstFrom, sumOf}
 use Rattle.adding.specs.Adding.{FirstAt, Within, Added}
-use Rattle.pass_one.specs.Pieces.{Opened, Judged}
+use Rattle.pass_one.specs.Pieces.{lastVerdict, Opened, Judged}
+
+-- a test that is made in the last dimension only
+last-fails : (t u : Bool) → choose t u true ≡ false → (t ≡ true) × (u ≡ false)
+last-fails true false e = (refl, refl)
+last-fails true true e = clash e
+last-fails false u e = clash e
+
+last-holds : (t u : Bool) → choose t u true ≡ true → t ≡ true → u ≡ true
+last-holds true u e q = e
+last-holds false u e q = clash (sym q)
 
 module _ (L : Limits) (p k : ℕ) (x : Stored) (before : List ℕ) where
   abbrev own : Field → ℕ
@@ -45,15 +61,21 @@ module _ (L : Limits) (ws before : List ℕ) (p k at limit : ℕ) (h : FirstAt w
     abbrev received : ℕ
     received = word after (sumReceived p)
 
-    pub apart : suc k ≡ p → (issued ≡ received → ⊥) → Judged L p k x before after (Fails 4)
-    apart z q =
+    -- clause 4
+    abbrev tested : Bool
+    tested = choose (eqb (k + 1) p) (eqb issued received) true
+
+    apart : tested ≡ false → Judged L p k x before after (Fails 4)
+    apart q =
+        let t = last-fails (eqb (k + 1) p) (eqb issued received) q in
         fails L p k x before 4
-        (first-4 L p k (sumOf p before) x (o .stored) (o .sent) (o .taken) (λ f g. rw (sym e) (w f g)) z
-        (λ r. q (add allSent tt ∙ r ∙ sym (add allTaken tt))))
+        (first-4 L p k (sumOf p before) x (o .stored) (o .sent) (o .taken) (λ f g. rw (sym e) (w f g))
+        (sym (add-one k) ∙ eqb-true _ _ (t .0))
+        (λ r. eqb-false issued received (t .1) (add allSent tt ∙ r ∙ sym (add allTaken tt))))
         after l
 
-    pub agree : (suc k ≡ p → issued ≡ received) → Judged L p k x before after Agrees
-    agree same =
+    agree : tested ≡ true → Judged L p k x before after Agrees
+    agree q =
         record {
           verdict =
               sym
@@ -64,8 +86,14 @@ module _ (L : Limits) (ws before : List ℕ) (p k at limit : ℕ) (h : FirstAt w
                 sent = o .sent;
                 taken = o .taken;
                 within = λ f g. rw (sym e) (w f g);
-                last = λ z. sym (add allSent tt) ∙ same z ∙ add allTaken tt;
+                last = λ z.
+                    sym (add allSent tt)
+                    ∙ eqb-true issued received (last-holds (eqb (k + 1) p) _ q (eq-eqb _ _ (add-one k ∙ z)))
+                    ∙ add allTaken tt;
               })));
           sums = λ r. add;
           length = l;
         }
+
+    pub ended : Judged L p k x before after (lastVerdict (eqb (k + 1) p) issued received)
+    ended = cases (Judged L p k x before after) tested Agrees (Fails 4) agree apart

@@ -1,18 +1,24 @@
 -- Definitions that only the contracts of private functions cite: the clauses one after the other.
 use mathlib.Core.Path.{_≡_}
-use mathlib.Core.Bool.{true}
+use mathlib.Core.Bool.{Bool, true}
 use mathlib.Core.List.{List}
 use Prim.Native.Nat.{ℕ}
+use lib.Dec.{eqb}
 use lib.ListN.{length}
+use Rattle.base.specs.Choice.{choose}
 use Rattle.base.specs.Limits.{Limits}
 use Rattle.node.specs.Sums.{Field, sentIn, takenIn, number}
 use Rattle.node.specs.Agree.{firstClauses}
 use Rattle.node.specs.declared.Stored.{Stored}
 use Rattle.survey.specs.Verdict.{verdictOf}
 use Rattle.survey.specs.declared.Verdict.{Verdict}
-use Rattle.survey.specs.declared.Verdict.the-variants.{Agrees}
+use Rattle.survey.specs.declared.Verdict.the-variants.{Agrees, Fails}
 use Rattle.layout.specs.Held.{sumOf}
 use Rattle.adding.specs.Adding.{Added}
+
+-- clause 4
+abbrev pub lastVerdict : Bool → ℕ → ℕ → Verdict
+lastVerdict last issued received = choose (choose last (eqb issued received) true) Agrees (Fails 4)
 
 -- clauses 0, 1 and 2 hold
 pub record Opened (p k : ℕ) (own : Field → ℕ) (x : Stored) : Type 0 where

@@ -7,11 +7,24 @@ ghost use Rattle.survey.specs.Verdict.{verdictOf};
 ghost use Rattle.layout.specs.Held.{firstFrom, sumOf};
 ghost use Rattle.pass_one.specs.Tried.{firstTried, PassedBy};
 ghost use Rattle.adding.specs.Adding.{FirstAt, Added};
-ghost use Rattle.pass_one.specs.Pieces.{Opened, Judged};
+ghost use Rattle.pass_one.specs.Pieces.{lastVerdict, Opened, Judged};
 use base::Bounds;
 use frame::Sent;
 use frame::Taken;
 use survey::Verdict;
+
+// Clause 4, where those before it hold: in the last dimension total sent is total taken, the frame's being added to both.
+fn last_clause(last: bool, issued: Sent, received: Taken) -> Verdict
+    ensures { λ r. ⌜ r ≡ lastVerdict last (issued .0) (received .0) ⌝ }
+{
+    if !last {
+        return Verdict::Agrees;
+    }
+    if issued.0 != received.0 {
+        return Verdict::Fails(4);
+    }
+    Verdict::Agrees
+}
 
 // Clauses 3 and 4, where those before them hold.
 fn last_clauses(b: Bounds, s: &[u32], sums: &mut [u32], p: u32, k: u32, at: u32) -> Verdict
@@ -23,16 +36,9 @@ fn last_clauses(b: Bounds, s: &[u32], sums: &mut [u32], p: u32, k: u32, at: u32)
     if !adding::add_frame(base::field_limit(b), s, &mut *sums, p, k, at) {
         return Verdict::Fails(3);
     }
-    if k + 1 != p {
-        return Verdict::Agrees;
-    }
-    // in the last dimension total sent is total taken
     let issued = Sent(sums[(2 * p) as usize]);
     let received = Taken(sums[(2 * p + layout::RECEIVED) as usize]);
-    if issued.0 != received.0 {
-        return Verdict::Fails(4);
-    }
-    Verdict::Agrees
+    last_clause(k + 1 == p, issued, received)
 }
 
 // The first clause that fails in dimension k, whose words begin at a place: they are tried by their numbers.

@@ -23,15 +23,17 @@ fn tried(b: Bounds, s: &[u32], p: u32, k: u32, at: u32, issued: Sent, agreed: u3
     if s[at as usize] != 1 {
         return Verdict::Fails(0);
     }
-    let other = Sent(s[(at + layout::SECOND_ISSUED) as usize]);
-    let other_agreed = s[(at + layout::SECOND_AGREED) as usize];
-    let fits = walk_tests::sent_fits(issued, other, base::field_limit(b));
     // with the frame's added, total sent is within the limit
-    if !fits {
+    let limit = base::field_limit(b);
+    let other = Sent(s[(at + layout::SECOND_ISSUED) as usize]);
+    if limit < issued.0 {
+        return Verdict::Fails(3);
+    }
+    if limit - issued.0 < other.0 {
         return Verdict::Fails(3);
     }
     // the other side has agreed on the same total
-    if other_agreed != agreed {
+    if s[(at + layout::SECOND_AGREED) as usize] != agreed {
         return Verdict::Fails(5);
     }
     if k + 1 != p {
