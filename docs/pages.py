@@ -103,6 +103,17 @@ def again(name):
     return table(["Sent first in line", "Again in line", "From, to", "Step", "What has changed in it"], rows)
 
 
+def waits(*names):
+    """The waits of scripts: who waits where for whom, and the clause that is named."""
+    rows = []
+    for name in names:
+        game = played.play(played.SCRIPTS / name)
+        board = played.places(game.size)
+        rows += [(f"`scripts/{name}`", e.line, e.node, wording.step(e.step), board[e.node, e.step[1]].awaited, e.clause)
+                 for e in game.events if e.answer == 21]
+    return table(["Script", "Line", "Node", "Waits in", "Awaits", "Clause"], rows)
+
+
 def phases():
     """The program boards' lines about phase bytes."""
     lines = [line for line in played.output("target/bin/boards") if line.startswith("node in phase")]
@@ -139,7 +150,7 @@ def costs():
     return table(["What", "How much"], rows)
 
 
-KINDS = {kind.__name__: kind for kind in (trace, partners, shells, frame, lengths, again, phases, costs)}
+KINDS = {kind.__name__: kind for kind in (trace, partners, shells, frame, lengths, again, waits, phases, costs)}
 
 
 # ---- The page

@@ -32,8 +32,13 @@ Item = namedtuple("Item", "line source target kind frame")
 # The kind of message that a line of a script sends, by the line's letter.
 MESSAGES = {"s": "job", "t": "note"}
 
-# A line of a script with what it printed. frame: what was sent. item: what was delivered, or stayed for being early.
-Event = namedtuple("Event", "line text printed node answer phase step flag busy frame item")
+# What is printed for a line of a script, and what the library tells besides: of a frame that is sent its receivers and bytes, of a
+# wait its clause; else None.
+Said = namedtuple("Said", "text receivers data clause")
+
+# A line of a script with what it printed. frame: what was sent. item: what was delivered, or stayed for being early. clause: what
+# a wait named.
+Event = namedtuple("Event", "line text printed node answer phase step flag busy frame item clause")
 
 # A script that was played: how many nodes its board has, its events, and the items under way at its end.
 Play = namedtuple("Play", "size events under_way")
@@ -121,19 +126,21 @@ def printed(path, data):
     return lines
 
 
-def printed_with_frames(path, data):
-    """The lines of a script, and what each prints with its frame's receivers and bytes, or None."""
+def printed_with_details(path, data):
+    """The lines of a script, and what is said of each."""
     lines = printed(path, data)
-    pairs = []
-    for line in output("target/c/play", data, "frames"):
+    found = []
+    for line in output("target/c/play", data, "details"):
         if line.startswith("frame to "):
             to, sent = line[len("frame to "):].split(":")
-            pairs[-1] = (pairs[-1][0], [int(x) for x in to.split()], bytes.fromhex(sent))
+            found[-1] = found[-1]._replace(receivers=[int(x) for x in to.split()], data=bytes.fromhex(sent))
+        elif line.startswith("clause "):
+            found[-1] = found[-1]._replace(clause=int(line.split()[1]))
         else:
-            pairs.append((line, None, None))
-    if [pair[0] for pair in pairs] != lines:
+            found.append(Said(line, None, None, None))
+    if [said.text for said in found] != lines:
         raise Trouble(f"{path}: rehearse and play print different lines")
-    return data.decode().splitlines(), pairs
+    return data.decode().splitlines(), found
 
 
 def delivered(items, parts, answer):
@@ -147,9 +154,9 @@ def delivered(items, parts, answer):
 
 def play(path):
     """A script, played."""
-    script, pairs = printed_with_frames(path, read(path))
+    script, found = printed_with_details(path, read(path))
     items, events, sent = [], [], {}
-    for line, (text, (said, to, data)) in enumerate(zip(script[1:], pairs[1:]), start=2):
+    for line, (text, (said, to, data, clause)) in enumerate(zip(script[1:], found[1:]), start=2):
         parts = text.split()
         node, answer, phase, turn, dimension, flag, busy = (int(x) for x in said.split())
         frame = item = None
@@ -162,7 +169,7 @@ def play(path):
             items.append(Item(line, node, int(parts[2]), MESSAGES[parts[0]], None))
         elif parts[0] == "d":
             item = delivered(items, parts, answer)
-        events.append(Event(line, text, said, node, answer, phase, (turn, dimension), flag, busy, frame, item))
+        events.append(Event(line, text, said, node, answer, phase, (turn, dimension), flag, busy, frame, item, clause))
     return Play(int(script[0].split()[1]), events, items)
 
 

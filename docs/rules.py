@@ -20,7 +20,7 @@ CHAPTERS = "TNFRHPSC"
 # what is promised and where it is proved: a crate of theorems passes whatever it still says, so each of these lines must stand
 HEADLINE = {
     "crates/promises/specs/Promises.antt": [
-        "pub anyInput : AnyInput", "pub kinds : Kinds", "pub tree : (P : ℕ) → 1 ≤ P → P ≤ base .nodes → Tree P",
+        "pub anyInput : AnyInput", "pub kinds : Kinds", "pub waits : Waits", "pub tree : (P : ℕ) → 1 ≤ P → P ≤ base .nodes → Tree P",
         "pub frames : (P : ℕ) → 1 ≤ P → P ≤ base .nodes → Frames P",
         "pub runs : (P : ℕ) → 1 ≤ P → P ≤ base .nodes → Runs P", "pub links : LinkBytes", "pub starred : All table",
         "pub rehearsals : EveryRehearsal", "pub texts : EveryTextFits",
@@ -30,7 +30,7 @@ HEADLINE = {
         # each claim of the records
         "pub ours :", "pub stay :", "pub fresh :", "pub freshStays :", "pub sends :", "pub takes :",
         "pub idles :", "pub frames : (bs : List ℕ)", "pub steps :", "pub stepStays :", "pub dimensions :", "pub places :", "pub distances :",
-        "pub notes :", "pub jobs :",
+        "pub notes :", "pub jobs :", "pub fails :", "pub lower :", "pub unstored :", "pub stored :",
         "pub dimensionStays :", "pub placeStays :", "pub distanceStays :", "pub writes :", "pub writeStays :",
         "pub reads :", "pub readStays :", "pub fits :", "pub smallest :", "pub sent :", "pub awaits :",
         "pub neighbours :", "pub hermits :", "pub hermitNext :", "pub messengers :", "pub hermitBefore :",

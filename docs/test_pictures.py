@@ -91,8 +91,10 @@ def distance(point, start, end):
 def sent_items(path):
     """The items that a script sends, as the C player prints them: kind, line, ends."""
     found, line, script = [], 1, path.read_text(encoding="utf-8").splitlines()
-    for printed in played.output("target/c/play", path.read_bytes(), "frames")[1:]:
+    for printed in played.output("target/c/play", path.read_bytes(), "details")[1:]:
         words = printed.split()
+        if words[0] == "clause":
+            continue
         if printed.startswith("frame to "):
             receivers = printed[len("frame to "):].split(":")[0].split()
             found += [("frame", line, node, int(to)) for to in receivers]

@@ -52,7 +52,7 @@ def event(events, at):
         letter, *_, to = found.text.split()
         return f"{found.node} is out of work: idle" if letter == "i" else f"{found.node} sends a {played.MESSAGES[letter]} to {to}"
     if found.answer == 21:
-        return f"{found.node} waits in {step(found.step)}"
+        return f"{found.node} waits in {step(found.step)}: clause {found.clause}"
     if found.answer == 22:
         return f"{found.node} moves on to {step(found.step)}"
     if found.answer == 23:
@@ -70,6 +70,8 @@ def short(events, at):
         words = "idle" if found.text[0] == "i" else f"{played.MESSAGES[found.text[0]]} out"
     elif found.answer == 7:
         words = "early, stays"
+    elif found.answer == 21:
+        words = f"waits: clause {found.clause}"
     elif found.answer < 20:
         words = f"refused: {words}"
     elif found.frame is not None and found.frame.before:

@@ -151,9 +151,9 @@ extern "C" {
 
 /*
  * Grows by 1 with each change that a caller can see. In 1 every state had 200 words, and no call was told how many; in 2
- * every work message was a job.
+ * every work message was a job; in 3 a wait could name any clause that fails.
  */
-#define OCB_VERSION 3
+#define OCB_VERSION 4
 
 /* Nodes of the largest board, bytes of its longest frame. */
 #define OCB_NODES 256
@@ -278,10 +278,26 @@ uint32_t ocb_frame_in(uint32_t *state, size_t words, const uint8_t *bytes, size_
  * One step of the barrier at an idle node, with a buffer of count bytes; OCB_FRAME_BYTES are always enough. Call it when
  * the links to the receivers have room.
  * OCB_SENT: a frame stands at the buffer's start and goes to one or two receivers; OCB_WAITS; OCB_MOVED; OCB_LEFT.
- * details, by word: how many receivers, the first, the second, the frame's length, and for OCB_WAITS the number of a
- * clause that fails (0: no frame has come; 1, 2: counts of sent and taken differ; 3: a sum is above the limit; 4:
- * the totals of sent and taken differ; 5, 6: the second pass does not confirm the first). What an answer lacks is 0.
+ * details, by word: how many receivers, the first, the second, the frame's length, and for OCB_WAITS the clause that it
+ * names. What an answer lacks is 0.
  * Refusals: 13, 12, 14. State, buffer and details stay then.
+ *
+ * The clause is the lowest-numbered one that fails, and 0 where no frame of the awaited node is stored: then no other is
+ * tried. It follows from the state alone, so that every build names the same. Show it for OCB_WAITS only, with the step
+ * (OCB_AT_PASS, OCB_AT_DIMENSION); ocb_place has the node awaited there. What a lamp at a clause says, where "this side"
+ * is the nodes whose counts this node has added up, itself among them, and "the other side" those whose counts are in
+ * the awaited node's frame. docs/BARRIER.md has what causes it and what to look at.
+ *
+ * - 0: no frame of this step has come from the awaited node in this cycle. That node is busy or not as far, or its frame
+ *   is on its way.
+ * - 1: the frame is there. What this side has sent to the other side is not what that side has taken: something is on
+ *   its way, or the counts of one side are older than those of the other.
+ * - 2: 1 holds. What the other side has sent to this side is not what this side has taken, for the same reasons.
+ * - 3: 0 holds, and in pass 1 also 1 and 2. A sum of counts is above the limit, more than the largest board can send in
+ *   a cycle: a count is wrong.
+ * - 4: pass 1, last dimension: 0 to 3 hold. The totals of the whole board, sent and taken, are not the same.
+ * - 5: pass 2: 0 and 3 hold. The other side has another total T than this node: one of them goes by older counts.
+ * - 6: pass 2, last dimension: 0, 3 and 5 hold. What the whole board has sent by now is not T.
  */
 uint32_t ocb_barrier(uint32_t *state, size_t words, uint8_t *buffer, size_t count,
                      uint32_t details[OCB_DETAIL_WORDS]);

@@ -1,7 +1,8 @@
 /*
  * Plays a rehearsal script (standard input) through the C functions and prints what the program rehearse prints. With
- * the argument "frames" one more line follows each frame that is sent: its receivers and its bytes. It is made for
- * scripts without a mistake, such as the repository's: at a line that it cannot play it ends with status 1.
+ * the argument "details" one more line follows each frame that is sent, its receivers and its bytes, and each wait, the
+ * clause that it names. It is made for scripts without a mistake, such as the repository's: at a line that it cannot play
+ * it ends with status 1.
  */
 #include "ocb.h"
 
@@ -122,8 +123,14 @@ static void print_frame(void)
     printf("\n");
 }
 
+static void print_details(uint32_t answer)
+{
+    if (answer == OCB_SENT) print_frame();
+    if (answer == OCB_WAITS) printf("clause %u\n", (unsigned)details[4]);
+}
+
 /* One line of a script; 0 where it cannot be played. */
-static int play(const char *line, uint32_t nodes, int frames)
+static int play(const char *line, uint32_t nodes, int detailed)
 {
     unsigned a, b = 0;
     char act;
@@ -138,13 +145,13 @@ static int play(const char *line, uint32_t nodes, int frames)
     else if (act == 'b') answer = barrier(a);
     else return 0;
     print_line(act == 'd' ? b : a, answer);
-    if (answer == OCB_SENT && frames) print_frame();
+    if (detailed) print_details(answer);
     return 1;
 }
 
 int main(int count, char **words)
 {
-    int frames = count == 2 && strcmp(words[1], "frames") == 0;
+    int detailed = count == 2 && strcmp(words[1], "details") == 0;
     char line[32];
     unsigned nodes;
     puts("node answer phase pass dim flag busy");
@@ -152,6 +159,6 @@ int main(int count, char **words)
     for (uint32_t node = 0; node < nodes; node++)
         if (ocb_fresh(states[node], WORDS, nodes, node) != OCB_DONE) return 1;
     while (fgets(line, sizeof line, stdin) != NULL)
-        if (!play(line, nodes, frames)) return 1;
+        if (!play(line, nodes, detailed)) return 1;
     return 0;
 }

@@ -6,8 +6,6 @@ use Rattle.tree.specs.Tree.{Place, alone, hermit, neighbour, messenger}
 use Rattle.frame.specs.declared.Outcome.{Outcome}
 use Rattle.frame.specs.declared.Outcome.the-variants.{Done, Refused as NoFrame}
 use Rattle.node.specs.Answers.{Barrier, sent, waits, moved, left, barred}
-use Rattle.node.specs.declared.BarrierAnswer.{BarrierAnswer}
-use Rattle.node.specs.declared.BarrierAnswer.the-variants.{Sends, Waits, Moved, Left, Refused}
 
 -- ---- Lookups
 
@@ -43,18 +41,10 @@ receiverWords [] length = 0 ∷ 0 ∷ 0 ∷ length ∷ 0 ∷ []
 receiverWords (a ∷ []) length = 1 ∷ a ∷ 0 ∷ length ∷ 0 ∷ []
 receiverWords (a ∷ b ∷ l) length = 2 ∷ a ∷ b ∷ length ∷ 0 ∷ []
 
--- by the answer, and the clause for a wait; the words stay where the call is refused
-abbrev pub detailWords : List ℕ → ℕ → Barrier → List ℕ
-detailWords ds clause (sent to length) = receiverWords to length
-detailWords ds clause waits = 0 ∷ 0 ∷ 0 ∷ 0 ∷ clause ∷ []
-detailWords ds clause moved = 0 ∷ 0 ∷ 0 ∷ 0 ∷ 0 ∷ []
-detailWords ds clause left = 0 ∷ 0 ∷ 0 ∷ 0 ∷ 0 ∷ []
-detailWords ds clause (barred x) = ds
-
--- the clause that an answer names, 0 where it does not wait
-abbrev pub clauseOf : BarrierAnswer → ℕ
-clauseOf (Sends to length) = 0
-clauseOf (Waits clause) = clause
-clauseOf Moved = 0
-clauseOf Left = 0
-clauseOf (Refused x) = 0
+-- by the answer; the words stay where the call is refused
+abbrev pub detailWords : List ℕ → Barrier → List ℕ
+detailWords ds (sent to length) = receiverWords to length
+detailWords ds (waits clause) = 0 ∷ 0 ∷ 0 ∷ 0 ∷ clause ∷ []
+detailWords ds moved = 0 ∷ 0 ∷ 0 ∷ 0 ∷ 0 ∷ []
+detailWords ds left = 0 ∷ 0 ∷ 0 ∷ 0 ∷ 0 ∷ []
+detailWords ds (barred x) = ds

@@ -2,7 +2,7 @@
 ghost use mathlib.Core.Path.{_≡_};
 ghost use Rattle.tree.specs.Lookups.{foundAnswer, placedAnswer};
 ghost use Rattle.node.specs.Answers.{outcomeNumber, outcomeOf, barrierNumber, barrierOf};
-ghost use Rattle.answers.specs.Words.{lookupNumber, numberWords, placeWords, readNumber, detailWords, clauseOf};
+ghost use Rattle.answers.specs.Words.{lookupNumber, numberWords, placeWords, readNumber, detailWords};
 use frame::Outcome;
 use node::Answer;
 use node::BarrierAnswer;
@@ -24,8 +24,7 @@ pub fn number_of(answer: Answer) -> u32
 // Puts what an answer says beside its number, and answers the number. A refusal puts nothing.
 pub fn answer_barrier(answer: BarrierAnswer, details: &mut [u32; 5]) -> u32
     ensures answer { λ r. ⌜ r ≡ barrierNumber (barrierOf answer) ⌝ }
-    ensures memory { λ r.
-        ⌜ now (details .exit) ≡ detailWords (now (details .entry)) (clauseOf answer) (barrierOf answer) ⌝ }
+    ensures memory { λ r. ⌜ now (details .exit) ≡ detailWords (now (details .entry)) (barrierOf answer) ⌝ }
 {
     match answer {
         BarrierAnswer::Sends(to, length) => {

@@ -1,7 +1,6 @@
 // What a maker links: the calls in place on a state that the caller lends as words, answers as numbers.
 ghost use mathlib.Core.Path.{_≡_};
-ghost use mathlib.Core.Bool.{true};
-ghost use lib.ListN.{length, getD};
+ghost use lib.ListN.{length};
 ghost use Rattle.base.specs.Limits.{base};
 ghost use Rattle.base.specs.declared.Kind.the-variants.{Job, Note};
 ghost use Rattle.tree.specs.Lookups.{dimensionLookup, placeLookup, distanceLookup};
@@ -12,7 +11,7 @@ ghost use Rattle.node.specs.Answers.{outcomeNumber, barrierNumber};
 ghost use Rattle.node.specs.Calls.{send, take, idle, frameIn};
 ghost use Rattle.node_calls.specs.Fresh.{freshOn, freshWords};
 ghost use Rattle.answers.specs.Words.{lookupNumber, numberWords, placeWords, detailWords};
-ghost use Rattle.barrier_c.specs.Exports.{answerOn, wordsOn, barrierOn, barrierState, barrierBuffer, isClause};
+ghost use Rattle.barrier_c.specs.Exports.{answerOn, wordsOn, barrierOn, barrierState, barrierBuffer};
 use base::Kind;
 
 // ---- Exported: the calls on a state
@@ -81,12 +80,7 @@ pub extern "C" fn ocb_barrier(state: &mut [u32], buf: &mut [u8], details: &mut [
     ensures buffer { λ r. ⌜ now (buf .exit) ≡ barrierBuffer base (now (state .entry)) (now (buf .entry)) ⌝ }
     ensures details { λ r.
         ⌜ now (details .exit)
-        ≡ detailWords (now (details .entry)) (getD (now (details .exit)) 4 0)
-        (barrierOn base (now (state .entry)) (length (now (buf .entry)))) ⌝ }
-    ensures clause { λ r.
-        ⌜ isClause base (now (state .entry)) (getD (now (details .exit)) 4 0)
-        (barrierOn base (now (state .entry)) (length (now (buf .entry))))
-        ≡ true ⌝ }
+        ≡ detailWords (now (details .entry)) (barrierOn base (now (state .entry)) (length (now (buf .entry)))) ⌝ }
 {
     answers::answer_barrier(calls::step(base::of_build(), state, buf), details)
 }

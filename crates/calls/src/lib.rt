@@ -1,51 +1,17 @@
 // The calls in place on the words that the caller lends, each with words of its own for the sums. Words that hold no state
 // are refused with 13.
 ghost use mathlib.Core.Path.{_≡_};
-ghost use mathlib.Core.Bool.{true};
 ghost use lib.ListN.{length};
 ghost use Rattle.base.specs.Limits.{limitsOf};
 ghost use Rattle.node.specs.Answers.{outcomeOf, barrierOf};
-ghost use Rattle.node.specs.Barrier.{clauseFails};
-ghost use Rattle.node.specs.Calls.{send, take, idle, frameIn};
-ghost use Rattle.layout.specs.Held.{unpacked};
-ghost use Rattle.calls.specs.OnWords.{answerOn, wordsOn, barrierOn, barrierState, barrierBuffer};
+ghost use Rattle.node.specs.Calls.{frameIn};
+ghost use Rattle.message_calls.specs.OnWords.{answerOn, wordsOn, barrierOn, barrierState, barrierBuffer};
 use base::Bounds;
-use base::Kind;
+pub use message_calls::go_idle;
+pub use message_calls::send_to;
+pub use message_calls::take_from;
 use node::Answer;
 use node::BarrierAnswer;
-
-// The words in which a call gathers the sums of the largest board.
-const SUMS: usize = 18;
-
-// One message more is sent to a node. Refuses 13, 2, 3, 4, 5.
-pub fn send_to(b: Bounds, state: &mut [u32], to: u32) -> Answer
-    ensures answer { λ r. ⌜ outcomeOf r ≡ answerOn (limitsOf b) (λ n. send (limitsOf b) n to) (now (state .entry)) ⌝ }
-    ensures memory { λ r.
-        ⌜ now (state .exit) ≡ wordsOn (limitsOf b) (λ n. send (limitsOf b) n to) (now (state .entry)) ⌝ }
-{
-    let mut sums = [0u32; SUMS];
-    node_calls::send_to(b, state, &mut sums, to)
-}
-
-// A job or a note from a node, with its phase byte, is taken. Refuses 13, 2, 3, 7 or 8, 6.
-pub fn take_from(b: Bounds, state: &mut [u32], kind: Kind, from: u32, phase: u8) -> Answer
-    ensures answer { λ r.
-        ⌜ outcomeOf r ≡ answerOn (limitsOf b) (λ n. take (limitsOf b) n kind from phase) (now (state .entry)) ⌝ }
-    ensures memory { λ r.
-        ⌜ now (state .exit) ≡ wordsOn (limitsOf b) (λ n. take (limitsOf b) n kind from phase) (now (state .entry)) ⌝ }
-{
-    let mut sums = [0u32; SUMS];
-    node_calls::take_from(b, state, &mut sums, kind, from, phase)
-}
-
-// The node has run out of work. Refuses 13.
-pub fn go_idle(b: Bounds, state: &mut [u32]) -> Answer
-    ensures answer { λ r. ⌜ outcomeOf r ≡ answerOn (limitsOf b) (idle (limitsOf b)) (now (state .entry)) ⌝ }
-    ensures memory { λ r. ⌜ now (state .exit) ≡ wordsOn (limitsOf b) (idle (limitsOf b)) (now (state .entry)) ⌝ }
-{
-    let mut sums = [0u32; SUMS];
-    node_calls::go_idle(b, state, &mut sums)
-}
 
 // A frame has come. Refuses 13, 9, 10, 2, 3, 11, 7, 8.
 pub fn frame_in(b: Bounds, state: &mut [u32], bytes: &[u8]) -> Answer
@@ -56,18 +22,17 @@ pub fn frame_in(b: Bounds, state: &mut [u32], bytes: &[u8]) -> Answer
         ⌜ now (state .exit)
         ≡ wordsOn (limitsOf b) (λ n. frameIn (limitsOf b) n (now (bytes .entry))) (now (state .entry)) ⌝ }
 {
-    let mut sums = [0u32; SUMS];
+    let mut sums = [0u32; message_calls::SUMS];
     node_frames::frame_in(b, state, &mut sums, bytes)
 }
 
 // One step of an idle node: sends its frame, moves on, leaves or waits. Refuses 13, 12, 14.
 pub fn step(b: Bounds, state: &mut [u32], buf: &mut [u8]) -> BarrierAnswer
     ensures answer { λ r. ⌜ barrierOf r ≡ barrierOn (limitsOf b) (now (state .entry)) (length (now (buf .entry))) ⌝ }
-    ensures clause { λ r. ⌜ clauseFails (limitsOf b) (unpacked (now (state .entry))) r ≡ true ⌝ }
     ensures memory { λ r.
         ⌜ now (state .exit) ≡ barrierState (limitsOf b) (now (state .entry)) (length (now (buf .entry))) ⌝ }
     ensures buffer { λ r. ⌜ now (buf .exit) ≡ barrierBuffer (limitsOf b) (now (state .entry)) (now (buf .entry)) ⌝ }
 {
-    let mut sums = [0u32; SUMS];
+    let mut sums = [0u32; message_calls::SUMS];
     node_barrier::step(b, state, &mut sums, buf)
 }

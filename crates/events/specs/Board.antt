@@ -146,7 +146,7 @@ posted a bytes phase to = map (λ b. record { from = a; to = b; load = frame byt
 -- n is the state before the call; who leaves is busy again
 abbrev pub afterCall : Board → ℕ → Node → Barrier → Board
 afterCall w a n (sent to length) = carries w (w .items ++ posted a (frameBytes (dims n) (frameDue n)) (w .count a) to)
-afterCall w a n waits = w
+afterCall w a n (waits clause) = w
 afterCall w a n moved = w
 afterCall w a n left =
     record {

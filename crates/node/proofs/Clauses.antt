@@ -73,6 +73,14 @@ module _ (L : Limits) (p k : ℕ) (own : Field → ℕ) (x : Stored) where
       within e t allSent h = leb-true _ _ (t .0)
       within e t allTaken h = leb-true _ _ (t .1)
 
+  pub within-all : ((f : Field) → Has p (suc k) f → added f ≤ fieldLimit L) → both shells totals ≡ true
+  within-all w =
+      both-make
+      (every-make (suc k) (p - suc k) _
+      (λ m l h.
+      both-make (le-leb _ _ (w (sentIn m) (omega arith))) (le-leb _ _ (w (takenIn m) (omega arith)))))
+      (both-make (le-leb _ _ (w allSent tt)) (le-leb _ _ (w allTaken tt)))
+
   pub first-known : allHold (firstClauses L p k own x) ≡ true → FirstAgrees L p k own x
   unfolding firstClauses
   first-known e =
@@ -96,13 +104,7 @@ module _ (L : Limits) (p k : ℕ) (own : Field → ℕ) (x : Stored) where
       both-make (a .stored)
       (both-make (eq-eqb _ _ (a .sent))
       (both-make (eq-eqb _ _ (a .taken))
-      (both-make
-      (both-make
-      (every-make (suc k) (p - suc k) _
-      (λ m l h.
-      both-make (le-leb _ _ (a .within (sentIn m) (omega arith)))
-      (le-leb _ _ (a .within (takenIn m) (omega arith)))))
-      (both-make (le-leb _ _ (a .within allSent tt)) (le-leb _ _ (a .within allTaken tt))))
+      (both-make (within-all (a .within))
       (both-make (if-last (eqb (suc k) p) _ (λ q. eq-eqb _ _ (a .last (eqb-true (suc k) p q)))) refl))))
 
 -- ---- pass 2

@@ -1,4 +1,5 @@
 pub mod Clauses
+pub mod FirstFailing
 pub mod Valid
 pub mod Ways
 pub mod Totals
@@ -9,4 +10,5 @@ pub mod Storing
 pub mod ValidOut
 pub mod Passes
 pub mod Taken
+pub mod Waiting
 pub mod Sizes

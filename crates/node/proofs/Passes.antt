@@ -96,14 +96,14 @@ isRefused (refused x) = true
 
 abbrev isLeft : Barrier → Bool
 isLeft (sent to length) = false
-isLeft waits = false
+isLeft (waits clause) = false
 isLeft moved = false
 isLeft left = true
 isLeft (barred x) = false
 
 abbrev isBarred : Barrier → Bool
 isBarred (sent to length) = false
-isBarred waits = false
+isBarred (waits clause) = false
 isBarred moved = false
 isBarred left = false
 isBarred (barred x) = true

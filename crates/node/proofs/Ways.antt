@@ -310,7 +310,7 @@ module _ (L : Limits) (n : Node) where
         → receiversDue n ≡ first ∷ rest → lengthDue n ≤ room → CallWay room (sending n)
     -- the step doesn't agree
     waits : valid L n ≡ true → n .busy ≡ false → NoneDue → dims n ≢ 0 → agrees L n (n .pass) (n .dim) ≡ false
-        → CallWay room (waiting n)
+        → CallWay room (waiting L n)
     -- on to the next dimension of the pass
     next : valid L n ≡ true → n .busy ≡ false → NoneDue → agrees L n (n .pass) (n .dim) ≡ true → suc (n .dim) < dims n
         → CallWay room (give (at n (n .pass) (suc (n .dim)) true (n .agreed)) moved)

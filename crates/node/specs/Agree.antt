@@ -1,10 +1,9 @@
 -- When a step agrees: the clauses (rule N15).
-use mathlib.Core.Bool.{Bool, true, false, not}
+use mathlib.Core.Bool.{Bool, true, false}
 use mathlib.Core.Option.{Option, none, some}
 use mathlib.Core.List.{List, [], _∷_}
 use Prim.Native.Nat.{ℕ, suc, _+_, _-_}
 use lib.Dec.{leb, eqb}
-use lib.ListN.{getD}
 use Rattle.base.specs.Choice.{choose, both, every}
 use Rattle.base.specs.Limits.{Limits, fieldLimit}
 use Rattle.tree.specs.Tree.{awaited}
@@ -76,6 +75,7 @@ allHold (c ∷ cs) = both c (allHold cs)
 unfoldable pub agrees : Limits → Node → ℕ → ℕ → Bool
 agrees L n pass k = choose (isAlone n k) true (allHold (clauses L n pass k))
 
--- rule N17: a wait may name any clause that fails, but 0 where no frame is stored
-unfoldable pub mayName : List Bool → ℕ → Bool
-mayName cs c = choose (getD cs 0 true) (not (getD cs c true)) (eqb c 0)
+-- rule N17: the number of the first clause that fails
+unfoldable pub firstFailing : List Bool → ℕ
+firstFailing [] = 0
+firstFailing (c ∷ cs) = choose c (suc (firstFailing cs)) 0

@@ -21,10 +21,11 @@ pub data Outcome : Type 0 where
   done dropped : Outcome
   refused : ℕ → Outcome
 
--- a barrier call: sent, to the receivers, a frame of a length; waits; moved; left; refused
+-- a barrier call: sent, to the receivers, a frame of a length; waits, for a clause; moved; left; refused
 pub data Barrier : Type 0 where
   sent : List ℕ → ℕ → Barrier
-  waits moved left : Barrier
+  waits : ℕ → Barrier
+  moved left : Barrier
   barred : ℕ → Barrier
 
 -- the numbers of answers (rule N18)
@@ -35,7 +36,7 @@ outcomeNumber (refused x) = x
 
 abbrev pub barrierNumber : Barrier → ℕ
 barrierNumber (sent to length) = 20
-barrierNumber waits = 21
+barrierNumber (waits clause) = 21
 barrierNumber moved = 22
 barrierNumber left = 23
 barrierNumber (barred x) = x
@@ -49,10 +50,9 @@ abbrev pub also : Extra → List ℕ
 also Nobody = []
 also (Also b) = b ∷ []
 
--- the clause that a wait names is told apart (mayName)
 abbrev pub barrierOf : BarrierAnswer → Barrier
 barrierOf (Sends to length) = sent (to .first ∷ also (to .extra)) length
-barrierOf (Waits clause) = waits
+barrierOf (Waits clause) = waits clause
 barrierOf Moved = moved
 barrierOf Left = left
 barrierOf (NoBarrier x) = barred x

@@ -11,13 +11,11 @@ use Rattle.tree.specs.Tree.{receivers}
 use Rattle.frame.specs.Frame.{sentNumber, takenNumber, hasShell, frameLength, frameBytes}
 use Rattle.frame.specs.declared.Frame.{Frame}
 use Rattle.node.specs.Sums.{dims, sentIn, takenIn, allSent, allTaken, own, ownIssued}
-use Rattle.node.specs.Agree.{clauses, agrees, mayName}
+use Rattle.node.specs.Agree.{clauses, agrees, firstFailing}
 use Rattle.node.specs.Change.{at, freshIn}
 use Rattle.node.specs.Answers.{Given, give, Barrier, sent, waits, moved, left, barred}
 use Rattle.node.specs.Calls.{badState}
 use Rattle.node.specs.declared.Node.{Node}
-use Rattle.node.specs.declared.BarrierAnswer.{BarrierAnswer}
-use Rattle.node.specs.declared.BarrierAnswer.the-variants.{Sends, Waits, Moved, Left, Refused}
 
 -- ---- The frame for the node's position: its own sums (rule N10)
 
@@ -83,14 +81,15 @@ moving n =
     choose (ltb (suc (n .dim)) (dims n)) (give (at n (n .pass) (suc (n .dim)) true (n .agreed)) moved)
     (choose (eqb (n .pass) 1) (give (at n 2 0 true (own n (dims n) allTaken)) moved) (leaving n))
 
--- rule N12: nothing but the flag is altered
-abbrev pub waiting : Node → Given Barrier
-waiting n = give (at n (n .pass) (n .dim) false (n .agreed)) waits
+-- rule N12 and rule N17: nothing but the flag is altered, and the first clause that fails is named
+abbrev pub waiting : Limits → Node → Given Barrier
+waiting L n =
+    give (at n (n .pass) (n .dim) false (n .agreed)) (waits (firstFailing (clauses L n (n .pass) (n .dim))))
 
 -- nothing to send: it leaves a board of one node, moves where the step agrees, and else waits
 abbrev pub looking : Limits → Node → Given Barrier
 looking L n =
-    choose (eqb (dims n) 0) (leaving n) (choose (agrees L n (n .pass) (n .dim)) (moving n) (waiting n))
+    choose (eqb (dims n) 0) (leaving n) (choose (agrees L n (n .pass) (n .dim)) (moving n) (waiting L n))
 
 -- with a buffer of so many bytes; the order of refusals is that of rule R3
 unfoldable pub barrier : Limits → Node → ℕ → Given Barrier
@@ -102,18 +101,10 @@ barrier L n room =
     ∷ [])
     (choose (isDue n) (sending n) (looking L n))
 
--- the clause that a wait names is one that fails (rule N17)
-abbrev pub clauseFails : Limits → Node → BarrierAnswer → Bool
-clauseFails L n (Sends to length) = true
-clauseFails L n (Waits clause) = mayName (clauses L n (n .pass) (n .dim)) clause
-clauseFails L n Moved = true
-clauseFails L n Left = true
-clauseFails L n (Refused x) = true
-
 -- the lent bytes after the call: a frame that is sent stands at their start and touches its own bytes only (rule F6)
 abbrev pub lentAfter : Node → List ℕ → Barrier → List ℕ
 lentAfter n buf (sent to len) = frameBytes (dims n) (frameDue n) ++ drop len buf
-lentAfter n buf waits = buf
+lentAfter n buf (waits clause) = buf
 lentAfter n buf moved = buf
 lentAfter n buf left = buf
 lentAfter n buf (barred x) = buf

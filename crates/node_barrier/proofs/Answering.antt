@@ -13,19 +13,18 @@ use Rattle.layout.specs.Held.{unpacked, isReady, holding}
 use Rattle.node_turn.specs.Turn.{nodeAfter, answerOf}
 use Rattle.node_turn.specs.declared.Turn.{Turn}
 use Rattle.node_decide.proofs.Turning.{Turns}
-use Rattle.node_barrier.specs.On.{barrierOn, barrierWords, barrierLent, clauseOn}
+use Rattle.node_barrier.specs.On.{barrierOn, barrierWords, barrierLent}
 
 module _ (L : Limits) (ws buf : List ℕ) (room : ℕ) where
-  -- the answer, the clause, the words and the bytes
+  -- the answer, the words and the bytes
   abbrev pub On : List ℕ → List ℕ → BarrierAnswer → Type 0
   On words after r =
       (barrierOf r ≡ barrierOn L room ws (length buf))
-      × ((clauseOn L room ws r ≡ true)
-      × ((words ≡ barrierWords L room ws (length buf)) × (after ≡ barrierLent L room ws buf)))
+      × ((words ≡ barrierWords L room ws (length buf)) × (after ≡ barrierLent L room ws buf))
 
   pub no-state : isReady L room ws ≡ false → On ws buf (Refused 13)
   no-state e =
-      (sym (choose-no _ _ e), (choose-no _ _ e, (sym (choose-no _ _ e), sym (choose-no _ _ e))))
+      (sym (choose-no _ _ e), (sym (choose-no _ _ e), sym (choose-no _ _ e)))
 
   pub on-state : isReady L room ws ≡ true → {r : BarrierAnswer} (t : Turn) (words after : List ℕ) → r ≡ answerOf t
       → Turns L (unpacked ws) buf after t
@@ -35,10 +34,7 @@ module _ (L : Limits) (ws buf : List ℕ) (room : ℕ) where
       subst (On words after) (sym q) (
         ap (λ (g : Given Barrier). g .answer) (h .reply) ∙ sym (choose-yes _ _ e),
         (
-          choose-yes _ _ e ∙ h .clause,
-          (
-            w ∙ ap (λ (g : Given Barrier). holding ws (g .node)) (h .reply) ∙ sym (choose-yes _ _ e),
-            h .bytes ∙ sym (choose-yes _ _ e),
-          ),
+          w ∙ ap (λ (g : Given Barrier). holding ws (g .node)) (h .reply) ∙ sym (choose-yes _ _ e),
+          h .bytes ∙ sym (choose-yes _ _ e),
         ),
       )

@@ -1,13 +1,11 @@
 -- The barrier call on words: its answer, the words and the lent bytes after it; 13 where the words hold no state.
-use mathlib.Core.Bool.{Bool, true}
 use mathlib.Core.List.{List}
 use Prim.Native.Nat.{ℕ}
 use Rattle.base.specs.Choice.{choose}
 use Rattle.base.specs.Limits.{Limits}
 use Rattle.base.specs.Refusal.{Refusal, number}
 use Rattle.node.specs.Answers.{Barrier, barred}
-use Rattle.node.specs.Barrier.{barrier, barrierBytes, clauseFails}
-use Rattle.node.specs.declared.BarrierAnswer.{BarrierAnswer}
+use Rattle.node.specs.Barrier.{barrier, barrierBytes}
 use Rattle.layout.specs.Held.{unpacked, isReady, holding}
 
 abbrev pub barrierOn : Limits → ℕ → List ℕ → ℕ → Barrier
@@ -19,7 +17,3 @@ barrierWords L room ws bytes = choose (isReady L room ws) (holding ws (barrier L
 
 abbrev pub barrierLent : Limits → ℕ → List ℕ → List ℕ → List ℕ
 barrierLent L room ws buf = choose (isReady L room ws) (barrierBytes L (unpacked ws) buf) buf
-
--- the clause that a wait names is one that fails
-abbrev pub clauseOn : Limits → ℕ → List ℕ → BarrierAnswer → Bool
-clauseOn L room ws answer = choose (isReady L room ws) (clauseFails L (unpacked ws) answer) true

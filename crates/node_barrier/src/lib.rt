@@ -1,10 +1,9 @@
 // The barrier call, one step, in place on the words that the caller lends.
 ghost use mathlib.Core.Path.{_≡_};
-ghost use mathlib.Core.Bool.{true};
 ghost use lib.ListN.{length};
 ghost use Rattle.base.specs.Limits.{limitsOf};
 ghost use Rattle.node.specs.Answers.{barrierOf};
-ghost use Rattle.node_barrier.specs.On.{barrierOn, barrierWords, barrierLent, clauseOn};
+ghost use Rattle.node_barrier.specs.On.{barrierOn, barrierWords, barrierLent};
 use base::Bounds;
 use node::BarrierAnswer;
 
@@ -13,7 +12,6 @@ pub fn step(b: Bounds, state: &mut [u32], sums: &mut [u32], buf: &mut [u8]) -> B
     ensures answer { λ r.
         ⌜ barrierOf r
         ≡ barrierOn (limitsOf b) (length (now (sums .entry))) (now (state .entry)) (length (now (buf .entry))) ⌝ }
-    ensures clause { λ r. ⌜ clauseOn (limitsOf b) (length (now (sums .entry))) (now (state .entry)) r ≡ true ⌝ }
     ensures memory { λ r.
         ⌜ now (state .exit)
         ≡ barrierWords (limitsOf b) (length (now (sums .entry))) (now (state .entry)) (length (now (buf .entry))) ⌝ }

@@ -17,7 +17,7 @@ use Rattle.node.specs.Agree.{isAlone, clauses}
 use Rattle.node.specs.declared.Node.{Node}
 use Rattle.node.proofs.Passes.{last-awaits}
 use Rattle.node.proofs.Valid.{Valid}
-use Rattle.survey.specs.Verdict.{isVerdict}
+use Rattle.survey.specs.Verdict.{verdictOf}
 use Rattle.survey.specs.declared.Verdict.{Verdict}
 use Rattle.survey.specs.declared.Verdict.the-variants.{Agrees, Fails}
 use Rattle.layout.specs.Places.{headWords, atPass, atDim, atAgreed, atFirst, atSecond, sumWords, sumReceived}
@@ -98,14 +98,14 @@ module _ (L : Limits) (fit : Fits L) (ws sums : List ℕ) (p total : ℕ) (h : L
           (λ q. Looks L n (onwardTurn q (n .pass) (n .dim) (n .agreed) (word after (sumReceived p))))
           (sym (h .dims))
           (looks-on L n not-none (omega (arith, low, h .dims)) _ (total-agreed j)
-          (ap (λ cs. isVerdict cs Agrees) (sym tried-are) ∙ j .verdict))
+          (j .verdict ∙ ap verdictOf tried-are))
 
       by : (v : Verdict) → Judged L ws p total alone sums after v
           → Looks L n
           (turnBy (onwardTurn p (word ws atPass) (word ws atDim) (word ws atAgreed) (word after (sumReceived p))) v)
       by Agrees j = onwards j
       by (Fails clause) j =
-          looks-wait L n not-none clause (ap (λ cs. isVerdict cs (Fails clause)) (sym tried-are) ∙ j .verdict)
+          looks-wait L n not-none clause (j .verdict ∙ ap verdictOf tried-are)
 
   pub looked : (t : Turn) → LooksOn L ws p total alone sums after t → Looks L n t
   looked t o = go (ℕ-discrete p 0)

@@ -1,5 +1,4 @@
--- Laws of turns: the state and the answer of a turn are the definition's, with a clause that may be named and the lent
--- bytes.
+-- Laws of turns: the state and the answer of a turn are the definition's, and so are the lent bytes.
 use mathlib.Core.Path.{_≡_, refl, sym, ap, _∙_, subst}
 use mathlib.Core.Bool.{Bool, true, false, not}
 use mathlib.Core.List.{List, [], _∷_, _++_}
@@ -14,18 +13,19 @@ use Rattle.base.specs.Refusal.{Refusal, when}
 use Rattle.base.proofs.Laws.{Stops, here, later, clash, choose-yes, choose-no, cases, both-make}
 use Rattle.frame.specs.Frame.{frameBytes}
 use Rattle.node.specs.Sums.{dims, allTaken, own}
-use Rattle.node.specs.Agree.{isAlone, clauses, allHold, agrees, mayName}
+use Rattle.node.specs.Agree.{isAlone, clauses, allHold, agrees, firstFailing}
 use Rattle.node.specs.State.{valid}
-use Rattle.node.specs.Answers.{Given, give, also, Barrier, sent, moved, barrierOf}
+use Rattle.node.specs.Answers.{Given, give, also, Barrier, sent, waits, moved, barrierOf}
 use Rattle.node.specs.Calls.{badState}
 use Rattle.node.specs.Change.{at}
-use Rattle.node.specs.Barrier.{frameDue, lengthDue, receiversDue, isDue, moving, looking, barrier, clauseFails}
+use Rattle.node.specs.Barrier.{frameDue, lengthDue, receiversDue, isDue, moving, looking, barrier}
 use Rattle.node.specs.Barrier.{lentAfter, barrierBytes}
 use Rattle.node.specs.declared.Node.{Node}
 use Rattle.node.specs.declared.Receivers.{Receivers}
 use Rattle.node.proofs.Ways.{callChecks, NoneDue, call-refuses, call-sends, call-looks}
-use Rattle.survey.specs.Verdict.{isVerdict}
-use Rattle.survey.proofs.Clauses.{named-fails}
+use Rattle.node.proofs.FirstFailing.{Named}
+use Rattle.survey.specs.Verdict.{verdictOf}
+use Rattle.survey.proofs.Clauses.{agreed-is, fails-is}
 use Rattle.survey.specs.declared.Verdict.the-variants.{Agrees, Fails}
 use Rattle.node_turn.specs.Turn.{onwardTurn, nodeAfter, answerOf}
 use Rattle.node_turn.specs.declared.Turn.{Turn}
@@ -41,20 +41,19 @@ turned n t = give (nodeAfter n t) (barrierOf (answerOf t))
 -- the turn of a node that looks
 pub record Looks (L : Limits) (n : Node) (t : Turn) : Type 0 where
   pub reply : turned n t ≡ looking L n
-  pub clause : clauseFails L n (answerOf t) ≡ true
   pub bytes : (buf : List ℕ) → buf ≡ lentAfter n buf (barrierOf (answerOf t))
 
 -- the turn of a node, and what its buffer is left as
 pub record Turns (L : Limits) (n : Node) (buf after : List ℕ) (t : Turn) : Type 0 where
   pub reply : turned n t ≡ barrier L n (length buf)
-  pub clause : clauseFails L n (answerOf t) ≡ true
   pub bytes : after ≡ barrierBytes L n buf
 
 module _ (L : Limits) (n : Node) where
   turns : (buf after : List ℕ) (t : Turn) → turned n t ≡ barrier L n (length buf)
-      → clauseFails L n (answerOf t) ≡ true → after ≡ lentAfter n buf (barrierOf (answerOf t)) → Turns L n buf after t
+      → after ≡ lentAfter n buf (barrierOf (answerOf t))
+      → Turns L n buf after t
   unfolding barrierBytes
-  turns buf after t e f g = record { reply = e; clause = f; bytes = g ∙ ap (λ x. lentAfter n buf (x .answer)) e }
+  turns buf after t e g = record { reply = e; bytes = g ∙ ap (λ x. lentAfter n buf (x .answer)) e }
 
   -- the same turn and bytes
   pub turns-same : (buf : List ℕ) {a b : List ℕ} {s t : Turn} → a ≡ b → s ≡ t → Turns L n buf b t → Turns L n buf a s
@@ -64,7 +63,7 @@ module _ (L : Limits) (n : Node) where
 
   module _ (buf : List ℕ) where
     refuses : {x : ℕ} → Stops (callChecks L n (length buf)) x → Turns L n buf buf (Refuses x)
-    refuses {x} s = turns buf buf (Refuses x) (sym (call-refuses L n (length buf) s)) refl refl
+    refuses {x} s = turns buf buf (Refuses x) (sym (call-refuses L n (length buf) s)) refl
 
     pub refuses-state : not (valid L n) ≡ true → Turns L n buf buf (Refuses 13)
     refuses-state e = refuses (here {c = badState L n} e)
@@ -91,7 +90,7 @@ module _ (L : Limits) (n : Node) where
             turns buf (bytes ++ drop count buf) (Sends to count)
             ((λ i. give (at n (n .pass) (n .dim) false (n .agreed)) (sent (sym r i) (e i)))
             ∙ sym (call-sends L n (length buf) _ _ ok b f r (omega arith)))
-            refl (ap (λ l. l ++ drop count buf) is)
+            (ap (λ l. l ++ drop count buf) is)
 
   -- ---- verdicts
 
@@ -101,39 +100,38 @@ module _ (L : Limits) (n : Node) where
   abbrev agreed : Bool
   agreed = agrees L n (n .pass) (n .dim)
 
-  said-yes : isVerdict (tried L n) Agrees ≡ true → agreed ≡ true
+  said-yes : Agrees ≡ verdictOf (tried L n) → agreed ≡ true
   unfolding agrees
-  said-yes e = go (isAlone n (n .dim)) e
+  said-yes e = go (isAlone n (n .dim)) (sym (agreed-is (tried L n) Agrees e))
     where
       go : (t : Bool) → allHold (choose t [] tests) ≡ true → choose t true (allHold tests) ≡ true
       go true q = refl
       go false q = q
 
-  said-no : (c : ℕ) → isVerdict (tried L n) (Fails c) ≡ true → (agreed ≡ false) × (mayName tests c ≡ true)
-  unfolding agrees mayName
-  said-no c e = go (isAlone n (n .dim)) e
+  said-no : (c : ℕ) → Fails c ≡ verdictOf (tried L n) → (agreed ≡ false) × (firstFailing tests ≡ c)
+  unfolding agrees
+  said-no c e = go (isAlone n (n .dim)) (fails-is (tried L n) c e)
     where
-      go : (t : Bool) → mayName (choose t [] tests) c ≡ true
-          → (choose t true (allHold tests) ≡ false) × (mayName tests c ≡ true)
-      go true q = clash (sym q)
-      go false q = (named-fails tests c q, q)
+      go : (t : Bool) → Named (choose t [] tests) c → (choose t true (allHold tests) ≡ false) × (firstFailing tests ≡ c)
+      go true q = clash (q .some)
+      go false q = (q .some, q .first)
 
   -- ---- a node that looks
 
   pub looks-out : dims n ≡ 0 → Looks L n Leaves
   looks-out z =
       let e : eqb (dims n) 0 ≡ true = rw z in
-      record { reply = sym (choose-yes _ _ e); clause = refl; bytes = λ buf. refl }
+      record { reply = sym (choose-yes _ _ e); bytes = λ buf. refl }
 
   module _ (z : eqb (dims n) 0 ≡ false) where
     pub looks-on : n .dim < dims n → (t : ℕ) → (n .pass ≡ 1 → dims n ≤ suc (n .dim) → t ≡ own n (dims n) allTaken)
-        → isVerdict (tried L n) Agrees ≡ true
+        → Agrees ≡ verdictOf (tried L n)
         → Looks L n (onwardTurn (dims n) (n .pass) (n .dim) (n .agreed) t)
     unfolding onwardTurn
     looks-on low t same v =
         subst (Looks L n) (sym (choose-no _ _ (lt-leb (dims n) (n .dim) low)))
         (cases (Looks L n) (ltb (suc (n .dim)) (dims n)) _ _
-        (λ e. record { reply = sym (moves ∙ choose-yes _ _ e); clause = refl; bytes = λ buf. refl })
+        (λ e. record { reply = sym (moves ∙ choose-yes _ _ e); bytes = λ buf. refl })
         (λ e.
         cases (Looks L n) (eqb (n .pass) 1) _ _
         (λ f.
@@ -142,21 +140,25 @@ module _ (L : Limits) (n : Node) where
           reply =
               ap (λ x. give (at n 2 0 true x) moved) q
               ∙ sym (moves ∙ choose-no _ _ e ∙ choose-yes _ _ f);
-          clause = refl;
           bytes = λ buf. refl;
         })
         (λ f.
-        record { reply = sym (moves ∙ choose-no _ _ e ∙ choose-no _ _ f); clause = refl; bytes = λ buf. refl })))
+        record { reply = sym (moves ∙ choose-no _ _ e ∙ choose-no _ _ f); bytes = λ buf. refl })))
       where
         moves : looking L n ≡ moving n
         moves = choose-no _ _ z ∙ choose-yes _ _ (said-yes v)
 
-    pub looks-wait : (c : ℕ) → isVerdict (tried L n) (Fails c) ≡ true → Looks L n (Waits c)
+    pub looks-wait : (c : ℕ) → Fails c ≡ verdictOf (tried L n) → Looks L n (Waits c)
     looks-wait c e =
         let q = said-no c e in
-        record { reply = sym (choose-no _ _ z ∙ choose-no _ _ (q .0)); clause = q .1; bytes = λ buf. refl }
+        record {
+          reply =
+              ap (λ i. give (at n (n .pass) (n .dim) false (n .agreed)) (waits i)) (sym (q .1))
+              ∙ sym (choose-no _ _ z ∙ choose-no _ _ (q .0));
+          bytes = λ buf. refl;
+        }
 
   pub looks : (buf : List ℕ) → valid L n ≡ true → n .busy ≡ false → NoneDue L n → (t : Turn) → Looks L n t
       → Turns L n buf buf t
   looks buf ok b d t s =
-      turns buf buf t (s .reply ∙ sym (call-looks L n (length buf) ok b d)) (s .clause) (s .bytes buf)
+      turns buf buf t (s .reply ∙ sym (call-looks L n (length buf) ok b d)) (s .bytes buf)

@@ -7,7 +7,7 @@ use lib.Dec.{ltb, leb, eqb}
 use lib.ListN.{length}
 use Rattle.base.specs.Choice.{choose, both}
 use Rattle.base.specs.Limits.{Limits, width}
-use Rattle.survey.specs.Verdict.{isVerdict}
+use Rattle.survey.specs.Verdict.{verdictOf}
 use Rattle.survey.specs.declared.Verdict.{Verdict}
 use Rattle.survey.specs.declared.Verdict.the-variants.{Agrees, Fails}
 use Rattle.layout.specs.Places.{headWords, atPass, atDim, atAgreed, atFirst, atSecond, sumReceived}
@@ -39,7 +39,7 @@ turnBy on (Fails clause) = Waits clause
 module _ (L : Limits) (ws : List ℕ) (p total : ℕ) (alone : Bool) (before after : List ℕ) where
   -- a verdict on the clauses; the frame of a step of pass 1 that agrees is in the sums
   pub record Judged (v : Verdict) : Type 0 where
-    pub verdict : isVerdict (triedOn L ws before p total alone) v ≡ true
+    pub verdict : v ≡ verdictOf (triedOn L ws before p total alone)
     pub added : v ≡ Agrees → alone ≡ false → word ws atPass ≡ 1
         → Added p (word ws atDim) (firstFrom ws p (word ws atDim) (atFirst p (word ws atDim))) before after
 

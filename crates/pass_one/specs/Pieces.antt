@@ -8,7 +8,7 @@ use Rattle.base.specs.Limits.{Limits}
 use Rattle.node.specs.Sums.{Field, sentIn, takenIn, number}
 use Rattle.node.specs.Agree.{firstClauses}
 use Rattle.node.specs.declared.Stored.{Stored}
-use Rattle.survey.specs.Verdict.{isVerdict}
+use Rattle.survey.specs.Verdict.{verdictOf}
 use Rattle.survey.specs.declared.Verdict.{Verdict}
 use Rattle.survey.specs.declared.Verdict.the-variants.{Agrees}
 use Rattle.layout.specs.Held.{sumOf}
@@ -22,6 +22,6 @@ pub record Opened (p k : ℕ) (own : Field → ℕ) (x : Stored) : Type 0 where
 
 -- a verdict on the clauses, and the sums with the frame added where these hold
 pub record Judged (L : Limits) (p k : ℕ) (x : Stored) (before after : List ℕ) (r : Verdict) : Type 0 where
-  pub verdict : isVerdict (firstClauses L p k (sumOf p before) x) r ≡ true
+  pub verdict : r ≡ verdictOf (firstClauses L p k (sumOf p before) x)
   pub sums : r ≡ Agrees → Added p k x before after
   pub length : length after ≡ length before

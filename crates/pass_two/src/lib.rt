@@ -1,11 +1,10 @@
 // The verdict on a step of pass 2 over the words that a caller lends.
 ghost use mathlib.Core.Path.{_≡_};
-ghost use mathlib.Core.Bool.{true};
 ghost use Prim.Native.Nat.{_+_, _≤_, _<_};
 ghost use lib.ListN.{length};
 ghost use Rattle.base.specs.Limits.{limitsOf};
 ghost use Rattle.node.specs.Agree.{secondClauses};
-ghost use Rattle.survey.specs.Verdict.{isVerdict};
+ghost use Rattle.survey.specs.Verdict.{verdictOf};
 ghost use Rattle.layout.specs.Places.{secondWords, mostWords};
 ghost use Rattle.layout.specs.Held.{secondFrom};
 ghost use Rattle.pass_two.specs.Tried.{isFitting, secondTried, PassedBy};
@@ -13,29 +12,32 @@ use base::Bounds;
 use frame::Sent;
 use survey::Verdict;
 
-// The clauses of dimension k, whose words begin at a place, with the own sum of total sent and T.
+// The first clause that fails in dimension k, whose words begin at a place, with the own sum of total sent and T: they are
+// tried by their numbers.
 fn tried(b: Bounds, s: &[u32], p: u32, k: u32, at: u32, issued: Sent, agreed: u32) -> Verdict
     requires { ⌜ (k < p) × (at ≤ mostWords) × (at + secondWords ≤ length (now s)) ⌝ }
     ensures { λ r.
-        ⌜ isVerdict (secondClauses (limitsOf b) p k (issued .0) agreed (secondFrom (now (s .entry)) at)) r ≡ true ⌝ }
+        ⌜ r ≡ verdictOf (secondClauses (limitsOf b) p k (issued .0) agreed (secondFrom (now (s .entry)) at)) ⌝ }
 {
+    // a frame is stored
     if s[at as usize] != 1 {
         return Verdict::Fails(0);
     }
-    let limit = base::field_limit(b);
     let other = Sent(s[(at + layout::SECOND_ISSUED) as usize]);
-    if limit < issued.0 {
+    let other_agreed = s[(at + layout::SECOND_AGREED) as usize];
+    let fits = walk_tests::sent_fits(issued, other, base::field_limit(b));
+    // with the frame's added, total sent is within the limit
+    if !fits {
         return Verdict::Fails(3);
     }
-    if limit - issued.0 < other.0 {
-        return Verdict::Fails(3);
-    }
-    if s[(at + layout::SECOND_AGREED) as usize] != agreed {
+    // the other side has agreed on the same total
+    if other_agreed != agreed {
         return Verdict::Fails(5);
     }
     if k + 1 != p {
         return Verdict::Agrees;
     }
+    // in the last dimension T is what the whole board has sent
     if issued.0 + other.0 != agreed {
         return Verdict::Fails(6);
     }
@@ -58,7 +60,7 @@ fn is_fitting(p: u32, k: u32, at: u32, words: usize) -> bool
 // The verdict on dimension k on a board of p dimensions, whose words begin at a place, with the own sum of total sent and T.
 pub fn verdict(b: Bounds, s: &[u32], p: u32, k: u32, at: u32, issued: Sent, agreed: u32) -> Verdict
     ensures { λ r.
-        ⌜ isVerdict (secondTried (limitsOf b) (now (s .entry)) p k at (issued .0) agreed) r ≡ true ⌝ }
+        ⌜ r ≡ verdictOf (secondTried (limitsOf b) (now (s .entry)) p k at (issued .0) agreed) ⌝ }
 {
     if !is_fitting(p, k, at, s.len()) {
         return Verdict::Fails(0);

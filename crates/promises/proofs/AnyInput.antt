@@ -166,11 +166,11 @@ bytes-back : (n : Node) (buf : List ℕ) (x : ℕ) → barrier base n (length bu
 unfolding barrierBytes
 bytes-back n buf x e = ap (lentAfter n buf) e
 
-pub step-stays : (ws buf ds : List ℕ) (x clause : ℕ) → barrierOn base ws (length buf) ≡ barred x
+pub step-stays : (ws buf ds : List ℕ) (x : ℕ) → barrierOn base ws (length buf) ≡ barred x
     → (barrierState base ws (length buf) ≡ ws)
-    × ((barrierBuffer base ws buf ≡ buf) × (detailWords ds clause (barrierOn base ws (length buf)) ≡ ds))
-step-stays ws buf ds x clause e =
-    let s = go (isWhole base ws) refl e in (s .0, (s .1, ap (detailWords ds clause) e))
+    × ((barrierBuffer base ws buf ≡ buf) × (detailWords ds (barrierOn base ws (length buf)) ≡ ds))
+step-stays ws buf ds x e =
+    let s = go (isWhole base ws) refl e in (s .0, (s .1, ap (detailWords ds) e))
   where
     go : (t : Bool) → isWhole base ws ≡ t → choose t (barrier base (unpacked ws) (length buf) .answer) (barred 13) ≡ barred x
         → (choose t (holding ws (barrier base (unpacked ws) (length buf) .node)) ws ≡ ws)

@@ -4,6 +4,7 @@ use Prim.Native.Nat.{ℕ, _≤_}
 use native.Mathlib.Omega.{arith}
 use Rattle.base.specs.Limits.{base}
 use Rattle.node.proofs.Taken.{note-as-job, job-wakes}
+use Rattle.node.proofs.Waiting.{wait-fails, wait-lower, wait-unstored, wait-stored}
 use Rattle.events.specs.Fit.{Fit}
 use Rattle.runs.proofs.Whole.{demand3}
 use Rattle.runs.proofs.Facts.{every-run}
@@ -32,6 +33,13 @@ promises =
     record {
       anyInput = any-input;
       kinds = record { notes = note-as-job base; jobs = job-wakes base };
+      waits =
+          record {
+            fails = wait-fails base;
+            lower = wait-lower base;
+            unstored = wait-unstored base;
+            stored = wait-stored base;
+          };
       tree = λ P one few. tree P;
       frames = λ P one few. frames P;
       runs = runs;

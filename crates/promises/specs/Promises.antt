@@ -1,7 +1,6 @@
 -- What the part promises, at the limits of this build. Each field cites the definitions that the contracts of the functions cite, so
 -- that a change of either is seen here. Carried by contracts alone: that every call ends, touches nothing but what is lent, and gives
--- the state, answer and bytes of its definition (the functions of crates/barrier_c/src/lib.rt); that a wait names a clause that fails
--- (`ocb_barrier`, ensures clause).
+-- the state, answer and bytes of its definition (the functions of crates/barrier_c/src/lib.rt).
 use mathlib.Core.Path.{_≡_}
 use mathlib.Core.Logic.{_≢_}
 use mathlib.Core.Bool.{Bool, true, false}
@@ -9,7 +8,7 @@ use mathlib.Core.Option.{some}
 use mathlib.Core.List.{List, [], _∷_, List·Memᴰ}
 use Prim.Native.Nat.{ℕ, _+_, _^_, _≤_, _<_}
 use lib.Dec.{eqb}
-use lib.ListN.{length}
+use lib.ListN.{length, getD}
 use Rattle.base.specs.Choice.{choose}
 use Rattle.base.specs.Limits.{base}
 use Rattle.base.specs.Refusal.{found}
@@ -21,8 +20,11 @@ use Rattle.tree.specs.Lookups.{dimensionLookup, placeLookup, distanceLookup}
 use Rattle.frame.specs.Frame.{frameBytes, readFrame, writeFrame}
 use Rattle.frame.specs.Shapes.{Shaped, Bytes}
 use Rattle.frame.specs.declared.Frame.{Frame}
+use Rattle.node.specs.Sums.{firstAt, secondAt}
+use Rattle.node.specs.Agree.{clauses}
 use Rattle.node.specs.Change.{withBusy}
-use Rattle.node.specs.Answers.{Given, Outcome, done, outcomeNumber, barred, barrierNumber}
+use Rattle.node.specs.Answers.{Given, Outcome, done, outcomeNumber, waits, barred, barrierNumber}
+use Rattle.node.specs.Barrier.{barrier}
 use Rattle.node.specs.Calls.{send, take, idle, frameIn}
 use Rattle.node.specs.declared.Node.{Node}
 use Rattle.node_calls.specs.Fresh.{freshOn, freshWords}
@@ -62,9 +64,9 @@ pub record AnyInput : Type 0 where
       → Answers (13 ∷ 9 ∷ 10 ∷ 2 ∷ 3 ∷ 11 ∷ 7 ∷ 8 ∷ 24 ∷ 0 ∷ []) (λ n. frameIn base n bs)
   pub steps : (ws : List ℕ) (room : ℕ)
       → OneOf (13 ∷ 12 ∷ 14 ∷ 20 ∷ 21 ∷ 22 ∷ 23 ∷ []) (barrierNumber (barrierOn base ws room))
-  pub stepStays : (ws buf ds : List ℕ) (x clause : ℕ) → barrierOn base ws (length buf) ≡ barred x
+  pub stepStays : (ws buf ds : List ℕ) (x : ℕ) → barrierOn base ws (length buf) ≡ barred x
       → (barrierState base ws (length buf) ≡ ws)
-      × ((barrierBuffer base ws buf ≡ buf) × (detailWords ds clause (barrierOn base ws (length buf)) ≡ ds))
+      × ((barrierBuffer base ws buf ≡ buf) × (detailWords ds (barrierOn base ws (length buf)) ≡ ds))
   pub dimensions : (P : ℕ) → OneOf (1 ∷ 0 ∷ []) (lookupNumber (dimensionLookup base P))
   pub places : (P k a : ℕ) → OneOf (1 ∷ 2 ∷ 10 ∷ 0 ∷ []) (lookupNumber (placeLookup base P k a))
   pub distances : (P a b : ℕ) → OneOf (1 ∷ 2 ∷ 3 ∷ 0 ∷ []) (lookupNumber (distanceLookup base P a b))
@@ -93,7 +95,23 @@ pub record Kinds : Type 0 where
   pub jobs : (n : Node) (from phase : ℕ) → take base n Job from phase .answer ≡ done
       → take base n Job from phase .node .busy ≡ true
 
--- ---- 3. The tree, and frames that survive writing and reading
+-- ---- 3. The clause that a wait names, in any state
+
+-- whether a frame is stored for the position's step
+abbrev pub isStored : Node → Bool
+isStored n = choose (eqb (n .pass) 1) (firstAt n (n .dim) .present) (secondAt n (n .dim) .present)
+
+pub record Waits : Type 0 where
+  -- it fails, and all with lower numbers hold
+  pub fails : (n : Node) (room c : ℕ) → barrier base n room .answer ≡ waits c
+      → getD (clauses base n (n .pass) (n .dim)) c true ≡ false
+  pub lower : (n : Node) (room c : ℕ) → barrier base n room .answer ≡ waits c
+      → (i : ℕ) → i < c → getD (clauses base n (n .pass) (n .dim)) i true ≡ true
+  -- it is 0 where no frame is stored, and nowhere else
+  pub unstored : (n : Node) (room c : ℕ) → barrier base n room .answer ≡ waits c → isStored n ≡ false → c ≡ 0
+  pub stored : (n : Node) (room c : ℕ) → barrier base n room .answer ≡ waits c → isStored n ≡ true → c ≢ 0
+
+-- ---- 4. The tree, and frames that survive writing and reading
 
 pub record Tree (P : ℕ) : Type 0 where
   -- the dimension is the smallest number with P ≤ 2 ^ it
@@ -143,7 +161,7 @@ pub record Frames (P : ℕ) : Type 0 where
   pub sameBytes : (f g : Frame) → Shaped f → Shaped g → (room m n : ℕ) → writeFrame base P f room ≡ found m
       → writeFrame base P g room ≡ found n → frameBytes (dimension P) f ≡ frameBytes (dimension P) g → f ≡ g
 
--- ---- 4. Every run of a board
+-- ---- 5. Every run of a board
 
 pub record Runs (P : ℕ) : Type 0 where
   pub safe : (es : List Event) → Safe base P (run base P es)
@@ -156,6 +174,7 @@ pub record Runs (P : ℕ) : Type 0 where
 pub record Promises : Type 0 where
   pub anyInput : AnyInput
   pub kinds : Kinds
+  pub waits : Waits
   pub tree : (P : ℕ) → 1 ≤ P → P ≤ base .nodes → Tree P
   pub frames : (P : ℕ) → 1 ≤ P → P ≤ base .nodes → Frames P
   pub runs : (P : ℕ) → 1 ≤ P → P ≤ base .nodes → Runs P

@@ -60,7 +60,7 @@ after-idle w a (refused x) = refl
 
 after-call : (w : Board) (a : ℕ) (n : Node) (o : Barrier) → afterCall w a n o .nodes ≡ w .nodes
 after-call w a n (sent to length) = refl
-after-call w a n waits = refl
+after-call w a n (waits clause) = refl
 after-call w a n moved = refl
 after-call w a n left = refl
 after-call w a n (barred x) = refl

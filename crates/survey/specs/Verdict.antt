@@ -1,14 +1,14 @@
--- What a verdict on a step says of its clauses.
+-- The verdict on a step, by its clauses.
 use mathlib.Core.Bool.{Bool, true, false}
 use mathlib.Core.List.{List}
-use Rattle.node.specs.Agree.{allHold, mayName}
+use Rattle.base.specs.Choice.{choose}
+use Rattle.node.specs.Agree.{allHold, firstFailing}
 use Rattle.survey.specs.declared.Verdict.{Verdict}
 use Rattle.survey.specs.declared.Verdict.the-variants.{Agrees, Fails}
 
--- all clauses hold, or the one that is named fails
-abbrev pub isVerdict : List Bool → Verdict → Bool
-isVerdict cs Agrees = allHold cs
-isVerdict cs (Fails clause) = mayName cs clause
+-- it agrees where all clauses hold, and else names the first that fails
+unfoldable pub verdictOf : List Bool → Verdict
+verdictOf cs = choose (allHold cs) Agrees (Fails (firstFailing cs))
 
 -- whether it agrees
 abbrev pub isAgreed : Verdict → Bool

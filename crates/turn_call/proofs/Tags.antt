@@ -39,7 +39,7 @@ module _ (st : Stage) (headers : ℕ) (bytes : List ℕ) (a : ℕ) where
 
   pub none-written : (o : Barrier) → isSent o ≡ false → callActedBytes st headers bytes a o ≡ bytes
   none-written (sent to length) f = clash f
-  none-written waits f = refl
+  none-written (waits clause) f = refl
   none-written moved f = refl
   none-written left f = refl
   none-written (barred x) f = refl

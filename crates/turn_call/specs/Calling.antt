@@ -25,7 +25,7 @@ module _ (st : Stage) (headers : ℕ) (bytes : List ℕ) where
 
   abbrev pub callActed : ℕ → Kept Barrier → Barrier → Acted
   callActed a r (sent to length) = frameActed a (r .state) to
-  callActed a r waits = quiet st headers (changed st a (r .state) (st .under)) a 21
+  callActed a r (waits clause) = quiet st headers (changed st a (r .state) (st .under)) a 21
   callActed a r moved = quiet st headers (changed st a (r .state) (st .under)) a 22
   callActed a r left = quiet st headers (changed st a (r .state) (st .under)) a 23
   callActed a r (barred x) = quiet st headers st a x
@@ -46,7 +46,7 @@ module _ (st : Stage) (headers : ℕ) (bytes : List ℕ) where
   abbrev pub callActedBytes : ℕ → Barrier → List ℕ
   callActedBytes a (sent to length) =
       frameActedBytes (frameBytes (dims (nodeAt st a)) (frameDue (nodeAt st a))) to
-  callActedBytes a waits = bytes
+  callActedBytes a (waits clause) = bytes
   callActedBytes a moved = bytes
   callActedBytes a left = bytes
   callActedBytes a (barred x) = bytes

@@ -18,7 +18,7 @@ use Rattle.turn_call.specs.Calling.{frameActedBytes}
 -- the barrier call sends
 abbrev pub isSent : Barrier → Bool
 isSent (sent to length) = true
-isSent waits = false
+isSent (waits clause) = false
 isSent moved = false
 isSent left = false
 isSent (barred x) = false

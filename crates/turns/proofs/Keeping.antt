@@ -65,7 +65,7 @@ module _ (st : Stage) (headers : ℕ) (bytes : List ℕ) (h : st .under ≤ room
 
   call-keeps : (a : ℕ) (r : Kept Barrier) (o : Barrier) → Stays (callActed st headers bytes a r o)
   call-keeps a r (sent to length) = frame-keeps a (r .state) to
-  call-keeps a r waits = record { size = refl; lent = h }
+  call-keeps a r (waits clause) = record { size = refl; lent = h }
   call-keeps a r moved = record { size = refl; lent = h }
   call-keeps a r left = record { size = refl; lent = h }
   call-keeps a r (barred x) = record { size = refl; lent = h }

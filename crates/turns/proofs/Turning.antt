@@ -177,7 +177,7 @@ module _ (st : Stage) (items : List Item) (bytes : List ℕ) where
       → sees (callActed st (length items) bytes a r o) (callActedBytes st (length items) bytes a o)
       ≡ calledBy st items bytes a r o
   called-same a r (sent to length) = framed-same a (r .state) (due (nodeAt st a)) to
-  called-same a r waits = seen-quiet _ a 21 bytes
+  called-same a r (waits clause) = seen-quiet _ a 21 bytes
   called-same a r moved = seen-quiet _ a 22 bytes
   called-same a r left = seen-quiet _ a 23 bytes
   called-same a r (barred x) = seen-quiet st a x bytes

@@ -101,7 +101,7 @@ module _ (st : Stage) (items : List Item) (bytes : List ℕ) where
   abbrev pub calledBy : ℕ → Kept Barrier → Barrier → Turn
   calledBy a r (sent to length) =
       framedTo a (r .state) (frameBytes (dims (nodeAt st a)) (frameDue (nodeAt st a))) to
-  calledBy a r waits = unchanged (changed st a (r .state) (st .under)) items bytes a 21
+  calledBy a r (waits clause) = unchanged (changed st a (r .state) (st .under)) items bytes a 21
   calledBy a r moved = unchanged (changed st a (r .state) (st .under)) items bytes a 22
   calledBy a r left = unchanged (changed st a (r .state) (st .under)) items bytes a 23
   calledBy a r (barred x) = unchanged st items bytes a x

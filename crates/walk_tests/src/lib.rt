@@ -3,7 +3,7 @@ ghost use mathlib.Core.Path.{_≡_};
 ghost use Prim.Native.Nat.{_+_};
 ghost use lib.Dec.{leb};
 ghost use Rattle.survey.specs.Verdict.{isAgreed};
-ghost use Rattle.walk_tests.specs.Tests.{firstFits, lastVerdict};
+ghost use Rattle.walk_tests.specs.Tests.{firstFits};
 use frame::Sent;
 use frame::Taken;
 use survey::Verdict;
@@ -55,17 +55,4 @@ pub fn first_fits(p: u32, k: u32, at: u32, words: usize, room: usize) -> bool
         return false;
     }
     (2 * p + layout::TOTALS) as usize <= room
-}
-
-// Clause 4: in the last dimension total sent is total taken, the frame's being added to both.
-pub fn last_verdict(last: bool, issued: Sent, received: Taken) -> Verdict
-    ensures { λ r. ⌜ r ≡ lastVerdict last (issued .0) (received .0) ⌝ }
-{
-    if !last {
-        return Verdict::Agrees;
-    }
-    if issued.0 != received.0 {
-        return Verdict::Fails(4);
-    }
-    Verdict::Agrees
 }

@@ -1,5 +1,6 @@
 //! Calls on one state: the answer, the state given back, and the lent bytes.
 
+use crate::clauses;
 use crate::library::{self, at, c_array, Words};
 use crate::report::{held, must, same, Difference, Report};
 use model::node::{self, Answer, Barrier, Node, Work};
@@ -120,14 +121,14 @@ pub fn frame_in(report: &mut Report, words: &mut Words, bytes: &[u8]) -> Result<
 /// What a caller has in the five words beside a barrier answer before the call.
 const LENT: [u32; 5] = [0xa5a5_a5a5; 5];
 
-/// The five words beside a barrier answer, for the clause that the library named; they stay where it refuses.
-fn details_of(answer: &Barrier, clause: u32) -> [u32; 5] {
+/// The five words beside a barrier answer; they stay where it refuses.
+fn details_of(answer: &Barrier) -> [u32; 5] {
     match answer {
         Barrier::Sent { receivers, length } => {
             let second = receivers.get(1).copied().unwrap_or(0);
             [receivers.len() as u32, receivers[0], second, *length as u32, 0]
         }
-        Barrier::Waits { .. } => [0, 0, 0, 0, clause],
+        Barrier::Waits { clause } => [0, 0, 0, 0, u32::from(*clause)],
         Barrier::Refused(_) => LENT,
         _ => [0; 5],
     }
@@ -141,7 +142,8 @@ pub fn barrier(report: &mut Report, words: &mut Words, room: usize) -> Result<u3
     let mut details = LENT;
     let answer = library::barrier(words, &mut ours[lent.clone()], &mut details);
     report.answer("barrier", answer);
-    let (after, model) = match library::node_of(&before) {
+    let state = library::node_of(&before);
+    let (after, model) = match state {
         Some(state) => {
             let (after, model) = node::barrier(state, &mut theirs[lent]);
             (library::holding(&before, &after), model)
@@ -153,14 +155,21 @@ pub fn barrier(report: &mut Report, words: &mut Words, room: usize) -> Result<u3
         format!("{lent} ocb_barrier(state, words, buffer, {room}, details);")
     };
     agree("barrier", &before, (answer, words.clone()), (u32::from(model.number()), after), call)?;
-    held("barrier details", &details, &details_of(&model, details[4]), || in_c(&before, &call()))?;
+    held("barrier details", &details, &details_of(&model), || in_c(&before, &call()))?;
     held("barrier bytes", &ours, &theirs, || in_c(&before, &call()))?;
-    if let Barrier::Waits { failing } = model {
-        report.answer("clause", details[4]);
-        let named = failing.contains(&(details[4] as u8));
-        held("named clause fails", &named, &true, || in_c(&before, &call()))?;
+    if let (Some(state), Barrier::Waits { .. }) = (state, model) {
+        waited(report, &state, details[4], || in_c(&before, &call()))?;
     }
     Ok(answer)
+}
+
+/// The clauses that fail at a wait are some that can fail at once, and the lowest is named.
+fn waited(report: &mut Report, state: &Node, named: u32, again: impl FnOnce() -> String) -> Result<(), Difference> {
+    report.answer("clause", named);
+    let wait = clauses::wait_of(state, named);
+    held("clauses that fail at once", &Some(&wait), &clauses::expected(&wait, report.origin()).as_ref(), again)?;
+    report.wait(wait);
+    Ok(())
 }
 
 /// Every call once on a copy of a state, with arguments good and bad.

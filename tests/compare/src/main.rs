@@ -1,10 +1,12 @@
 //! Holds the library to the plain model, through the C functions: `compare [SEED [SCALE]]`, or `compare replay` with a
 //! script on standard input.
 //!
-//! It prints how many cases of each kind it compared and how often each answer came, and ends with a failure at the
-//! first difference: for a call by itself with the call in C, for a run with a script that `compare replay` plays.
+//! It prints how many cases of each kind it compared, how often each answer came and which clauses failed at once, and
+//! ends with a failure at the first difference: for a call by itself with the call in C, for a run with a script that
+//! `compare replay` plays.
 
 mod calls;
+mod clauses;
 mod frames;
 mod library;
 mod orders;
@@ -64,6 +66,7 @@ fn main() {
     calls::fresh(&mut report);
     orders::compare(&mut report);
     sums::compare(&mut report);
+    clauses::compare(&mut report, &mut Random::new(seed));
     for _ in 0..20_000 * scale {
         let words = calls::noise(&mut random);
         calls::every(&mut report, &mut random, &words, &[]);
@@ -74,9 +77,9 @@ fn main() {
     println!("seed {seed}, scale {scale}: library and model agree");
 }
 
-/// Ends the program where an answer, two refusals due at once, or a taker of notes never came.
+/// Ends the program where an answer, two refusals due at once, clauses that fail at once, or a taker of notes never came.
 fn check_reach(report: &Report) {
-    let mut missed = vec![];
+    let mut missed = clauses::missed(report);
     let takers = calls::TAKERS.iter().filter(|taker| !report.counted(taker));
     missed.extend(takers.map(|taker| format!("no {taker}")));
     for (call, answers) in WANTED {

@@ -3,12 +3,39 @@
 use std::collections::BTreeMap;
 use std::fmt::Debug;
 
-/// How many cases of each kind were compared, how often each answer came, and which refusals came before which.
+/// How many cases of each kind were compared, how often each answer came, which refusals came before which, and which
+/// clauses failed at once.
 #[derive(Default)]
 pub struct Report {
     kinds: BTreeMap<&'static str, u64>,
     answers: BTreeMap<(&'static str, u32), u64>,
     orders: BTreeMap<&'static str, BTreeMap<(&'static str, &'static str), u64>>,
+    waits: BTreeMap<Wait, [u64; Origin::TITLES.len()]>,
+    origin: Origin,
+}
+
+/// A wait: the kind of its position, the clauses that fail there, and the one that was named.
+pub type Wait = (&'static str, Vec<u8>, u32);
+
+/// Where the state of a wait comes from: built for certain clauses to fail, by the place of its node; a run; or other.
+#[derive(Clone, Copy, Default, PartialEq, Eq)]
+pub enum Origin {
+    Neighbour,
+    Messenger,
+    Hermit,
+    Run,
+    #[default]
+    Other,
+}
+
+impl Origin {
+    pub const BUILT: [Origin; 3] = [Origin::Neighbour, Origin::Messenger, Origin::Hermit];
+    const TITLES: [&'static str; 5] =
+        ["Built: neighbour", "Built: messenger", "Built: hermit", "In runs", "Other states"];
+
+    pub fn title(self) -> &'static str {
+        Origin::TITLES[self as usize]
+    }
 }
 
 /// A place in a call's order of refusals: its name, its number, and whether its condition is met.
@@ -53,6 +80,26 @@ impl Report {
         self.orders.get(call).map_or(0, BTreeMap::len)
     }
 
+    /// What an act meets is counted as of this origin.
+    pub fn during<T>(&mut self, origin: Origin, act: impl FnOnce(&mut Report) -> T) -> T {
+        let before = std::mem::replace(&mut self.origin, origin);
+        let result = act(self);
+        self.origin = before;
+        result
+    }
+
+    pub fn origin(&self) -> Origin {
+        self.origin
+    }
+
+    pub fn wait(&mut self, wait: Wait) {
+        self.waits.entry(wait).or_default()[self.origin as usize] += 1;
+    }
+
+    pub fn waits(&self, wait: &Wait, origin: Origin) -> u64 {
+        self.waits.get(wait).map_or(0, |counts| counts[origin as usize])
+    }
+
     pub fn print(&self) {
         for (kind, count) in &self.kinds {
             println!("{kind}: {count}");
@@ -63,6 +110,18 @@ impl Report {
         for (call, pairs) in &self.orders {
             let told: Vec<String> = pairs.keys().map(|(first, later)| format!("{first} before {later}")).collect();
             println!("{call}, where two refusals are due: {}", told.join("; "));
+        }
+        self.print_waits();
+    }
+
+    /// A table of how many waits had which clauses fail at once.
+    fn print_waits(&self) {
+        println!("| Position | Clauses that fail | Named | {} |", Origin::TITLES.join(" | "));
+        println!("|---|---|---{}|", "|---".repeat(Origin::TITLES.len()));
+        for ((kind, failing, named), counts) in &self.waits {
+            let failing: Vec<String> = failing.iter().map(u8::to_string).collect();
+            let counts: Vec<String> = counts.iter().map(u64::to_string).collect();
+            println!("| {kind} | {} | {named} | {} |", failing.join(", "), counts.join(" | "));
         }
     }
 }

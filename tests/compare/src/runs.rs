@@ -2,7 +2,7 @@
 
 use crate::{calls, orders};
 use crate::library::{self, at, Words};
-use crate::report::{held, Difference, Report};
+use crate::report::{held, Difference, Origin, Report};
 use crate::script::{self, Run};
 use model::board::{Board, Event, Load};
 use model::random::{self, event, Habits, Random};
@@ -37,7 +37,10 @@ impl Pair {
         let (node, answer) = match event {
             Event::Send { at, to, .. } => (at, calls::send(report, &mut self.states[at as usize], to)?),
             Event::Idle { at } => (at, calls::idle(report, &mut self.states[at as usize])?),
-            Event::Barrier { at, room } => (at, calls::barrier(report, &mut self.states[at as usize], room)?),
+            Event::Barrier { at, room } => {
+                let state = &mut self.states[at as usize];
+                (at, report.during(Origin::Run, |report| calls::barrier(report, state, room))?)
+            }
             Event::Deliver { from, to } => {
                 let state = &mut self.states[to as usize].clone();
                 let answer = match self.oldest_of(from, to) {

@@ -31,7 +31,7 @@ fn two(report: &mut Report) {
 }
 
 /// The steps of a node in which it awaits a frame.
-fn awaiting(board: u32, number: u32) -> Vec<u32> {
+pub fn awaiting(board: u32, number: u32) -> Vec<u32> {
     let p = tree::dimension(board).expect("a board");
     (0..p).filter(|&k| tree::awaited(board, number, k).expect("a node").is_some()).collect()
 }
@@ -62,7 +62,7 @@ fn step_and_next(report: &mut Report, p: usize, state: Node) {
 }
 
 /// The numbers of a frame that clause 3 adds to own sums: shells above k, then both totals.
-fn added(frame: &mut First, k: usize, p: usize) -> Vec<&mut u32> {
+pub fn added(frame: &mut First, k: usize, p: usize) -> Vec<&mut u32> {
     let shells = frame.sent[k + 1..p].iter_mut().chain(&mut frame.taken[k + 1..p]);
     shells.chain([&mut frame.total_sent, &mut frame.total_taken]).collect()
 }

@@ -19,6 +19,8 @@
 //!   the node is busy then, and in nothing else (rule N6).
 //! - An idle node that takes a note has flag 1 again, so its next barrier call sends the frame of (1, 0) if
 //!   it goes to anybody. No idle call has to come before.
+//! - A wait names 0 where no frame is stored, whatever the zeros of that place would say of the other
+//!   clauses (rule N17).
 //! - A late frame is dropped only when no number from 9 to 11 was given before (rule R7).
 //! - Any refusal of a delivered item but 7 takes it off its link (rule H4).
 //! - A busy node keeps a board going (rule P5) by being busy, not by what a barrier call would do.

@@ -57,11 +57,11 @@ pub enum Answer {
     Refused(u8),
 }
 
-/// The answer of a barrier call. `failing` lists every clause that fails.
+/// The answer of a barrier call. A wait names a clause (rule N17).
 #[derive(Clone, Debug, PartialEq, Eq)]
 pub enum Barrier {
     Sent { receivers: Vec<u32>, length: usize },
-    Waits { failing: Vec<u8> },
+    Waits { clause: u8 },
     Moved,
     Left,
     Refused(u8),
@@ -272,6 +272,11 @@ pub fn failing(node: &Node, pass: u8, k: u32) -> Vec<u8> {
     }
 }
 
+/// The lowest-numbered clause of a step that fails (rule N17); none where the step agrees.
+pub fn lowest_failing(node: &Node, pass: u8, k: u32) -> Option<u8> {
+    failing(node, pass, k).into_iter().min()
+}
+
 /// Rule N16.
 pub fn agrees(node: &Node, pass: u8, k: u32) -> bool {
     failing(node, pass, k).is_empty()
@@ -286,7 +291,7 @@ fn those_that_fail(clauses: &[(u8, bool)]) -> Vec<u8> {
 fn failing_pass_1(node: &Node, k: u32) -> Vec<u8> {
     let frame = &node.first[k as usize];
     if !frame.present {
-        // Nothing to compare with: a wait names this clause and no other (rule N17).
+        // There is nothing to compare with, so no other is tried (rule N17).
         return vec![0];
     }
     let (own, p, shell) = (own_sums(node, k), node.p(), k as usize);
@@ -571,9 +576,8 @@ fn narrow(sum: u64) -> u32 {
 /// Rule N11 where the step agrees, else rule N12.
 fn look(node: Node) -> (Node, Barrier) {
     let (pass, k) = (node.pass, u32::from(node.dim));
-    let failing = failing(&node, pass, k);
-    if !failing.is_empty() {
-        return (Node { flag: false, ..node }, Barrier::Waits { failing });
+    if let Some(clause) = lowest_failing(&node, pass, k) {
+        return (Node { flag: false, ..node }, Barrier::Waits { clause });
     }
     let last = k + 1 == node.p();
     if last && pass == 2 {

@@ -1,7 +1,9 @@
 //! The calls: what they do, the order of their refusals, and their limits.
 
 use model::frame::{read, stated_length, write, Fields};
-use model::node::{barrier, frame_in, fresh, idle, send, take, Answer, Barrier, First, Node, Second, Work};
+use model::node::{
+    barrier, failing, frame_in, fresh, idle, send, take, Answer, Barrier, First, Node, Second, Work,
+};
 use model::{FIELD_LIMIT, LONGEST, SENT_LIMIT, TAKEN_LIMIT};
 
 fn first(conditions: &[(bool, u8)]) -> Option<u8> {
@@ -312,7 +314,8 @@ fn a_pass_1_frame_sets_t_to_0() {
     assert_eq!((answer, same.t, same.pass, same.flag), (Answer::Done, 1, 2, true));
     let (back, answer) = frame_in(node, &zero_frame(2, 1, 0, 1, 0));
     assert_eq!((answer, back.t, back.pass, back.flag), (Answer::Done, 0, 1, false));
-    assert_eq!(barrier(back, &mut []).1, Barrier::Waits { failing: vec![1, 4] });
+    assert_eq!(failing(&back, 1, 0), [1, 4]);
+    assert_eq!(barrier(back, &mut []).1, Barrier::Waits { clause: 1 });
 }
 
 /// A late frame is not taken for one of now (rule R7).
@@ -367,7 +370,7 @@ fn hermit_messenger_and_alone() {
     let mut hermit = Node { busy: false, dim: 1, flag: true, ..fresh(3, 1).unwrap() };
     hermit.first[0].present = true;
     let (waiting, answer) = barrier(hermit, &mut []);
-    assert_eq!(answer, Barrier::Waits { failing: vec![0] });
+    assert_eq!((failing(&hermit, 1, 1), answer), (vec![0], Barrier::Waits { clause: 0 }));
     assert_eq!(waiting, Node { flag: false, ..hermit });
     let (stored, answer) = frame_in(waiting, &buffer[..20]);
     assert_eq!(answer, Answer::Done);

@@ -1,8 +1,8 @@
 //! The state test, one condition after the other, and the clauses of a step.
 
 use model::node::{
-    agrees, barrier, failing, frame_in, fresh, idle, own_sum_pass_2, own_sums, send, state_stands, take,
-    Answer, Barrier, First, Node, Second, Work,
+    agrees, barrier, failing, frame_in, fresh, idle, lowest_failing, own_sum_pass_2, own_sums, send,
+    state_stands, take, Answer, Barrier, First, Node, Second, Work,
 };
 use model::{FIELD_LIMIT, LONGEST, SENT_LIMIT, TAKEN_LIMIT};
 
@@ -243,17 +243,23 @@ fn looking() -> Node {
     changed(node, |n| n.first[0].present = true)
 }
 
+/// These clauses of a step fail, and the first of them is the one that a wait names (rule N17).
+fn assert_fail(node: &Node, pass: u8, k: u32, clauses: &[u8]) {
+    assert_eq!(failing(node, pass, k), clauses);
+    assert_eq!(lowest_failing(node, pass, k), Some(clauses[0]));
+}
+
 #[test]
 fn clauses_of_pass_1() {
     let base = looking();
     assert!(agrees(&base, 1, 0));
-    assert_eq!(failing(&base, 1, 1), [0]);
-    assert_eq!(failing(&base, 2, 0), [0]);
-    assert_eq!(failing(&changed(base, |n| n.sent[0] = 1), 1, 0), [1]);
-    assert_eq!(failing(&changed(base, |n| n.first[0].taken[0] = 1), 1, 0), [1]);
-    assert_eq!(failing(&changed(base, |n| n.taken[0] = 1), 1, 0), [2]);
-    assert_eq!(failing(&changed(base, |n| n.first[0].sent[0] = 1), 1, 0), [2]);
-    assert_eq!(failing(&changed(base, |n| (n.sent[0], n.taken[0]) = (1, 1)), 1, 0), [1, 2]);
+    assert_fail(&base, 1, 1, &[0]);
+    assert_fail(&base, 2, 0, &[0]);
+    assert_fail(&changed(base, |n| n.sent[0] = 1), 1, 0, &[1]);
+    assert_fail(&changed(base, |n| n.first[0].taken[0] = 1), 1, 0, &[1]);
+    assert_fail(&changed(base, |n| n.taken[0] = 1), 1, 0, &[2]);
+    assert_fail(&changed(base, |n| n.first[0].sent[0] = 1), 1, 0, &[2]);
+    assert_fail(&changed(base, |n| (n.sent[0], n.taken[0]) = (1, 1)), 1, 0, &[1, 2]);
     // Tallies of a higher shell and totals do not count in dimension 0.
     assert!(agrees(&changed(base, |n| (n.sent[1], n.first[0].total_taken) = (5, 9)), 1, 0));
 }
@@ -274,7 +280,7 @@ fn clause_3_of_pass_1_at_the_limit() {
         assert!(state_stands(&node) && agrees(&node, 1, 0));
         change(&mut node, own - 1);
         assert!(state_stands(&node));
-        assert_eq!(failing(&node, 1, 0), [3]);
+        assert_fail(&node, 1, 0, &[3]);
     }
     // Shell k itself is not added.
     let node = changed(base, |n| (n.taken[0], n.first[0].sent[0]) = (TAKEN_LIMIT - 6, TAKEN_LIMIT - 6));
@@ -286,26 +292,44 @@ fn clause_4_of_pass_1() {
     let mut node = late_state();
     assert!(agrees(&node, 1, 1));
     node.first[1].total_sent = 2;
-    assert_eq!(failing(&node, 1, 1), [4]);
+    assert_fail(&node, 1, 1, &[4]);
     node.first[1].sent[1] = 0;
-    assert_eq!(failing(&node, 1, 1), [2, 4]);
+    assert_fail(&node, 1, 1, &[2, 4]);
     node.first[1].taken[1] = 0;
     node.first[1].total_taken = FIELD_LIMIT;
-    assert_eq!(failing(&node, 1, 1), [1, 2, 3, 4]);
+    assert_fail(&node, 1, 1, &[1, 2, 3, 4]);
 }
 
 #[test]
 fn clauses_of_pass_2() {
     let base = late_state();
-    assert_eq!(failing(&changed(base, |n| n.second[1].present = false), 2, 1), [0]);
-    assert_eq!(failing(&changed(base, |n| n.second[1].t = 5), 2, 1), [5]);
-    assert_eq!(failing(&changed(base, |n| n.second[1].total_sent = 2), 2, 1), [6]);
-    assert_eq!(
-        failing(&changed(base, |n| n.second[1] = Second { present: true, t: 0, total_sent: 0 }), 2, 1),
-        [5, 6]
-    );
+    assert_fail(&changed(base, |n| n.second[1].present = false), 2, 1, &[0]);
+    assert_fail(&changed(base, |n| n.second[1].t = 5), 2, 1, &[5]);
+    assert_fail(&changed(base, |n| n.second[1].total_sent = 2), 2, 1, &[6]);
+    let zeros = changed(base, |n| n.second[1] = Second { present: true, t: 0, total_sent: 0 });
+    assert_fail(&zeros, 2, 1, &[5, 6]);
     assert!(agrees(&changed(base, |n| n.second[0].total_sent = FIELD_LIMIT - 1), 2, 0));
-    assert_eq!(failing(&changed(base, |n| n.second[0].total_sent = FIELD_LIMIT), 2, 0), [3]);
+    assert_fail(&changed(base, |n| n.second[0].total_sent = FIELD_LIMIT), 2, 0, &[3]);
     let full = changed(base, |n| n.second[1] = Second { present: true, t: 9, total_sent: FIELD_LIMIT });
-    assert_eq!(failing(&full, 2, 1), [3, 5, 6]);
+    assert_fail(&full, 2, 1, &[3, 5, 6]);
+}
+
+/// Rule N17, by the answers of barrier calls at nodes that look.
+#[test]
+fn a_wait_names_the_lowest() {
+    let named = |node: Node| match barrier(Node { flag: false, ..node }, &mut []).1 {
+        Barrier::Waits { clause } => clause,
+        other => panic!("{other:?}"),
+    };
+    let first = changed(looking(), |n| (n.sent[0], n.taken[0], n.sent[1]) = (1, 1, 1));
+    assert_eq!(named(first), 1);
+    let first = changed(first, |n| (n.first[0].taken[0], n.first[0].total_sent) = (1, FIELD_LIMIT));
+    assert_eq!((failing(&first, 1, 0), named(first)), (vec![2, 3], 2));
+    assert_eq!(named(changed(first, |n| n.first[0] = First::default())), 0);
+    let last = changed(late_state(), |n| (n.pass, n.t, n.first[1].total_sent) = (1, 0, FIELD_LIMIT));
+    assert_eq!((failing(&last, 1, 1), named(last)), (vec![3, 4], 3));
+    let second = changed(late_state(), |n| (n.second[1].t, n.second[1].total_sent) = (0, 0));
+    assert_eq!((failing(&second, 2, 1), named(second)), (vec![5, 6], 5));
+    let second = changed(second, |n| n.second[1].total_sent = FIELD_LIMIT);
+    assert_eq!((failing(&second, 2, 1), named(second)), (vec![3, 5, 6], 3));
 }

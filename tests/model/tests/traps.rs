@@ -1,7 +1,7 @@
 //! Runs that a simpler barrier gets wrong, with rule P4 and rule P5 checked.
 
 use model::board::{Board, Event, Outcome};
-use model::node::{Answer, Barrier, Work};
+use model::node::{failing, Answer, Barrier, Work};
 use model::LONGEST;
 
 fn send(board: &mut Board, at: u32, to: u32) {
@@ -29,6 +29,13 @@ fn barrier(board: &mut Board, at: u32) -> Barrier {
         Outcome::Step(answer) => answer,
         other => panic!("{other:?}"),
     }
+}
+
+/// These clauses fail at the node, and its wait names the lowest of them (rule N17).
+fn waits(board: &mut Board, at: u32, clauses: &[u8]) {
+    let node = &board.nodes[at as usize];
+    assert_eq!(failing(node, node.pass, u32::from(node.dim)), clauses);
+    assert_eq!(barrier(board, at), Barrier::Waits { clause: clauses[0] });
 }
 
 fn signs_in(board: &mut Board, at: u32, to: u32) {
@@ -99,7 +106,7 @@ fn leaving_after_one_pass() {
     assert_eq!((node.pass, node.dim, node.flag, node.t), (2, 0, true, 2));
     signs_in(&mut board, 0, 1);
     for _ in 0..3 {
-        assert_eq!(barrier(&mut board, 0), Barrier::Waits { failing: vec![0] });
+        waits(&mut board, 0, &[0]);
     }
 }
 
@@ -150,7 +157,7 @@ fn a_slow_note_keeps_all_from_leaving() {
     deliver(&mut board, 1, 0);
     signs_in(&mut board, 0, 1);
     for _ in 0..3 {
-        assert_eq!(barrier(&mut board, 0), Barrier::Waits { failing: vec![1, 4] });
+        waits(&mut board, 0, &[1, 4]);
     }
     deliver(&mut board, 0, 1);
     ends_its_phase(&mut board);
@@ -198,7 +205,7 @@ fn a_new_tally_goes_out_after_a_take() {
     idle(&mut board, 0);
     deliver(&mut board, 1, 0);
     signs_in(&mut board, 0, 1);
-    assert_eq!(barrier(&mut board, 0), Barrier::Waits { failing: vec![1, 4] });
+    waits(&mut board, 0, &[1, 4]);
     deliver(&mut board, 1, 0);
     assert_eq!(barrier(&mut board, 0), Barrier::Moved);
     assert_eq!(board.nodes[0].t, 1);

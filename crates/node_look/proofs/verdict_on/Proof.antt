@@ -3,14 +3,14 @@ use borrow.Author.Needs.{needs}
 use borrow.Author.Tests.{eq-eqb, ne-eqb}
 use denote.Ref.{now}
 use native.Mathlib.Omega.{arith}
-use mathlib.Core.Path.{_≡_, sym, ap, _∙_, subst}
+use mathlib.Core.Path.{_≡_, refl, sym, ap, _∙_, subst}
 use mathlib.Core.Bool.{false}
 use mathlib.Core.List.{List, []}
 use Prim.Native.Nat.{ℕ, _+_, _-_, _*_}
 use Rattle.base.specs.Limits.{Limits, limitsOf}
 use Rattle.base.proofs.Laws.{clash, choose-yes, choose-no}
-use Rattle.node.specs.Agree.{allHold}
-use Rattle.survey.specs.Verdict.{isVerdict}
+use Rattle.survey.specs.Verdict.{verdictOf}
+use Rattle.survey.proofs.Clauses.{all-agree}
 use Rattle.layout.specs.Places.{atDim, atAgreed, atFirst}
 use Rattle.layout.specs.Held.{word, firstFrom}
 use Rattle.layout.proofs.Offsets.{first-found, first-end}
@@ -23,7 +23,7 @@ use Rattle.node_look.proofs.verdict_on.Tie as tie
 returns : tie.Need-returns
 returns c =
     record {
-      verdict = ap allHold (choose-yes [] _ (c .if1 .taken));
+      verdict = sym (all-agree [] refl) ∙ ap verdictOf (sym (choose-yes [] _ (c .if1 .taken)));
       added = λ q e one. clash (sym (c .if1 .taken) ∙ e);
     }
 
@@ -63,10 +63,11 @@ returns-2 c =
     let f = t .before .before in
     record {
       verdict =
-          ap (λ cs. isVerdict cs (v .verdict .result))
+          v .verdict .ensures .0
+          ∙ sym
+          (ap verdictOf
           (choose-no _ _ (together f) ∙ choose-yes _ _ (eq-eqb _ 1 (t .if2 .taken))
-          ∙ ap (firstTried (L f) (ws f) (sums f) (p f) (k f)) (sym (at-is f)))
-          ∙ v .verdict .ensures .0;
+          ∙ ap (firstTried (L f) (ws f) (sums f) (p f) (k f)) (sym (at-is f))));
       added = λ q e one.
           subst (λ at. Added (p f) (k f) (firstFrom (ws f) (p f) (k f) at) (sums f) (v .verdict .last .1 .1 .0)) (at-is f)
           (v .verdict .ensures .1 .0 q);
@@ -83,12 +84,13 @@ returns-3 c =
     let f = g .before .before in
     record {
       verdict =
-          ap (λ cs. isVerdict cs (c .verdict2 .result))
+          c .verdict2 .ensures
+          ∙ sym
+          (ap verdictOf
           (choose-no _ _ (together f) ∙ choose-no _ _ (ne-eqb _ 1 (g .if2 .left))
           ∙ ap
           (λ at. secondTried (L f) (ws f) (p f) (k f) (at + (2 * (p f - k f) + 3)) (total f) (word (ws f) atAgreed))
-          (sym (at-is f)))
-          ∙ c .verdict2 .ensures;
+          (sym (at-is f))));
       added = λ q e one. absurd (g .if2 .left one);
     }
 

@@ -2,13 +2,17 @@
 use borrow.Author.Needs.{needs}
 use borrow.Author.Tests.{not-true, not-false}
 use denote.Ref.{now}
-use mathlib.Core.Path.{_≡_, sym, subst}
+use native.Mathlib.Numerals.{add-one}
+use mathlib.Core.Path.{_≡_, sym, _∙_}
+use mathlib.Core.Bool.{true}
 use mathlib.Core.List.{List}
-use Prim.Native.Nat.{ℕ}
+use Prim.Native.Nat.{ℕ, suc}
 use Rattle.base.specs.Limits.{Limits, limitsOf, fieldLimit}
-use Rattle.layout.specs.Held.{firstFrom}
+use Rattle.survey.specs.declared.Verdict.the-variants.{Agrees}
+use Rattle.layout.specs.Places.{sumIssued, sumReceived}
+use Rattle.layout.specs.Held.{word, firstFrom}
 use Rattle.pass_one.specs.Pieces.{Judged}
-use Rattle.pass_one.proofs.Judging.{over, ended}
+use Rattle.pass_one.proofs.Judging.{over, apart, agree}
 use Rattle.pass_one.proofs.last_clauses.Statement.{statement}
 use Rattle.pass_one.proofs.last_clauses.Tie as tie
 
@@ -51,20 +55,42 @@ returns c =
     over (L a) (ws a) (before a) (p a) (k a) (at a) (limit a) (s a .pre .0) (s a .pre .1) (limit-is a)
     (f .ensures .over (not-true (f .result) (c .if1 .taken)) (s a .pre .0)) _ (f .ensures .length)
 
+-- clause 3 holds
+module _ (e : tie.Else1) where
+  abbrev kept : tie.After-add-frame
+  kept = e .before .before .before
+
+  good : kept .add-frame .result ≡ true
+  good = not-false (kept .add-frame .result) (e .if1 .left)
+
+  agreed : (suc (k kept) ≡ p kept → word (after kept) (sumIssued (p kept)) ≡ word (after kept) (sumReceived (p kept)))
+      → Judged (L kept) (p kept) (k kept) (firstFrom (ws kept) (p kept) (k kept) (at kept)) (before kept) (after kept) Agrees
+  agreed =
+      let a = kept in
+      let f = a .add-frame in
+      agree (L a) (ws a) (before a) (p a) (k a) (at a) (limit a) (s a .pre .0) (s a .pre .1) (limit-is a)
+      (f .ensures .within good) (after a) (f .ensures .added good) (f .ensures .length)
+
 returns-2 : tie.Need-returns-2
-returns-2 c =
-    let g = c .before .before .before in
-    let a = g .before .before .before in
+returns-2 c = let e = c .before in agreed e (λ z. absurd (c .if2 .taken (add-one (k (kept e)) ∙ z)))
+
+returns-3 : tie.Need-returns-3
+returns-3 c =
+    let d = c .before .before .before .before .before in
+    let e = d .before in
+    let a = kept e in
     let f = a .add-frame in
-    let good = not-false (f .result) (g .if1 .left) in
-    subst (Judged (L a) (p a) (k a) (firstFrom (ws a) (p a) (k a) (at a)) (before a) (after a)) (sym (c .last-verdict .ensures))
-    (ended (L a) (ws a) (before a) (p a) (k a) (at a) (limit a) (s a .pre .0) (s a .pre .1) (limit-is a)
-    (f .ensures .within good) (after a) (f .ensures .added good) (f .ensures .length))
+    apart (L a) (ws a) (before a) (p a) (k a) (at a) (limit a) (s a .pre .0) (s a .pre .1) (limit-is a)
+    (f .ensures .within (good e)) (after a) (f .ensures .added (good e)) (f .ensures .length)
+    (sym (add-one (k a)) ∙ d .if2 .left) (c .if3 .taken)
+
+returns-4 : tie.Need-returns-4
+returns-4 c = agreed (c .before .before .before .before .before .before) (λ z. c .if3 .left)
 
 pub last-clauses-spec : {M : Type 1} → statement M
 last-clauses-spec =
     tie.close
     (tie.spec (λ c κs. search needs) (λ c κs. search needs) (λ c. search needs) returns (λ c. search needs)
-    (λ c. search needs) (λ c. search needs) (λ c. search needs) (λ c. search needs) (λ c. search needs)
-    (λ c. search needs) (λ c. search needs) (λ c. search needs) (λ c. search needs) (λ c κs. search needs)
-    (λ c. search needs) returns-2)
+    (λ c. search needs) returns-2 (λ c. search needs) (λ c. search needs) (λ c. search needs) (λ c. search needs)
+    (λ c. search needs) (λ c. search needs) (λ c. search needs) (λ c. search needs) (λ c. search needs) (λ c. search needs)
+    returns-3 (λ c. search needs) returns-4)

@@ -1,7 +1,7 @@
 -- `pass_step`: the verdict, with the numbers added.
 use borrow.Author.Needs.{needs}
 use mathlib.Core.Path.{sym, _∙_}
-use Rattle.walk_tests.proofs.Agreed.{agreed-is, agreed-known}
+use Rattle.survey.proofs.Clauses.{agreed-is, agreed-known}
 use Rattle.pass_one.proofs.pass_step.Statement.{statement}
 use Rattle.pass_one.proofs.pass_step.Tie as tie
 

@@ -9,8 +9,9 @@ use mathlib.Core.List.{List}
 use Prim.Native.Nat.{ℕ, _+_, _-_}
 use Rattle.base.specs.Limits.{Limits, limitsOf}
 use Rattle.node.specs.Sums.{Field, sentIn, takenIn, number}
-use Rattle.node.specs.Agree.{firstClauses, mayName}
+use Rattle.node.specs.Agree.{firstClauses}
 use Rattle.node.specs.declared.Stored.{Stored}
+use Rattle.node.proofs.FirstFailing.{Named}
 use Rattle.survey.specs.declared.Verdict.the-variants.{Fails}
 use Rattle.survey.proofs.Clauses.{first-0, first-1, first-2}
 use Rattle.layout.specs.Places.{markWords, sentPlace, takenPlace}
@@ -58,7 +59,7 @@ module _ (s : tie.Start) where
       let z : takenPlace p at k k ≡ at + markWords + (p - k) = omega arith in
       number-taken ws p k at k (omega arith) (s .pre .low) (omega (arith, s .pre .low, s .pre .few)) ∙ ap (word ws) z
 
-  stops : (c : ℕ) → mayName (firstClauses L p k own frame) c ≡ true → Judged L p k frame before before (Fails c)
+  stops : (c : ℕ) → Named (firstClauses L p k own frame) c → Judged L p k frame before before (Fails c)
   stops c m = fails L p k frame before c m before refl
 
 abbrev first : tie.Else1 → tie.Start
@@ -80,9 +81,12 @@ returns-2 c =
 
 returns-3 : tie.Need-returns-3
 returns-3 c =
-    let e = c .before .before .before .before .before .before .before .before .before .before in
+    let h = c .before .before .before .before .before in
+    let e = h .before .before .before .before .before in
     let s = first e in
-    stops s 2 (first-2 (L s) (p s) (k s) (own s) (frame s) (here e) (λ q. c .if3 .taken (q ∙ sent s)))
+    stops s 2
+    (first-2 (L s) (p s) (k s) (own s) (frame s) (here e) (h .if2 .left ∙ sym (taken s))
+    (λ q. c .if3 .taken (q ∙ sent s)))
 
 last-clauses-requires : tie.Need-last-clauses-requires
 last-clauses-requires c κs =

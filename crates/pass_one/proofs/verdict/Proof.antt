@@ -2,29 +2,21 @@
 use borrow.Author.Needs.{needs}
 use borrow.Author.Tests.{not-true, not-false}
 use denote.Ref.{now}
-use mathlib.Core.Path.{_≡_, refl, sym, _∙_, subst}
-use mathlib.Core.Bool.{Bool, true, false}
-use mathlib.Core.List.{List, [], _∷_}
+use mathlib.Core.Path.{_≡_, refl, sym, ap, _∙_}
+use mathlib.Core.Bool.{true}
 use lib.ListN.{length}
-use Rattle.base.specs.Choice.{choose}
 use Rattle.base.proofs.Laws.{choose-yes}
-use Rattle.node.specs.Agree.{mayName}
-use Rattle.survey.specs.Verdict.{isVerdict}
+use Rattle.survey.specs.Verdict.{verdictOf}
+use Rattle.survey.proofs.Clauses.{none-stored, no-agreement}
 use Rattle.walk_tests.specs.Tests.{firstFits}
 use Rattle.adding.proofs.Fitting.{fitting-known}
-use Rattle.pass_one.proofs.Judging.{no-agreement}
 use Rattle.pass_one.proofs.verdict.Statement.{statement}
 use Rattle.pass_one.proofs.verdict.Tie as tie
-
--- where there is no place, no frame is stored
-none-tried : (t : Bool) (cs : List Bool) → t ≡ false → mayName (choose t cs (false ∷ [])) 0 ≡ true
-unfolding mayName
-none-tried t cs e = rw e
 
 returns : tie.Need-returns
 returns c =
     let f = c .before .first-fits in
-    (none-tried _ _ (sym (f .ensures) ∙ not-true (f .result) (c .if1 .taken)), ((λ q. absurd (no-agreement 0 q)), refl))
+    (none-stored _ (sym (f .ensures) ∙ not-true (f .result) (c .if1 .taken)), ((λ q. absurd (no-agreement 0 q)), refl))
 
 -- there is a place
 fits : (e : tie.Else1)
@@ -42,7 +34,7 @@ returns-2 c =
     let t = c .before .before in
     let e = t .before .before in
     let j = t .tried .ensures in
-    (subst (λ l. isVerdict l (t .tried .result) ≡ true) (sym (choose-yes _ _ (fits e))) (j .verdict), (j .sums, j .length))
+    (j .verdict ∙ ap verdictOf (sym (choose-yes _ _ (fits e))), (j .sums, j .length))
 
 pub verdict-spec : {M : Type 1} → statement M
 verdict-spec =

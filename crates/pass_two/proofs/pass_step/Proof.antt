@@ -14,9 +14,9 @@ use Rattle.base.proofs.Limits.{fits-of, field-low}
 use Rattle.node.specs.Agree.{allHold}
 use Rattle.node.proofs.Clauses.{second-known}
 use Rattle.survey.specs.Verdict.{isAgreed}
+use Rattle.survey.proofs.Clauses.{agreed-is}
 use Rattle.layout.specs.Places.{secondWords, mostWords, confirmedPlace}
 use Rattle.layout.specs.Held.{word, secondFrom}
-use Rattle.walk_tests.proofs.Agreed.{agreed-is}
 use Rattle.pass_two.specs.Tried.{isFitting, secondTried}
 use Rattle.pass_two.proofs.Fitting.{fitting-known, held-there}
 use Rattle.pass_two.proofs.pass_step.Statement.{statement}

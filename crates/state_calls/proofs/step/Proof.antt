@@ -9,7 +9,7 @@ returns c =
     let s = c .before .before .before in
     let l = s .before .before .before in
     let e = s .step .ensures in
-    (stepped _ (l .of-build .ensures) _ _ _ _ (e .0) (e .1 .1 .0), stepped-bytes _ (l .of-build .ensures) _ _ _ (e .1 .1 .1))
+    (stepped _ (l .of-build .ensures) _ _ _ _ (e .0) (e .1 .0), stepped-bytes _ (l .of-build .ensures) _ _ _ (e .1 .1))
 
 pub step-spec : {M : Type 1} → statement M
 step-spec = tie.close (tie.spec (λ c κs. search needs) (λ c. search needs) (λ c κs. search needs) (λ c. search needs) returns)

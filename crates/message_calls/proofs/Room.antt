@@ -1,6 +1,6 @@
 -- The words that the calls have for the sums are enough for every board: what a call below says of a state that it has room
 -- for, it says of every state.
-use mathlib.Core.Path.{_≡_, refl, sym, ap, _∙_}
+use mathlib.Core.Path.{_≡_, refl, ap, _∙_}
 use mathlib.Core.Bool.{Bool, true, false}
 use mathlib.Core.List.{List}
 use Prim.Native.Nat.{ℕ}
@@ -10,17 +10,15 @@ use lib.ListN.{length}
 use borrow.Author.Tests.{le-leb}
 use Rattle.base.specs.Choice.{choose, both}
 use Rattle.base.specs.Limits.{Limits, Fits}
-use Rattle.node.specs.Answers.{Given, Outcome, barred, barrierOf}
-use Rattle.node.specs.Barrier.{barrier, clauseFails}
+use Rattle.node.specs.Answers.{Given, Outcome, barrierOf}
 use Rattle.node.specs.declared.BarrierAnswer.{BarrierAnswer}
-use Rattle.node.specs.declared.BarrierAnswer.the-variants.{Sends, Waits, Moved, Left, Refused}
 use Rattle.node.specs.declared.Node.{Node}
 use Rattle.layout.specs.Places.{sumWords, mostSums}
 use Rattle.layout.specs.Held as held
-use Rattle.layout.specs.Held.{dimsOf, isWhole, isReady, unpacked}
+use Rattle.layout.specs.Held.{dimsOf, isWhole, isReady}
 use Rattle.layout.proofs.Whole.{whole, few}
 use Rattle.node_barrier.specs.On as below
-use Rattle.calls.specs.OnWords.{noState, answerOn, wordsOn, barrierOn, barrierState, barrierBuffer}
+use Rattle.message_calls.specs.OnWords.{answerOn, wordsOn, barrierOn, barrierState, barrierBuffer}
 
 module _ (L : Limits) (fit : Fits L) (ws : List ℕ) where
   enough : isReady L mostSums ws ≡ isWhole L ws
@@ -41,29 +39,10 @@ module _ (L : Limits) (fit : Fits L) (ws : List ℕ) where
   called call after o q = (always _ _ (q .0), always _ _ (q .1))
 
   module _ (buf : List ℕ) where
-    -- what is refused names no clause
-    clause-fails : (a : BarrierAnswer) → barrierOf a ≡ barrierOn L ws (length buf)
-        → true ≡ choose (isWhole L ws) (clauseFails L (unpacked ws) a) true → clauseFails L (unpacked ws) a ≡ true
-    clause-fails a = go a (isWhole L ws)
-      where
-        go : (a : BarrierAnswer) (t : Bool) → barrierOf a ≡ choose t (barrier L (unpacked ws) (length buf) .answer) (barred noState)
-            → true ≡ choose t (clauseFails L (unpacked ws) a) true → clauseFails L (unpacked ws) a ≡ true
-        go a true o e = sym e
-        go (Sends to length) false o e = refl
-        go (Waits clause) false o e = let z : _≡_ {A = ℕ} 0 1 = cc in absurd (omega arith)
-        go Moved false o e = refl
-        go Left false o e = refl
-        go (Refused x) false o e = refl
-
-    -- the answer, the clause, the words and the bytes
+    -- the answer, the words and the bytes
     pub stepped : (a : BarrierAnswer) (words after : List ℕ)
         → (barrierOf a ≡ below.barrierOn L mostSums ws (length buf))
-        × ((below.clauseOn L mostSums ws a ≡ true)
-        × ((words ≡ below.barrierWords L mostSums ws (length buf))
-        × (after ≡ below.barrierLent L mostSums ws buf)))
+        × ((words ≡ below.barrierWords L mostSums ws (length buf)) × (after ≡ below.barrierLent L mostSums ws buf))
         → (barrierOf a ≡ barrierOn L ws (length buf))
-        × ((clauseFails L (unpacked ws) a ≡ true)
-        × ((words ≡ barrierState L ws (length buf)) × (after ≡ barrierBuffer L ws buf)))
-    stepped a words after q =
-        let o = always _ _ (q .0) in
-        (o, (clause-fails a o (always _ _ (sym (q .1 .0))), (always _ _ (q .1 .1 .0), always _ _ (q .1 .1 .1))))
+        × ((words ≡ barrierState L ws (length buf)) × (after ≡ barrierBuffer L ws buf))
+    stepped a words after q = (always _ _ (q .0), (always _ _ (q .1 .0), always _ _ (q .1 .1)))
