@@ -3,7 +3,7 @@
 
 pub enum Verdict {
     Agrees,
-    // a clause that fails
+    // the first clause that fails
     Fails(u8),
 }
 
