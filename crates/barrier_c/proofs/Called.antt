@@ -5,7 +5,7 @@ use Prim.Native.Nat.{ℕ}
 use Rattle.base.specs.Limits.{Limits, base}
 use Rattle.node.specs.Answers.{Given, Outcome, outcomeNumber}
 use Rattle.node.specs.declared.Node.{Node}
-use Rattle.message_calls.specs.OnWords as onWords
+use Rattle.on_words.specs.OnWords as onWords
 use Rattle.barrier_c.specs.Exports.{answerOn, wordsOn}
 
 -- a call of the crate below on these words

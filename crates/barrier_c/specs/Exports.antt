@@ -4,8 +4,8 @@ use Prim.Native.Nat.{ℕ}
 use Rattle.base.specs.Limits.{Limits}
 use Rattle.node.specs.Answers.{Given, Outcome, outcomeNumber}
 use Rattle.node.specs.declared.Node.{Node}
-use Rattle.message_calls.specs.OnWords as onWords
-pub use Rattle.message_calls.specs.OnWords.{wordsOn, barrierOn, barrierState, barrierBuffer}
+use Rattle.on_words.specs.OnWords as onWords
+pub use Rattle.on_words.specs.OnWords.{wordsOn, barrierOn, barrierState, barrierBuffer}
 pub use Rattle.answers.specs.Words.{lookupNumber, numberWords, placeWords, receiverWords, detailWords}
 
 -- the number of a call's answer

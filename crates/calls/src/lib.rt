@@ -5,7 +5,7 @@ ghost use lib.ListN.{length};
 ghost use Rattle.base.specs.Limits.{limitsOf};
 ghost use Rattle.node.specs.Answers.{outcomeOf, barrierOf};
 ghost use Rattle.node.specs.Calls.{frameIn};
-ghost use Rattle.message_calls.specs.OnWords.{answerOn, wordsOn, barrierOn, barrierState, barrierBuffer};
+ghost use Rattle.on_words.specs.OnWords.{answerOn, wordsOn, barrierOn, barrierState, barrierBuffer};
 use base::Bounds;
 pub use message_calls::go_idle;
 pub use message_calls::send_to;

@@ -4,7 +4,7 @@ ghost use mathlib.Core.Path.{_≡_};
 ghost use Rattle.base.specs.Limits.{limitsOf};
 ghost use Rattle.node.specs.Answers.{outcomeOf};
 ghost use Rattle.node.specs.Calls.{send, take, idle};
-ghost use Rattle.message_calls.specs.OnWords.{answerOn, wordsOn};
+ghost use Rattle.on_words.specs.OnWords.{answerOn, wordsOn};
 use base::Bounds;
 use base::Kind;
 use node::Answer;

@@ -5,7 +5,7 @@ use Prim.Native.Nat.{ℕ}
 use Rattle.base.specs.Limits.{Limits, base}
 use Rattle.node.specs.Answers.{Given, Outcome, Barrier}
 use Rattle.node.specs.declared.Node.{Node}
-use Rattle.message_calls.specs.OnWords.{answerOn, wordsOn, barrierOn, barrierState, barrierBuffer}
+use Rattle.on_words.specs.OnWords.{answerOn, wordsOn, barrierOn, barrierState, barrierBuffer}
 use Rattle.state_calls.specs.On.{Kept, keep, onState, stepOn, stepBytes}
 
 -- words and an answer, put together

@@ -4,7 +4,7 @@ use Prim.Native.Nat.{ℕ}
 use Rattle.base.specs.Limits.{base}
 use Rattle.node.specs.Answers.{Given, Outcome, outcomeOf, Barrier, barrierOf}
 use Rattle.node.specs.declared.Node.{Node}
-use Rattle.message_calls.specs.OnWords.{answerOn, wordsOn, barrierOn, barrierState, barrierBuffer}
+use Rattle.on_words.specs.OnWords.{answerOn, wordsOn, barrierOn, barrierState, barrierBuffer}
 use Rattle.states.specs.declared.State.{State}
 use Rattle.state_calls.specs.declared.Reply.{Reply}
 use Rattle.state_calls.specs.declared.StepReply.{StepReply}

@@ -5,7 +5,7 @@ use native.Mathlib.Omega.{arith}
 use Rattle.base.specs.Limits.{limitsOf}
 use Rattle.base.proofs.Limits.{fits-of}
 use Rattle.node.specs.Calls.{frameIn}
-use Rattle.message_calls.proofs.Room.{called}
+use Rattle.on_words.proofs.Room.{called}
 use Rattle.calls.proofs.frame_in.Statement.{statement}
 use Rattle.calls.proofs.frame_in.Tie as tie
 

@@ -3,7 +3,7 @@ use borrow.Author.Needs.{needs}
 use denote.Ref.{now}
 use native.Mathlib.Omega.{arith}
 use Rattle.base.proofs.Limits.{fits-of}
-use Rattle.message_calls.proofs.Room.{stepped}
+use Rattle.on_words.proofs.Room.{stepped}
 use Rattle.calls.proofs.step.Statement.{statement}
 use Rattle.calls.proofs.step.Tie as tie
 

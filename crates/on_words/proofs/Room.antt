@@ -18,7 +18,7 @@ use Rattle.layout.specs.Held as held
 use Rattle.layout.specs.Held.{dimsOf, isWhole, isReady}
 use Rattle.layout.proofs.Whole.{whole, few}
 use Rattle.node_barrier.specs.On as below
-use Rattle.message_calls.specs.OnWords.{answerOn, wordsOn, barrierOn, barrierState, barrierBuffer}
+use Rattle.on_words.specs.OnWords.{answerOn, wordsOn, barrierOn, barrierState, barrierBuffer}
 
 module _ (L : Limits) (fit : Fits L) (ws : List ℕ) where
   enough : isReady L mostSums ws ≡ isWhole L ws
