@@ -5,7 +5,7 @@ use Prim.Native.Nat.{ℕ}
 use lib.Dec.{eqb}
 use Rattle.layout.specs.Places.{atPhase, atBusy, atPass, atDim, atFlag}
 use Rattle.layout.specs.Held.{word, unpacked}
-use Rattle.text.specs.declared.Shown.{Shown}
+use Rattle.turn_text.specs.declared.Shown.{Shown}
 use Rattle.lines.specs.Printed.{shown}
 
 -- the words that are read of a state

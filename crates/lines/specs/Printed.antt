@@ -8,7 +8,7 @@ use Rattle.script.specs.declared.Line.{Line}
 use Rattle.stage.specs.Board.{nodeAt}
 use Rattle.stage.specs.declared.Acted.{Acted}
 use Rattle.text.specs.Text.{turnText, stopText}
-use Rattle.text.specs.declared.Shown.{Shown}
+use Rattle.turn_text.specs.declared.Shown.{Shown}
 use Rattle.lines.specs.Told.{stops}
 
 -- what is printed of a node

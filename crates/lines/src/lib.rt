@@ -10,7 +10,7 @@ ghost use Rattle.lines.specs.Printed.{shown, lineText};
 use script::Line;
 use script::Parsed;
 use stage::Acted;
-use text::Shown;
+use turn_text::Shown;
 
 // ---- What is read
 
@@ -126,5 +126,5 @@ pub fn put_line(out: &mut [u8], at: usize, line: Line, r: Acted, count: u32) -> 
         return text::put_stop(out, at, 17, count);
     }
     let n = acting(r);
-    text::put_turn(out, at, r.actor, r.answer, n)
+    turn_text::put_turn(out, at, r.actor, r.answer, n)
 }

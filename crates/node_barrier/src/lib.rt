@@ -27,5 +27,5 @@ pub fn step(b: Bounds, state: &mut [u32], sums: &mut [u32], buf: &mut [u8]) -> B
     }
     let p = known.dims as u8;
     let t = node_decide::decide(b, &*state, &mut *sums, p, known.issued, &mut *buf);
-    node_turn::act(&mut *state, p, t)
+    node_act::act(&mut *state, p, t)
 }

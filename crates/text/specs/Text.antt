@@ -5,7 +5,6 @@ use Prim.Native.Nat.{ℕ}
 use Rattle.base.specs.Choice.{choose}
 use Rattle.node.specs.declared.Node.{Node}
 use Rattle.printing.specs.Put.{digits}
-use Rattle.text.specs.declared.Shown.{Shown}
 
 abbrev pub bit : Bool → ℕ
 bit b = choose b 49 48
@@ -32,9 +31,6 @@ rowText actor answer phase pass dim flag busy =
     ++ (32
     ∷ (digits pass
     ++ (32 ∷ (digits dim ++ (32 ∷ bit flag ∷ 32 ∷ bit busy ∷ 10 ∷ [])))))))))
-
-abbrev pub shownText : ℕ → ℕ → Shown → List ℕ
-shownText actor answer n = rowText actor answer (n .phase) (n .pass) (n .dim) (n .flag) (n .busy)
 
 abbrev pub turnText : ℕ → ℕ → Node → List ℕ
 turnText actor answer n = rowText actor answer (n .phase) (n .pass) (n .dim) (n .flag) (n .busy)

@@ -2,7 +2,7 @@
 use mathlib.Core.Path.{sym, ap, _∙_}
 use borrow.Author.Needs.{needs}
 use Rattle.base.proofs.Laws.{choose-yes, choose-no}
-use Rattle.text.specs.Text.{shownText}
+use Rattle.turn_text.specs.Shown.{shownText}
 use Rattle.printing.proofs.Putting.{said}
 use Rattle.lines.proofs.put_line.Statement.{statement}
 use Rattle.lines.proofs.put_line.Tie as tie

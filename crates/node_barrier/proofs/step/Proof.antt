@@ -23,7 +23,7 @@ use Rattle.scanned.proofs.Known.{Known, failed, passed}
 use Rattle.node_turn.specs.Turn.{nodeAfter, wordsAfter}
 use Rattle.node_turn.specs.declared.Turn.{Turn}
 use Rattle.node_turn.specs.declared.Turn.the-variants.{Refuses}
-use Rattle.node_turn.proofs.Acting.{acted}
+use Rattle.node_act.proofs.Acting.{acted}
 use Rattle.node_decide.proofs.Handed.{Lent, head-room, low-dims}
 use Rattle.node_decide.proofs.Turning.{refuses-state, refuses-busy}
 use Rattle.node_decide.proofs.Decided.{decided}

@@ -3,8 +3,8 @@ use borrow.Author.Needs.{needs}
 use borrow.Author.Tests.{lt-ltb, le-ltb}
 use mathlib.Core.Path.{sym, _∙_}
 use Rattle.base.proofs.Laws.{choose-yes, choose-no}
-use Rattle.node_turn.proofs.act.Statement.{statement}
-use Rattle.node_turn.proofs.act.Tie as tie
+use Rattle.node_act.proofs.act.Statement.{statement}
+use Rattle.node_act.proofs.act.Tie as tie
 
 returns : tie.Need-returns
 returns c =

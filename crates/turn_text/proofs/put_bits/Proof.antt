@@ -4,8 +4,8 @@ use mathlib.Core.Path.{_≡_}
 use mathlib.Core.List.{[], _∷_}
 use Prim.Native.Nat.{ℕ}
 use Rattle.printing.proofs.Putting.{then, said}
-use Rattle.text.proofs.put_bits.Statement.{statement}
-use Rattle.text.proofs.put_bits.Tie as tie
+use Rattle.turn_text.proofs.put_bits.Statement.{statement}
+use Rattle.turn_text.proofs.put_bits.Tie as tie
 
 same-bits : (a b c d : ℕ) → a ≡ c → b ≡ d → (a ∷ 32 ∷ b ∷ 10 ∷ []) ≡ (c ∷ 32 ∷ d ∷ 10 ∷ [])
 same-bits a b c d p q = cc

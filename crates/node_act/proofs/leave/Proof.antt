@@ -9,8 +9,8 @@ use denote.Ref.{now}
 use Rattle.base.specs.Choice.{choose, list}
 use Rattle.layout.specs.Places.{atNodes, atNumber, stateWords, headWords}
 use Rattle.layout.specs.Held.{word}
-use Rattle.node_turn.proofs.leave.Statement.{statement}
-use Rattle.node_turn.proofs.leave.Tie as tie
+use Rattle.node_act.proofs.leave.Statement.{statement}
+use Rattle.node_act.proofs.leave.Tie as tie
 
 -- the words with the phase that they are given
 inPhase : List ℕ → ℕ → ℕ → List ℕ

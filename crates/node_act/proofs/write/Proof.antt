@@ -4,10 +4,10 @@ use mathlib.Core.Path.{_≡_, refl, sym, ap, _∙_}
 use mathlib.Core.List.{List}
 use Prim.Native.Nat.{ℕ}
 use denote.Ref.{now}
 use Rattle.node_turn.specs.Turn.{answerOf, wordsAfter}
 use Rattle.node_turn.specs.declared.Turn.{Turn}
-use Rattle.node_turn.proofs.write.Statement.{statement}
-use Rattle.node_turn.proofs.write.Tie as tie
+use Rattle.node_act.proofs.write.Statement.{statement}
+use Rattle.node_act.proofs.write.Tie as tie
 
 -- what was done for the turn that was told apart
 did : (s : tie.Start) {t : Turn} (after : List ℕ) → s .args .t ≡ t

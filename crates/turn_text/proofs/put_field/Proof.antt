@@ -3,8 +3,8 @@ use borrow.Author.Needs.{needs}
 use mathlib.Core.List.{[], _∷_}
 use Rattle.printing.specs.Put.{digits}
 use Rattle.printing.proofs.Putting.{then}
-use Rattle.text.proofs.put_field.Statement.{statement}
-use Rattle.text.proofs.put_field.Tie as tie
+use Rattle.turn_text.proofs.put_field.Statement.{statement}
+use Rattle.turn_text.proofs.put_field.Tie as tie
 
 returns : tie.Need-returns
 returns c =

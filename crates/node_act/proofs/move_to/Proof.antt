@@ -2,8 +2,8 @@
 use borrow.Author.Needs.{needs}
 use native.Mathlib.Omega.{arith}
 use lib.ListN.{length-set}
-use Rattle.node_turn.proofs.move_to.Statement.{statement}
-use Rattle.node_turn.proofs.move_to.Tie as tie
+use Rattle.node_act.proofs.move_to.Statement.{statement}
+use Rattle.node_act.proofs.move_to.Tie as tie
 
 slice-write-state-2 : tie.Need-slice-write-state-2
 slice-write-state-2 c = simp length-set (omega (arith, c .pre))

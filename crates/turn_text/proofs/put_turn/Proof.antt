@@ -1,9 +1,9 @@
 -- `put_turn` puts the line of an event, field after field.
 use borrow.Author.Needs.{needs}
 use Rattle.printing.proofs.Putting.{then, said}
-use Rattle.text.proofs.Lines.{row-text}
-use Rattle.text.proofs.put_turn.Statement.{statement}
-use Rattle.text.proofs.put_turn.Tie as tie
+use Rattle.turn_text.proofs.Row.{row-text}
+use Rattle.turn_text.proofs.put_turn.Statement.{statement}
+use Rattle.turn_text.proofs.put_turn.Tie as tie
 
 returns : tie.Need-returns
 returns c =
