@@ -1,14 +1,10 @@
-// Answers as numbers, as a caller in C is told them, and what they say besides put into lent words.
+// The answers of calls as numbers, as a caller in C is told them, and what they say besides put into lent words.
 ghost use mathlib.Core.Path.{_≡_};
-ghost use Rattle.tree.specs.Lookups.{foundAnswer, placedAnswer};
 ghost use Rattle.node.specs.Answers.{outcomeNumber, outcomeOf, barrierNumber, barrierOf};
-ghost use Rattle.answers.specs.Words.{lookupNumber, numberWords, placeWords, readNumber, detailWords};
-use frame::Outcome;
+ghost use Rattle.answers.specs.Words.{detailWords};
 use node::Answer;
 use node::BarrierAnswer;
 use node::Extra;
-use tree::Found;
-use tree::Placed;
 
 // The number of an answer.
 pub fn number_of(answer: Answer) -> u32
@@ -53,55 +49,5 @@ pub fn answer_barrier(answer: BarrierAnswer, details: &mut [u32; 5]) -> u32
             23
         }
         BarrierAnswer::Refused(no) => no as u32,
-    }
-}
-
-// Answers a number that was looked up, and leaves it in lent memory.
-pub fn answer_found(answer: Found, found: &mut [u32; 1]) -> u32
-    ensures answer { λ r. ⌜ r ≡ lookupNumber (foundAnswer answer) ⌝ }
-    ensures memory { λ r. ⌜ now (found .exit) ≡ numberWords (foundAnswer answer) (now (found .entry)) ⌝ }
-{
-    match answer {
-        Found::Is(x) => {
-            *found = [x];
-            0
-        }
-        Found::Refused(no) => no as u32,
-    }
-}
-
-// Answers the place of a node, and leaves it in lent memory.
-pub fn answer_placed(answer: Placed, found: &mut [u32; 3]) -> u32
-    ensures answer { λ r. ⌜ r ≡ lookupNumber (placedAnswer answer) ⌝ }
-    ensures memory { λ r. ⌜ now (found .exit) ≡ placeWords (placedAnswer answer) (now (found .entry)) ⌝ }
-{
-    match answer {
-        Placed::Alone => {
-            *found = [0, 0, 0];
-            0
-        }
-        Placed::Hermit(next) => {
-            *found = [1, next, 0];
-            0
-        }
-        Placed::Neighbour(b) => {
-            *found = [2, b, 0];
-            0
-        }
-        Placed::Messenger(b, h) => {
-            *found = [3, b, h];
-            0
-        }
-        Placed::Refused(no) => no as u32,
-    }
-}
-
-// The number of the frame reader's answer.
-pub fn answer_read(answer: Outcome) -> u32
-    ensures { λ r. ⌜ r ≡ readNumber answer ⌝ }
-{
-    match answer {
-        Outcome::Done => 0,
-        Outcome::Refused(no) => no as u32,
     }
 }

@@ -10,7 +10,7 @@ use Rattle.frame.specs.declared.Frame.{Frame}
 use Rattle.frame.specs.declared.Outcome.{Outcome}
 use Rattle.field_words.specs.Words.{frameWords}
 use Rattle.fields.specs.Fields.{writeOn, writtenOn}
-use Rattle.answers.specs.Words.{lookupNumber, numberWords, readNumber}
+use Rattle.lookup_answers.specs.Words.{lookupNumber, numberWords, readNumber}
 
 module _ (L : Limits) (e : L ≡ base) (P : ℕ) where
   -- the number, the bytes and the length after a call of the writer below

@@ -6,7 +6,8 @@ use Rattle.node.specs.Answers.{Given, Outcome, outcomeNumber}
 use Rattle.node.specs.declared.Node.{Node}
 use Rattle.on_words.specs.OnWords as onWords
 pub use Rattle.on_words.specs.OnWords.{wordsOn, barrierOn, barrierState, barrierBuffer}
-pub use Rattle.answers.specs.Words.{lookupNumber, numberWords, placeWords, receiverWords, detailWords}
+pub use Rattle.answers.specs.Words.{receiverWords, detailWords}
+pub use Rattle.lookup_answers.specs.Words.{lookupNumber, numberWords, placeWords}
 
 -- the number of a call's answer
 abbrev pub answerOn : Limits → (Node → Given Outcome) → List ℕ → ℕ

@@ -10,7 +10,8 @@ ghost use Rattle.fields.specs.Fields.{writeOn, writtenOn};
 ghost use Rattle.node.specs.Answers.{outcomeNumber, barrierNumber};
 ghost use Rattle.node.specs.Calls.{send, take, idle, frameIn};
 ghost use Rattle.node_calls.specs.Fresh.{freshOn, freshWords};
-ghost use Rattle.answers.specs.Words.{lookupNumber, numberWords, placeWords, detailWords};
+ghost use Rattle.answers.specs.Words.{detailWords};
+ghost use Rattle.lookup_answers.specs.Words.{lookupNumber, numberWords, placeWords};
 ghost use Rattle.barrier_c.specs.Exports.{answerOn, wordsOn, barrierOn, barrierState, barrierBuffer};
 use base::Kind;
 
@@ -93,7 +94,7 @@ pub extern "C" fn ocb_dimension(nodes: u32, found: &mut [u32; 1]) -> u32
     ensures answer { λ r. ⌜ r ≡ lookupNumber (dimensionLookup base nodes) ⌝ }
     ensures memory { λ r. ⌜ now (found .exit) ≡ numberWords (dimensionLookup base nodes) (now (found .entry)) ⌝ }
 {
-    answers::answer_found(tree::dimension_of(nodes), found)
+    lookup_answers::answer_found(tree::dimension_of(nodes), found)
 }
 
 // The place of a node in a dimension. Refuses 1, 2, 10.
@@ -102,7 +103,7 @@ pub extern "C" fn ocb_place(nodes: u32, dimension: u32, node: u32, found: &mut [
     ensures answer { λ r. ⌜ r ≡ lookupNumber (placeLookup base nodes dimension node) ⌝ }
     ensures memory { λ r. ⌜ now (found .exit) ≡ placeWords (placeLookup base nodes dimension node) (now (found .entry)) ⌝ }
 {
-    answers::answer_placed(lookups::place_of(nodes, dimension, node), found)
+    lookup_answers::answer_placed(lookups::place_of(nodes, dimension, node), found)
 }
 
 // The distance of two nodes. Refuses 1, 2, 3.
@@ -111,7 +112,7 @@ pub extern "C" fn ocb_distance(nodes: u32, a: u32, b: u32, found: &mut [u32; 1])
     ensures answer { λ r. ⌜ r ≡ lookupNumber (distanceLookup base nodes a b) ⌝ }
     ensures memory { λ r. ⌜ now (found .exit) ≡ numberWords (distanceLookup base nodes a b) (now (found .entry)) ⌝ }
 {
-    answers::answer_found(lookups::distance_of(nodes, a, b), found)
+    lookup_answers::answer_found(lookups::distance_of(nodes, a, b), found)
 }
 
 // ---- Exported: frames, for tools and tests
@@ -130,7 +131,7 @@ pub extern "C" fn ocb_frame_write(
         ⌜ now (size .exit)
         ≡ numberWords (writeOn base nodes (now (fields .entry)) (length (now (buf .entry)))) (now (size .entry)) ⌝ }
 {
-    answers::answer_found(fields::write(base::of_build(), nodes, fields, buf), size)
+    lookup_answers::answer_found(fields::write(base::of_build(), nodes, fields, buf), size)
 }
 
 // Reads a frame. Refuses 1, 9, 10, 2.
@@ -139,5 +140,5 @@ pub extern "C" fn ocb_frame_read(nodes: u32, bytes: &[u8], fields: &mut [u32; 23
     ensures answer { λ r. ⌜ r ≡ lookupNumber (readFrame base nodes (now (bytes .entry))) ⌝ }
     ensures memory { λ r. ⌜ now (fields .exit) ≡ frameWords (readFrame base nodes (now (bytes .entry))) (now (fields .entry)) ⌝ }
 {
-    answers::answer_read(fields_read::read(base::of_build(), nodes, bytes, fields))
+    lookup_answers::answer_read(fields_read::read(base::of_build(), nodes, bytes, fields))
 }

@@ -1,8 +1,8 @@
 -- `answer_found` answers as the lookup does, by the case of its answer.
 use borrow.Author.Needs.{needs}
 use mathlib.Core.Path.{refl}
-use Rattle.answers.proofs.answer_found.Statement.{statement}
-use Rattle.answers.proofs.answer_found.Tie as tie
+use Rattle.lookup_answers.proofs.answer_found.Statement.{statement}
+use Rattle.lookup_answers.proofs.answer_found.Tie as tie
 
 returns : tie.Need-returns
 returns c = rw (c .before .before .answer .given .1) (refl, refl)

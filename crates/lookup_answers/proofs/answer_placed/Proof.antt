@@ -1,8 +1,8 @@
 -- `answer_placed` answers as the lookup does, by the case of its answer.
 use borrow.Author.Needs.{needs}
 use mathlib.Core.Path.{refl}
-use Rattle.answers.proofs.answer_placed.Statement.{statement}
-use Rattle.answers.proofs.answer_placed.Tie as tie
+use Rattle.lookup_answers.proofs.answer_placed.Statement.{statement}
+use Rattle.lookup_answers.proofs.answer_placed.Tie as tie
 
 returns-2 : tie.Need-returns-2
 returns-2 c = rw (c .before .before .answer .given .1) (refl, refl)
