@@ -1,9 +1,9 @@
 -- The items under way: headers in a list that the caller lends, oldest first (rule S5).
 use mathlib.Core.Bool.{Bool}
 use mathlib.Core.List.{List}
-use Prim.Native.Nat.{ℕ, zero, suc, _+_, _-_, min}
-use lib.Dec.{eqb, leb}
-use lib.ListN.{length, getD, set}
+use Prim.Native.Nat.{ℕ, zero, suc, _+_, min}
+use lib.Dec.{eqb}
+use lib.ListN.{length, getD}
 use Rattle.base.specs.Choice.{choose, both}
 use Rattle.base.specs.declared.Kind.the-variants.{Job, Note}
 use Rattle.base.specs.declared.Kind.{Kind}
@@ -30,21 +30,6 @@ placeFrom items a b i (suc count) =
 abbrev pub oldestAt : List Item → ℕ → ℕ → ℕ → ℕ
 oldestAt items n a b = placeFrom items a b 0 n
 
--- count items, from i + 1 on, each one place down
-unfoldable pub moved : List Item → ℕ → ℕ → List Item
-moved items i zero = items
-moved items i (suc count) = moved (set items i (getD items (i + 1) noItem)) (i + 1) count
-
--- rule S6: of n items the one at a place goes, and those after it move down; the last place keeps what it had
-abbrev pub removed : List Item → ℕ → ℕ → List Item
-removed items n at = moved items at (n - (at + 1))
-
--- ---- Where n is above the number of places lent
-
--- there are as many items as places
+-- where n is above the number of places lent, there are as many items as places
 abbrev pub oldestWithin : List Item → ℕ → ℕ → ℕ → ℕ
 oldestWithin items n a b = oldestAt items (min n (length items)) a b
-
--- nothing moves
-abbrev pub removedWithin : List Item → ℕ → ℕ → List Item
-removedWithin items n at = choose (leb n (length items)) (removed items n at) items

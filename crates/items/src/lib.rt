@@ -1,11 +1,9 @@
-// The headers of the items under way, a list that the caller lends, oldest first. Any number may be handed for a place
-// and for how many items there are.
+// The headers of the items under way, a list that the caller lends, oldest first, and how they are read. Any number may
+// be handed for a place and for how many items there are.
 ghost use mathlib.Core.Path.{_≡_};
-ghost use Prim.Native.Nat.{_-_, min};
-ghost use lib.Dec.{leb};
-ghost use lib.ListN.{getD, set};
-ghost use Rattle.base.specs.Choice.{choose};
-ghost use Rattle.items.specs.Places.{mark, noItem, onLink, oldestWithin, removedWithin};
+ghost use Prim.Native.Nat.{min};
+ghost use lib.ListN.{getD};
+ghost use Rattle.items.specs.Places.{mark, noItem, onLink, oldestWithin};
 use base::Kind;
 
 // The header of an item under way.
@@ -43,15 +41,6 @@ pub fn item_at(items: &[Item], at: usize) -> Item
     }
 }
 
-// Puts a header at a place, the one after the last; nowhere where there is no such place.
-pub fn append_item(items: &mut [Item], at: usize, it: Item)
-    ensures { λ _. ⌜ now (items .exit) ≡ set (now (items .entry)) at it ⌝ }
-{
-    if at < items.len() {
-        items[at] = it;
-    }
-}
-
 fn least(x: usize, y: usize) -> usize
     ensures { λ r. ⌜ r ≡ min x y ⌝ }
 {
@@ -82,31 +71,4 @@ pub fn oldest_at(items: &[Item], n: usize, from: u8, to: u8) -> usize
         i += 1;
     }
     i
-}
-
-// Where the last of n items stands, of so many places; 0 where these are too few.
-fn last_of(n: usize, places: usize) -> usize
-    ensures { λ r. ⌜ r ≡ choose (leb n places) (n - 1) 0 ⌝ }
-{
-    if n == 0 {
-        return 0;
-    }
-    if places < n {
-        return 0;
-    }
-    n - 1
-}
-
-// Of n items the one at a place goes, and each after it moves one place down. Nothing moves where there is no such
-// item, or where fewer than n places are lent.
-pub fn remove_item(items: &mut [Item], n: usize, at: usize)
-    ensures { λ _. ⌜ now (items .exit) ≡ removedWithin (now (items .entry)) n at ⌝ }
-{
-    let last = last_of(n, items.len());
-    let mut i = at;
-    while i < last {
-        let it = item_at(items, i + 1);
-        append_item(items, i, it);
-        i += 1;
-    }
 }

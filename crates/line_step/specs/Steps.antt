@@ -3,7 +3,8 @@ use mathlib.Core.List.{List}
 use Prim.Native.Nat.{ℕ}
 use lib.ListN.{length, getD, set}
 use Rattle.script.specs.declared.Line.{Line}
-use Rattle.items.specs.Places.{noItem, oldestWithin, removedWithin}
+use Rattle.items.specs.Places.{noItem, oldestWithin}
+use Rattle.item_changes.specs.Places.{removedWithin}
 use Rattle.items.specs.declared.Item.{Item}
 use Rattle.stage.specs.declared.Stage.{Stage}
 use Rattle.stage.specs.declared.Acted.{Acted}

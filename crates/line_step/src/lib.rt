@@ -16,8 +16,8 @@ pub fn step(items: &mut [Item], bytes: &mut [u8], st: Stage, line: Line) -> Acte
     let at = items::oldest_at(items, st.under, link.from, link.to);
     let it = items::item_at(items, at);
     let r = turns::act(st, line, at, it, items.len(), bytes);
-    items::remove_item(items, st.under, r.gone);
-    items::append_item(items, r.at, r.first);
-    items::append_item(items, r.next, r.second);
+    item_changes::remove_item(items, st.under, r.gone);
+    item_changes::append_item(items, r.at, r.first);
+    item_changes::append_item(items, r.next, r.second);
     r
 }

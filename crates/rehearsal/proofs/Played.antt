@@ -15,9 +15,11 @@ use Rattle.script.specs.Script.{before, lineAt}
 use Rattle.script.specs.declared.Line.{Line}
 use Rattle.script.specs.declared.Line.the-variants.{Nodes, Sends, Delivers, Idles, Calls, Bad}
 use Rattle.script.specs.declared.Parsed.{Parsed}
-use Rattle.items.specs.Places.{noItem, oldestAt, oldestWithin, removedWithin, moved}
+use Rattle.items.specs.Places.{noItem, oldestAt, oldestWithin}
+use Rattle.item_changes.specs.Places.{removedWithin, moved}
 use Rattle.items.specs.declared.Item.{Item}
-use Rattle.items.proofs.Lists.{set-past, oldest-within, removed-within}
+use Rattle.items.proofs.Lists.{oldest-within}
+use Rattle.item_changes.proofs.Lists.{set-past, removed-within}
 use Rattle.under_way.specs.Frames.{roomFor}
 use Rattle.stage.specs.Board.{nodeAt, opening}
 use Rattle.turns.specs.Events.{Turn, sendTurn, idleTurn, callTurn, deliverTurn}

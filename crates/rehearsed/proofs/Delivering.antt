@@ -23,7 +23,8 @@ use Rattle.events.specs.Board.{afterFrame, offUnlessEarly}
 use Rattle.events.specs.Board.{delivered, deliveredOldest, step}
 use Rattle.runs.specs.Facts.{Facts}
 use Rattle.runs.specs.Printed.{line, loadAnswer, deliveryAnswer, printed}
-use Rattle.items.specs.Places.{mark, noItem, placeFrom, oldestAt, removed}
+use Rattle.items.specs.Places.{mark, noItem, placeFrom, oldestAt}
+use Rattle.item_changes.specs.Places.{removed}
 use Rattle.items.specs.declared.Item.{Item as Header}
 use Rattle.state_calls.specs.On.{Kept, onState}
 use Rattle.under_way.specs.Frames.{closed, frameHeld}

@@ -12,7 +12,8 @@ use lib.Seq.{getD-take, getD-set-same, getD-set-other}
 use Rattle.base.proofs.Laws.{cases}
 use Rattle.tree.specs.Tree.{dimension}
 use Rattle.frame.specs.Frame.{frameLength}
-use Rattle.items.specs.Places.{noItem, moved, removed}
+use Rattle.items.specs.Places.{noItem}
+use Rattle.item_changes.specs.Places.{moved, removed}
 use Rattle.items.specs.declared.Item.{Item}
 use Rattle.under_way.specs.Frames.{placeSize, closed, framed, frameHeld}
 use Rattle.under_way.proofs.Parts.{length-moving, all-moved}

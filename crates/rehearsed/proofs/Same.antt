@@ -14,7 +14,8 @@ use Rattle.tree.specs.Tree.{dimension}
 use Rattle.node.specs.declared.Node.{Node}
 use Rattle.events.specs.Board.{put, Load, work, frame, Item, Board, without}
 use Rattle.events.proofs.Tools.{put-all}
-use Rattle.items.specs.Places.{mark, noItem, removed}
+use Rattle.items.specs.Places.{mark, noItem}
+use Rattle.item_changes.specs.Places.{removed}
 use Rattle.items.specs.declared.Item.{Item as Header}
 use Rattle.states.specs.Words.{noState}
 use Rattle.states.specs.declared.State.{State}

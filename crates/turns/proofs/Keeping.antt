@@ -17,7 +17,7 @@ use Rattle.node.specs.Answers.{Barrier, sent, waits, moved, left, barred}
 use Rattle.node.specs.Calls.{send}
 use Rattle.script.specs.declared.Line.{Line}
 use Rattle.script.specs.declared.Line.the-variants.{Nodes, Sends, Delivers, Idles, Calls, Bad}
-use Rattle.items.specs.Places.{removed}
+use Rattle.item_changes.specs.Places.{removed}
 use Rattle.items.specs.declared.Item.{Item}
 use Rattle.under_way.specs.Frames.{placeSize, roomFor}
 use Rattle.stage.specs.Board.{isThere, stateAt}

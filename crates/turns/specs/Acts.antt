@@ -5,7 +5,7 @@ use Prim.Native.Nat.{ℕ}
 use lib.ListN.{set}
 use Rattle.script.specs.declared.Line.{Line}
 use Rattle.script.specs.declared.Line.the-variants.{Nodes, Sends, Delivers, Idles, Calls, Bad}
-use Rattle.items.specs.Places.{removed}
+use Rattle.item_changes.specs.Places.{removed}
 use Rattle.items.specs.declared.Item.{Item}
 use Rattle.stage.specs.Board.{quiet}
 use Rattle.stage.specs.declared.Stage.{Stage}

@@ -16,7 +16,8 @@ use Rattle.node.specs.Calls.{send, take as takeCall, idle, frameIn}
 use Rattle.node.specs.Barrier.{frameDue}
 use Rattle.state_calls.specs.On.{Kept, onState, stepOn}
 use Rattle.states.specs.declared.State.{State}
-use Rattle.items.specs.Places.{mark, noItem, oldestAt, removed}
+use Rattle.items.specs.Places.{mark, noItem, oldestAt}
+use Rattle.item_changes.specs.Places.{removed}
 use Rattle.items.specs.declared.Item.{Item}
 use Rattle.under_way.specs.Frames.{placeSize, roomFor, closed, framed, frameHeld}
 use Rattle.stage.specs.Board.{stateAt, nodeAt, changed, workItem, frameItem}

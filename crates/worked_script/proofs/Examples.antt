@@ -19,7 +19,8 @@ use Rattle.node_calls.specs.Fresh.{freshOn, freshWords}
 use Rattle.states.specs.Words.{freshState}
 use Rattle.state_calls.specs.On.{onState, stepOn}
 use Rattle.script.specs.Script.{before, partsWithin, lineOf, lineAt}
-use Rattle.items.specs.Places.{noItem, placeFrom, moved}
+use Rattle.items.specs.Places.{noItem, placeFrom}
+use Rattle.item_changes.specs.Places.{moved}
 use Rattle.under_way.specs.Frames.{closed, framed}
 use Rattle.turns.specs.Events.{sendTurn, idleTurn, callTurn, deliverTurn}
 use Rattle.printing.specs.Put.{digits}

@@ -41,10 +41,11 @@ use denote.Exit.{yes}
 use denote.Enum.Laws as EL
 use Rattle.walks.proofs.Calls.{at-list, both-hold, holds, calls-lent, calls-read, calls-plain, loc, lets, lands-in}
 use Rattle.walks.proofs.Calls.{ends-local, fieldv, ptrv}
-use Rattle.items.specs.Places.{noItem, oldestWithin, removedWithin}
+use Rattle.items.specs.Places.{noItem, oldestWithin}
+use Rattle.item_changes.specs.Places.{removedWithin}
 use Rattle.items.proofs.Values.{typed}
-use Rattle.items.proofs.Does.{OldestAt, ItemAt, RemoveItem, AppendItem, oldest-at-does, item-at-does, remove-item-does}
-use Rattle.items.proofs.Does.{append-item-does}
+use Rattle.items.proofs.Does.{OldestAt, ItemAt, oldest-at-does, item-at-does}
+use Rattle.item_changes.proofs.Does.{RemoveItem, AppendItem, remove-item-does, append-item-does}
 use Rattle.turns.specs.Acts.{acted, actedBytes}
 use Rattle.items.specs.declared.Item.{Item}
 use Rattle.items.proofs.Item as ItemT
@@ -75,12 +76,12 @@ use Rattle.items.proofs.item_at.Met as item-at-thm
 use Rattle.turns.proofs.act.Symbol as act-def
 use Rattle.turns.proofs.act.Symbol.{name as #turns·act}
 use Rattle.turns.proofs.act.Met as act-thm
-use Rattle.items.proofs.remove_item.Symbol as remove-item-def
-use Rattle.items.proofs.remove_item.Symbol.{name as #items·remove-item}
-use Rattle.items.proofs.remove_item.Met as remove-item-thm
-use Rattle.items.proofs.append_item.Symbol as append-item-def
-use Rattle.items.proofs.append_item.Symbol.{name as #items·append-item}
-use Rattle.items.proofs.append_item.Met as append-item-thm
+use Rattle.item_changes.proofs.remove_item.Symbol as remove-item-def
+use Rattle.item_changes.proofs.remove_item.Symbol.{name as #item-changes·remove-item}
+use Rattle.item_changes.proofs.remove_item.Met as remove-item-thm
+use Rattle.item_changes.proofs.append_item.Symbol as append-item-def
+use Rattle.item_changes.proofs.append_item.Symbol.{name as #item-changes·append-item}
+use Rattle.item_changes.proofs.append_item.Met as append-item-thm
 use Rattle.line_step.proofs.step.Key.{name as #line-step·step}
 use Rattle.line_step.proofs.step as step
 use Rattle.line_step.proofs.step.Statement as stated
@@ -181,8 +182,8 @@ module _ {M : Type 1} (𝓤 : URA M) (H : Heap 𝓤) (A : Atoms 𝓤) (W : Given
       (known-link-of : Triple 𝓤 (C #lines·link-of) (LinkOf 𝓤 H A mem run))
       (known-oldest-at : Triple 𝓤 (C #items·oldest-at) (OldestAt 𝓤 H A mem run))
       (known-item-at : Triple 𝓤 (C #items·item-at) (ItemAt 𝓤 H A mem run))
-      (known-act : Triple 𝓤 (C #turns·act) (Act 𝓤 H A mem run)) (known-remove-item : Triple 𝓤 (C #items·remove-item)
-      (RemoveItem 𝓤 H A mem run)) (known-append-item : Triple 𝓤 (C #items·append-item) (AppendItem 𝓤 H A mem run)) where
+      (known-act : Triple 𝓤 (C #turns·act) (Act 𝓤 H A mem run)) (known-remove-item : Triple 𝓤 (C #item-changes·remove-item)
+      (RemoveItem 𝓤 H A mem run)) (known-append-item : Triple 𝓤 (C #item-changes·append-item) (AppendItem 𝓤 H A mem run)) where
     walk : Room ItemT.the-row (length ys) → Room u8 (length bs)
         → ent 𝓤 (onEntry 𝓤 H A step.signature (κ, (κ′, tt)) (q, (q′, tt)) a vals)
         (WpFn 𝓤 H C Λ code.function (s ∷ s′ ∷ StageL.lowered st ∷ LineL.lowered line ∷ []) Post)
@@ -249,7 +250,7 @@ module _ {M : Type 1} (𝓤 : URA M) (H : Heap 𝓤) (A : Atoms 𝓤) (W : Given
         lets ! (ptrv ! 46 refl refl) 14 refl (tt, tt) $
         lets ! (agg ! (and-then ! (loc ! 14 refl) (and-then ! (fieldv ! 46 1 refl refl refl) (no-more !)))) 12 refl
         (tt, (tt, (record { fits = room .0 }, tt))) $
-        calls-lent ! fm ItemT.the-row κ q γ b o (s ∷ []) ys (remove-item-does 𝓤 H A W mem run C fm #items·remove-item
+        calls-lent ! fm ItemT.the-row κ q γ b o (s ∷ []) ys (remove-item-does 𝓤 H A W mem run C fm #item-changes·remove-item
         known-remove-item b o ys s (st .under) (r .gone) (under-fits st is-st) (acted-fit r is-r .0))
         (λ _ _. and-then ! (loc ! 12 refl) (and-then ! (fieldv ! 42 2 refl refl refl)
         (and-then ! (fieldv ! 32 3 refl refl refl) (no-more !)))) (λ _ zs₁ l₁′ e₁ _.
@@ -258,7 +259,7 @@ module _ {M : Type 1} (𝓤 : URA M) (H : Heap 𝓤) (A : Atoms 𝓤) (W : Given
         lets ! (ptrv ! 46 refl refl) 10 refl (tt, tt) $
         lets ! (agg ! (and-then ! (loc ! 10 refl) (and-then ! (fieldv ! 46 1 refl refl refl) (no-more !)))) 8 refl
         (tt, (tt, (record { fits = room .0 }, tt))) $
-        calls-lent ! fm ItemT.the-row κ q γ b o (s ∷ []) zs₁ (append-item-does 𝓤 H A W mem run C fm #items·append-item
+        calls-lent ! fm ItemT.the-row κ q γ b o (s ∷ []) zs₁ (append-item-does 𝓤 H A W mem run C fm #item-changes·append-item
         known-append-item b o zs₁ s (r .at) (r .first) (acted-fit r is-r .1 .0) (acted-fit r is-r .1 .1 .0))
         (λ _ _. and-then ! (loc ! 8 refl) (and-then ! (fieldv ! 32 4 refl refl refl)
         (and-then ! (fieldv ! 32 5 refl refl refl) (no-more !)))) (λ _ zs₂ l₂′ e₂ _.
@@ -267,7 +268,7 @@ module _ {M : Type 1} (𝓤 : URA M) (H : Heap 𝓤) (A : Atoms 𝓤) (W : Given
         lets ! (ptrv ! 46 refl refl) 6 refl (tt, tt) $
         lets ! (agg ! (and-then ! (loc ! 6 refl) (and-then ! (fieldv ! 46 1 refl refl refl) (no-more !)))) 4 refl
         (tt, (tt, (record { fits = room .0 }, tt))) $
-        calls-lent ! fm ItemT.the-row κ q γ b o (s ∷ []) zs₂ (append-item-does 𝓤 H A W mem run C fm #items·append-item
+        calls-lent ! fm ItemT.the-row κ q γ b o (s ∷ []) zs₂ (append-item-does 𝓤 H A W mem run C fm #item-changes·append-item
         known-append-item b o zs₂ s (r .next) (r .second) (acted-fit r is-r .1 .1 .1 .0)
         (acted-fit r is-r .1 .1 .1 .1))
         (λ _ _. and-then ! (loc ! 4 refl) (and-then ! (fieldv ! 32 6 refl refl refl)
@@ -292,7 +293,7 @@ module _ {M : Type 1} (𝓤 : URA M) (H : Heap 𝓤) (A : Atoms 𝓤) (W : Given
   Known C = Triple 𝓤 (C #lines·link-of) (LinkOf 𝓤 H A mem run) ×
       (Triple 𝓤 (C #items·oldest-at) (OldestAt 𝓤 H A mem run) ×
       (Triple 𝓤 (C #items·item-at) (ItemAt 𝓤 H A mem run) × (Triple 𝓤 (C #turns·act) (Act 𝓤 H A mem run) ×
-      (Triple 𝓤 (C #items·remove-item) (RemoveItem 𝓤 H A mem run) × Triple 𝓤 (C #items·append-item)
+      (Triple 𝓤 (C #item-changes·remove-item) (RemoveItem 𝓤 H A mem run) × Triple 𝓤 (C #item-changes·append-item)
       (AppendItem 𝓤 H A mem run)))))
 
   step-walks : (C : Calls 𝓤 H) (Λ : Loops 𝓤 H) → FmC 𝓤 H (W .laws) C → Known C
@@ -346,12 +347,12 @@ step-spec 𝓤 H 𝓜 𝓖 𝓡 =
             cited 𝓤 H (Act 𝓤 H (𝓖 .A) (𝓜 .mem) (𝓡 .run)) 𝓜 𝓡 code.env
                 #turns·act act-def.routine code.calls-turns·act (act-thm.met 𝓤 H 𝓜 𝓖 𝓡),
             (
-              cited 𝓤 H (RemoveItem 𝓤 H (𝓖 .A) (𝓜 .mem) (𝓡 .run)) 𝓜 𝓡 code.env #items·remove-item
+              cited 𝓤 H (RemoveItem 𝓤 H (𝓖 .A) (𝓜 .mem) (𝓡 .run)) 𝓜 𝓡 code.env #item-changes·remove-item
                   remove-item-def.routine
-                  code.calls-items·remove-item (remove-item-thm.met 𝓤 H 𝓜 𝓖 𝓡),
+                  code.calls-item-changes·remove-item (remove-item-thm.met 𝓤 H 𝓜 𝓖 𝓡),
               cited 𝓤 H
-                  (AppendItem 𝓤 H (𝓖 .A) (𝓜 .mem) (𝓡 .run)) 𝓜 𝓡 code.env #items·append-item append-item-def.routine
-                  code.calls-items·append-item (append-item-thm.met 𝓤 H 𝓜 𝓖 𝓡),
+                  (AppendItem 𝓤 H (𝓖 .A) (𝓜 .mem) (𝓡 .run)) 𝓜 𝓡 code.env #item-changes·append-item append-item-def.routine
+                  code.calls-item-changes·append-item (append-item-thm.met 𝓤 H 𝓜 𝓖 𝓡),
             ),
           ),
         ),

@@ -1,4 +1,4 @@
--- `items::remove_item` meets its contract: a walk of its MIR. Each turn reads the header above i by `item_at` and puts
+-- `item_changes::remove_item` meets its contract: a walk of its MIR. Each turn reads the header above i by `item_at` and puts
 -- it at i by `append_item`, to which the slice is lent again; at the loop's head the moves that are left take the list
 -- to the one that is to be had (`Inv`).
 use mathlib.Core.Path.{_≡_, refl, ap, _∙_}
@@ -46,29 +46,30 @@ use denote.Triple.Walked.{says, Stays, stay-none, stay-slice, walkOf, goes-none,
 use denote.Triple.Walked.{walk-meets}
 use denote.Exit.{yes}
 use Rattle.base.specs.Choice.{choose}
 use Rattle.items.specs.declared.Item.{Item}
-use Rattle.items.specs.Places.{moved, removedWithin}
+use Rattle.item_changes.specs.Places.{moved, removedWithin}
 use Rattle.items.proofs.Item as T
 use Rattle.items.proofs.Item.Laws as T′
 use Rattle.walks.proofs.Calls.{at-list, takes, calls-lent, calls-read, calls-plain, loc, fieldv, ptrv, lets, lands-in}
 use Rattle.walks.proofs.Calls.{ends-local}
 use Rattle.items.proofs.Values.{typed}
-use Rattle.items.proofs.Lists.{moves-all}
-use Rattle.items.proofs.Does.{LastOf, ItemAt, AppendItem, last-of-does, item-at-does, append-item-does}
-use Rattle.items.proofs.last_of.Symbol as last-of-def
-use Rattle.items.proofs.last_of.Symbol.{name as #items·last-of}
-use Rattle.items.proofs.last_of.Met as last-of-thm
+use Rattle.item_changes.proofs.Lists.{moves-all}
+use Rattle.items.proofs.Does.{ItemAt, item-at-does}
+use Rattle.item_changes.proofs.Does.{LastOf, AppendItem, last-of-does, append-item-does}
+use Rattle.item_changes.proofs.last_of.Symbol as last-of-def
+use Rattle.item_changes.proofs.last_of.Symbol.{name as #item-changes·last-of}
+use Rattle.item_changes.proofs.last_of.Met as last-of-thm
 use Rattle.items.proofs.item_at.Symbol as item-at-def
 use Rattle.items.proofs.item_at.Symbol.{name as #items·item-at}
 use Rattle.items.proofs.item_at.Met as item-at-thm
-use Rattle.items.proofs.append_item.Symbol as append-item-def
-use Rattle.items.proofs.append_item.Symbol.{name as #items·append-item}
-use Rattle.items.proofs.append_item.Met as append-item-thm
-use Rattle.items.proofs.remove_item.Key.{name as #items·remove-item}
-use Rattle.items.proofs.remove_item as remove-item
-use Rattle.items.proofs.remove_item.Statement as stated
-use Rattle.items.proofs.remove_item.Code as code
-use Rattle.items.proofs.remove_item.Code.Mir.{turn-1 as turn}
+use Rattle.item_changes.proofs.append_item.Symbol as append-item-def
+use Rattle.item_changes.proofs.append_item.Symbol.{name as #item-changes·append-item}
+use Rattle.item_changes.proofs.append_item.Met as append-item-thm
+use Rattle.item_changes.proofs.remove_item.Key.{name as #item-changes·remove-item}
+use Rattle.item_changes.proofs.remove_item as remove-item
+use Rattle.item_changes.proofs.remove_item.Statement as stated
+use Rattle.item_changes.proofs.remove_item.Code as code
+use Rattle.item_changes.proofs.remove_item.Code.Mir.{turn-1 as turn}
 
 abbrev stayed : Stays (remove-item.ended .signature .params) (remove-item.ended .kept)
 stayed = (
@@ -137,9 +138,9 @@ module _ {M : Type 1} (𝓤 : URA M) (H : Heap 𝓤) (A : Atoms 𝓤) (W : Given
       owned ! usize (Is usize) (uint-makes 𝓤 H A W w64) n _ (refl, n-fits) $ fjoin ! $ move ! (2 ∷ 0 ∷ []) $
       fjoin ! $ done !
 
-  module _ (𝓣 : Tables 𝓤 H) (known-last : Triple 𝓤 (𝓣 .C #items·last-of) (LastOf 𝓤 H A mem run))
+  module _ (𝓣 : Tables 𝓤 H) (known-last : Triple 𝓤 (𝓣 .C #item-changes·last-of) (LastOf 𝓤 H A mem run))
       (known-item : Triple 𝓤 (𝓣 .C #items·item-at) (ItemAt 𝓤 H A mem run))
-      (known-append : Triple 𝓤 (𝓣 .C #items·append-item) (AppendItem 𝓤 H A mem run))
+      (known-append : Triple 𝓤 (𝓣 .C #item-changes·append-item) (AppendItem 𝓤 H A mem run))
       (room : Room T.the-row (length ys)) where
     abbrev C : Calls 𝓤 H
     C = 𝓣 .C
@@ -201,7 +202,7 @@ module _ {M : Type 1} (𝓤 : URA M) (H : Heap 𝓤) (A : Atoms 𝓤) (W : Given
           lets ! (ptrv ! 28 refl refl) 4 refl (tt, tt) $
           lets ! (agg ! (and-then ! (loc ! 4 refl) (and-then ! (fieldv ! 28 1 refl refl refl) (no-more !)))) 2 refl
           (s-typed mut) $
-          calls-lent ! fm T.the-row κ q γ b o (s ∷ []) zs (append-item-does 𝓤 H A W mem run C fm #items·append-item
+          calls-lent ! fm T.the-row κ q γ b o (s ∷ []) zs (append-item-does 𝓤 H A W mem run C fm #item-changes·append-item
           known-append b o zs s i it i-fits is)
           (λ _ _. and-then ! (loc ! 2 refl) (and-then ! (loc ! 20 refl) (and-then ! (loc ! 18 refl) (no-more !))))
           (λ _ zs′ l e _.
@@ -285,7 +286,7 @@ module _ {M : Type 1} (𝓤 : URA M) (H : Heap 𝓤) (A : Atoms 𝓤) (W : Given
         pass1 ! (init ! 24 refl (tt, record { fits = at-fits })) $ pass0 ! $
         -- let last = last_of(n, items.len())
         lets ! (of-opd ! (fieldv ! 28 1 refl refl refl)) 16 refl (tt, record { fits = room .0 }) $
-        calls-plain ! fm (last-of-does 𝓤 H A W mem run C fm #items·last-of known-last n (length ys) n-fits (room .0))
+        calls-plain ! fm (last-of-does 𝓤 H A W mem run C fm #item-changes·last-of known-last n (length ys) n-fits (room .0))
         (λ _. and-then ! (loc ! 27 refl) (and-then ! (loc ! 17 refl) (no-more !))) (λ last last-is is.
         lands-in ! 22 refl (tt, record { fits = is .1 }) $ lets ! (of-opd ! (loc ! 24 refl)) 20 refl
         (tt, record { fits = at-fits }) $
@@ -295,8 +296,8 @@ module _ {M : Type 1} (𝓤 : URA M) (H : Heap 𝓤) (A : Atoms 𝓤) (W : Given
     (run : Routine → Fun 𝓤) where
   -- that the callees meet their contracts
   abbrev Known : Calls 𝓤 H → Type 1
-  Known C = Triple 𝓤 (C #items·last-of) (LastOf 𝓤 H A mem run) ×
-      (Triple 𝓤 (C #items·item-at) (ItemAt 𝓤 H A mem run) × Triple 𝓤 (C #items·append-item) (AppendItem 𝓤 H A mem run))
+  Known C = Triple 𝓤 (C #item-changes·last-of) (LastOf 𝓤 H A mem run) ×
+      (Triple 𝓤 (C #items·item-at) (ItemAt 𝓤 H A mem run) × Triple 𝓤 (C #item-changes·append-item) (AppendItem 𝓤 H A mem run))
 
   remove-item-walks : (𝓣 : Tables 𝓤 H) → Known (𝓣 .C) → Walks 𝓤 H A remove-item.ended stayed
       (WpFn 𝓤 H (𝓣 .C) (𝓣 .Λ) code.function) (remove-item.clauses 𝓤 H A mem run)
@@ -322,15 +323,15 @@ pub remove-item-spec : {M : Type 1} → stated.statement M
 unfolding code.routine tablesOf
 remove-item-spec 𝓤 H 𝓜 𝓖 𝓡 =
     entered 𝓤 H (tripleOf 𝓤 H (𝓖 .A) remove-item.signature (remove-item.spec 𝓤 H (𝓖 .A) (𝓜 .mem) (𝓡 .run)))
-    (tables 𝓤 H 𝓜 𝓡 code.env .C) (tables 𝓤 H 𝓜 𝓡 code.env .Λ) #items·remove-item code.function (code.unfolded 𝓤 H 𝓜 𝓡)
+    (tables 𝓤 H 𝓜 𝓡 code.env .C) (tables 𝓤 H 𝓜 𝓡 code.env .Λ) #item-changes·remove-item code.function (code.unfolded 𝓤 H 𝓜 𝓡)
     (remove-item-meets 𝓤 H (𝓖 .A) (givenOf 𝓤 H 𝓜 𝓖) (𝓜 .mem) (𝓡 .run) (tablesOf 𝓤 H 𝓜 (tables 𝓤 H 𝓜 𝓡 code.env)) (
-      cited 𝓤 H (LastOf 𝓤 H (𝓖 .A) (𝓜 .mem) (𝓡 .run)) 𝓜 𝓡 code.env #items·last-of last-of-def.routine
-          code.calls-items·last-of (last-of-thm.met 𝓤 H 𝓜 𝓖 𝓡),
+      cited 𝓤 H (LastOf 𝓤 H (𝓖 .A) (𝓜 .mem) (𝓡 .run)) 𝓜 𝓡 code.env #item-changes·last-of last-of-def.routine
+          code.calls-item-changes·last-of (last-of-thm.met 𝓤 H 𝓜 𝓖 𝓡),
       (
         cited 𝓤 H (ItemAt 𝓤 H (𝓖 .A) (𝓜 .mem) (𝓡 .run)) 𝓜 𝓡
             code.env #items·item-at item-at-def.routine code.calls-items·item-at (item-at-thm.met 𝓤 H 𝓜 𝓖 𝓡),
         cited 𝓤 H
-            (AppendItem 𝓤 H (𝓖 .A) (𝓜 .mem) (𝓡 .run)) 𝓜 𝓡 code.env #items·append-item append-item-def.routine
-            code.calls-items·append-item (append-item-thm.met 𝓤 H 𝓜 𝓖 𝓡),
+            (AppendItem 𝓤 H (𝓖 .A) (𝓜 .mem) (𝓡 .run)) 𝓜 𝓡 code.env #item-changes·append-item append-item-def.routine
+            code.calls-item-changes·append-item (append-item-thm.met 𝓤 H 𝓜 𝓖 𝓡),
       ),
     ))

@@ -1,11 +1,11 @@
--- `items::last_of` meets its contract: with no item, with too few places, and otherwise.
+-- `item_changes::last_of` meets its contract: with no item, with too few places, and otherwise.
 use mathlib.Core.Path.{sym, _∙_}
 use native.Mathlib.Omega.{arith}
 use borrow.Author.Needs.{needs}
 use borrow.Author.Tests.{le-leb, lt-leb}
 use Rattle.base.proofs.Laws.{choose-yes, choose-no}
-use Rattle.items.proofs.last_of.Statement.{statement}
-use Rattle.items.proofs.last_of.Tie as tie
+use Rattle.item_changes.proofs.last_of.Statement.{statement}
+use Rattle.item_changes.proofs.last_of.Tie as tie
 
 returns : tie.Need-returns
 returns c = sym (choose-yes _ _ (le-leb (c .before .args .n) (c .before .args .places) (omega arith)) ∙ omega arith)

@@ -1,4 +1,4 @@
--- `items::append_item` meets its contract: a walk of its MIR. The place of `items[at]` is at * 4 past the slice's
+-- `item_changes::append_item` meets its contract: a walk of its MIR. The place of `items[at]` is at * 4 past the slice's
 -- pointer; the borrow is opened, the element is taken out and stored to, and the borrow is closed at the list with `it`
 -- at its place.
 use mathlib.Core.Path.{_≡_, refl, sym}
@@ -42,17 +42,17 @@ use denote.Triple.Table.{entered}
 use denote.Triple.Walked.{says, Stays, stay-none, stay-slice, walkOf, goes-none, goes-slice, Walks, ends-at, walked}
 use denote.Triple.Walked.{walk-meets}
 use denote.Exit.{yes}
 use Rattle.items.specs.declared.Item.{Item}
 use Rattle.items.specs.Places.{noItem}
 use Rattle.items.proofs.Item as T
 use Rattle.items.proofs.Item.Laws as T′
 use Rattle.walks.proofs.Calls.{at-list, opened, closed, takes, loc, fieldv, lets, ends-local}
 use Rattle.items.proofs.Values.{val, IsItem, typed}
-use Rattle.items.proofs.Lists.{set-past}
-use Rattle.items.proofs.append_item.Key.{name as #items·append-item}
-use Rattle.items.proofs.append_item as append-item
-use Rattle.items.proofs.append_item.Statement as stated
-use Rattle.items.proofs.append_item.Code as code
+use Rattle.item_changes.proofs.Lists.{set-past}
+use Rattle.item_changes.proofs.append_item.Key.{name as #item-changes·append-item}
+use Rattle.item_changes.proofs.append_item as append-item
+use Rattle.item_changes.proofs.append_item.Statement as stated
+use Rattle.item_changes.proofs.append_item.Code as code
 
 abbrev stayed : Stays (append-item.ended .signature .params) (append-item.ended .kept)
 stayed = (
@@ -183,5 +183,5 @@ pub append-item-spec : {M : Type 1} → stated.statement M
 unfolding code.routine tablesOf
 append-item-spec 𝓤 H 𝓜 𝓖 𝓡 =
     entered 𝓤 H (tripleOf 𝓤 H (𝓖 .A) append-item.signature (append-item.spec 𝓤 H (𝓖 .A) (𝓜 .mem) (𝓡 .run)))
-    (tables 𝓤 H 𝓜 𝓡 code.env .C) (tables 𝓤 H 𝓜 𝓡 code.env .Λ) #items·append-item code.function (code.unfolded 𝓤 H 𝓜 𝓡)
+    (tables 𝓤 H 𝓜 𝓡 code.env .C) (tables 𝓤 H 𝓜 𝓡 code.env .Λ) #item-changes·append-item code.function (code.unfolded 𝓤 H 𝓜 𝓡)
     (append-item-meets 𝓤 H (𝓖 .A) (givenOf 𝓤 H 𝓜 𝓖) (𝓜 .mem) (𝓡 .run) (tablesOf 𝓤 H 𝓜 (tables 𝓤 H 𝓜 𝓡 code.env)))
