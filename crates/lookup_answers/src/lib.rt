@@ -1,5 +1,5 @@
-// The answers of lookups, of the frame writer and of the frame reader as numbers, as a caller in C is told them, and what is looked up
-// put into lent words.
+// The answers of lookups, of the frame writer and of the frame reader as numbers, as a caller in C is told them, and
+// what is found put into lent words.
 ghost use mathlib.Core.Path.{_≡_};
 ghost use Rattle.tree.specs.Lookups.{foundAnswer, placedAnswer};
 ghost use Rattle.lookup_answers.specs.Words.{lookupNumber, numberWords, placeWords, readNumber};

@@ -1,6 +1,6 @@
--- `item_changes::remove_item` meets its contract: a walk of its MIR. Each turn reads the header above i by `item_at` and puts
--- it at i by `append_item`, to which the slice is lent again; at the loop's head the moves that are left take the list
--- to the one that is to be had (`Inv`).
+-- `item_changes::remove_item` meets its contract: a walk of its MIR. Each turn reads the header above i by `item_at` and
+-- puts it at i by `append_item`, to which the slice is lent again; at the loop's head the moves that are left take the
+-- list to the one that is to be had (`Inv`).
 use mathlib.Core.Path.{_≡_, refl, ap, _∙_}
 use mathlib.Core.Bool.{Bool}
 use mathlib.Core.List.{List, [], _∷_}
