@@ -7,6 +7,7 @@ use Rattle.base.specs.Choice.{choose}
 pub data Refusal : Type 0 where
   board stranger self resting sentOut takenFull early foreign length : Refusal
   field partner working state buffer crowded nothing script : Refusal
+  recording differs : Refusal
 
 abbrev pub number : Refusal → ℕ
 number board = 1
@@ -26,6 +27,8 @@ number buffer = 14
 number crowded = 15
 number nothing = 16
 number script = 17
+number recording = 18
+number differs = 19
 
 -- What a lookup answers: a refusal by its number, or a value.
 pub data Answered (A : Type 0) : Type 0 where

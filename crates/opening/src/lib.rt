@@ -19,7 +19,7 @@ pub struct Opened {
 }
 
 // A board of up to 16 nodes, all fresh.
-fn open_stage(size: u32) -> Stage
+pub fn open_stage(size: u32) -> Stage
     ensures { λ r. ⌜ r ≡ opening size ⌝ }
 {
     let mut states = [states::none(); 16];

@@ -20,6 +20,8 @@ use Rattle.items.specs.Places.{mark, noItem, oldestAt}
 use Rattle.item_changes.specs.Places.{removed}
 use Rattle.items.specs.declared.Item.{Item}
 use Rattle.under_way.specs.Frames.{placeSize, roomFor, closed, framed, frameHeld}
+use Rattle.script.specs.declared.Line.{Line}
+use Rattle.script.specs.declared.Line.the-variants.{Nodes, Sends, Delivers, Idles, Calls, Bad}
 use Rattle.stage.specs.Board.{stateAt, nodeAt, changed, workItem, frameItem}
 use Rattle.stage.specs.declared.Stage.{Stage}
 
@@ -139,3 +141,13 @@ module _ (st : Stage) (items : List Item) (bytes : List ℕ) where
       let r = called a b at in
       choose (eqb at (st .under)) (unchanged st items bytes b (number Refusal.nothing))
       (deliveredAt b at r (outcomeNumber (r .answer)))
+
+  -- ---- The event of a line; a line that is none changes nothing, and is answered 17
+
+  abbrev pub turnOf : Line → Turn
+  turnOf (Nodes P) = unchanged st items bytes 0 (number Refusal.script)
+  turnOf (Sends kind a b) = sendTurn kind a b
+  turnOf (Delivers a b) = deliverTurn a b
+  turnOf (Idles a) = idleTurn a
+  turnOf (Calls a) = callTurn a
+  turnOf Bad = unchanged st items bytes 0 (number Refusal.script)

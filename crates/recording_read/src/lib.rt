@@ -1,0 +1,137 @@
+// Recordings in lent bytes: tested there, and read into lent words and bytes. Any bytes may be handed.
+ghost use mathlib.Core.Path.{_≡_};
+ghost use mathlib.Core.Bool.{not};
+ghost use Prim.Native.Nat.{_+_, _*_, _≤_, _<_};
+ghost use lib.ListN.{length};
+ghost use Rattle.base.specs.Choice.{list};
+ghost use Rattle.printing.specs.Put.{put};
+ghost use Rattle.recording.specs.Recording.{numberAt, bodies, sectionsIn, countAt, recordingIn};
+ghost use Rattle.recording.specs.Test.{sum, placed, isBadIn};
+ghost use Rattle.recording_read.specs.Read.{readAnswer, heldAnswer, filled};
+
+// What a recording has: nodes, sections, events.
+pub struct Head {
+    pub nodes: u32,
+    pub sections: u32,
+    pub events: u32,
+}
+
+// A recording is read, or refused with a number.
+pub enum Held {
+    Is(Head),
+    Refused(u8),
+}
+
+fn wide(x: u8) -> u32
+    ensures { λ r. ⌜ (r ≡ x) × (r < 256) ⌝ }
+{
+    x as u32
+}
+
+// The number of two bytes at a place.
+fn number_at(bytes: &[u8], at: usize) -> u32
+    requires { ⌜ at + 2 ≤ length (now bytes) ⌝ }
+    ensures { λ r. ⌜ (r ≡ numberAt (now (bytes .entry)) at) × (r < 65536) ⌝ }
+{
+    let low = wide(bytes[at]);
+    let high = wide(bytes[at + 1]);
+    low + 256 * high
+}
+
+// The bodies of so many sections stand one after the other behind the table.
+fn is_placed(bytes: &[u8], sections: usize) -> bool
+    requires { ⌜ (sections ≤ 32) × (bodies sections ≤ length (now bytes)) ⌝ }
+    ensures { λ r. ⌜ r ≡ placed (now (bytes .entry)) (bodies sections) 0 sections ⌝ }
+{
+    let mut at: u32 = 2 + 4 * sections as u32;
+    for i in 0..sections {
+        if number_at(bytes, 2 + 4 * i) != at {
+            return false;
+        }
+        at += 4 * number_at(bytes, 4 + 4 * i);
+    }
+    true
+}
+
+// How many events so many sections have in all.
+fn total_of(bytes: &[u8], sections: usize) -> u64
+    requires { ⌜ (sections ≤ 32) × (bodies sections ≤ length (now bytes)) ⌝ }
+    ensures { λ r. ⌜ r ≡ sum (list 0 sections (countAt (now (bytes .entry)))) ⌝ }
+{
+    let mut total: u64 = 0;
+    for i in 0..sections {
+        total += number_at(bytes, 4 + 4 * i) as u64;
+    }
+    total
+}
+
+// Whether bytes are a recording.
+pub fn is_recording(bytes: &[u8]) -> bool
+    ensures { λ r. ⌜ r ≡ not (isBadIn (now (bytes .entry))) ⌝ }
+{
+    if bytes.len() < 2 {
+        return false;
+    }
+    let sections = wide(bytes[1]) as usize;
+    let head = 2 + 4 * sections;
+    if bytes.len() < head {
+        return false;
+    }
+    if 32 < sections {
+        return false;
+    }
+    if !is_placed(bytes, sections) {
+        return false;
+    }
+    let total = total_of(bytes, sections);
+    !recording::is_bad(wide(bytes[0]), sections, total, &bytes[head..])
+}
+
+// Puts how many events each section has.
+fn put_counts(bytes: &[u8], counts: &mut [u32], sections: usize)
+    requires { ⌜ (bodies sections ≤ length (now bytes)) × (sections ≤ length (now counts)) × (sections ≤ 32) ⌝ }
+    ensures { λ r. ⌜
+        now (counts .exit) ≡ put (now (counts .entry)) 0 (list 0 sections (countAt (now (bytes .entry))))
+        ⌝ }
+{
+    for i in 0..sections {
+        counts[i] = number_at(bytes, 4 + 4 * i);
+    }
+}
+
+// Reads a recording: how many events each section has into words, and the events, four bytes each, into bytes. Refuses
+// 18, 14.
+pub fn read(bytes: &[u8], counts: &mut [u32], events: &mut [u8]) -> Held
+    ensures answer { λ r. ⌜
+        heldAnswer r ≡ readAnswer (now (bytes .entry)) (length (now (counts .entry))) (length (now (events .entry)))
+        ⌝ }
+    ensures counts { λ r. ⌜
+        now (counts .exit)
+        ≡ filled (now (counts .entry)) (recordingIn (now (bytes .entry)) .counts)
+        (readAnswer (now (bytes .entry)) (length (now (counts .entry))) (length (now (events .entry))))
+        ⌝ }
+    ensures events { λ r. ⌜
+        now (events .exit)
+        ≡ filled (now (events .entry)) (recordingIn (now (bytes .entry)) .events)
+        (readAnswer (now (bytes .entry)) (length (now (counts .entry))) (length (now (events .entry))))
+        ⌝ }
+{
+    if !is_recording(bytes) {
+        return Held::Refused(18);
+    }
+    let sections = wide(bytes[1]) as usize;
+    let head = 2 + 4 * sections;
+    if counts.len() < sections {
+        return Held::Refused(14);
+    }
+    if events.len() < bytes.len() - head {
+        return Held::Refused(14);
+    }
+    put_counts(bytes, counts, sections);
+    printing::put_bytes(events, 0, &bytes[head..]);
+    Held::Is(Head {
+        nodes: wide(bytes[0]),
+        sections: sections as u32,
+        events: ((bytes.len() - head) / 4) as u32,
+    })
+}
