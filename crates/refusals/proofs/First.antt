@@ -27,6 +27,8 @@ numbered Refusal.buffer e = omega arith
 numbered Refusal.crowded e = omega arith
 numbered Refusal.nothing e = omega arith
 numbered Refusal.script e = omega arith
+numbered Refusal.recording e = omega arith
+numbered Refusal.differs e = omega arith
 
 stops-some : {cs : List Check} {x : ℕ} → Stops cs x → x ≢ 0
 stops-some (here {c = c} e) = numbered (c .word)
