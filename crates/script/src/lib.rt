@@ -31,7 +31,7 @@ pub struct Parsed {
 // ---- Bytes
 
 // How many bytes stand before the first of a kind; all where there is none.
-fn find(s: &[u8], byte: u8) -> usize
+pub fn find(s: &[u8], byte: u8) -> usize
     ensures { λ r. ⌜ (r ≡ before byte (now (s .entry))) × (r ≤ length (now (s .entry))) ⌝ }
 {
     let mut i = 0;

@@ -1,0 +1,104 @@
+// The events of a script that was played, each with the answer that was printed for it. Any script and text may be handed.
+ghost use mathlib.Core.Path.{_≡_};
+ghost use Rattle.printing.specs.Put.{put, ends};
+ghost use Rattle.script_events.specs.Events.{fourOf, eventBytes, answerOf, lineFrom, nextFrom, eventsOf};
+use base::Kind;
+use line_parts::Number;
+use script::Line;
+
+fn low(x: u32) -> u8 {
+    (x % 256) as u8
+}
+
+// Puts an event's four bytes.
+fn put_four(events: &mut [u8], at: usize, letter: u8, first: u32, second: u32, answer: u32) -> usize
+    ensures memory { λ r. ⌜ now (events .exit) ≡ put (now (events .entry)) at (fourOf letter first second answer) ⌝ }
+    ensures place { λ r. ⌜ r ≡ ends (now (events .entry)) at (fourOf letter first second answer) ⌝ }
+{
+    let next = printing::put_two(&mut *events, at, letter, low(first));
+    printing::put_two(&mut *events, next, low(second), low(answer))
+}
+
+// Puts the event of a line; nothing where the line is none.
+fn put_event(events: &mut [u8], at: usize, line: Line, answer: u32) -> usize
+    ensures memory { λ r. ⌜ now (events .exit) ≡ put (now (events .entry)) at (eventBytes line answer) ⌝ }
+    ensures place { λ r. ⌜ r ≡ ends (now (events .entry)) at (eventBytes line answer) ⌝ }
+{
+    match line {
+        Line::Sends(kind, a, b) => match kind {
+            Kind::Job => put_four(events, at, b's', a, b, answer),
+            Kind::Note => put_four(events, at, b't', a, b, answer),
+        },
+        Line::Delivers(a, b) => put_four(events, at, b'd', a, b, answer),
+        Line::Idles(a) => put_four(events, at, b'i', a, 0, answer),
+        Line::Calls(a) => put_four(events, at, b'b', a, 0, answer),
+        _ => printing::put_bytes(events, at, b""),
+    }
+}
+
+// The answer that a printed line tells.
+fn answer_of(line: &[u8]) -> u32
+    ensures { λ r. ⌜ r ≡ answerOf (now (line .entry)) ⌝ }
+{
+    let a = script::find(line, b' ');
+    if line.len() <= a {
+        return 0;
+    }
+    let rest = &line[a + 1..];
+    let b = script::find(rest, b' ');
+    let part = &rest[..b];
+    let Number::Is(x) = line_parts::number_of(part) else {
+        return 0;
+    };
+    x
+}
+
+// The answer that the line of a text at a place tells.
+fn answer_at(text: &[u8], from: usize) -> u32
+    ensures { λ r. ⌜ r ≡ answerOf (lineFrom (now (text .entry)) from) ⌝ }
+{
+    if text.len() <= from {
+        return 0;
+    }
+    let rest = &text[from..];
+    let n = script::find(rest, b'\n');
+    answer_of(&rest[..n])
+}
+
+// Where the next line of a text begins; its end where there is none.
+fn next_from(text: &[u8], from: usize) -> usize
+    ensures { λ r. ⌜ r ≡ nextFrom (now (text .entry)) from ⌝ }
+{
+    if text.len() <= from {
+        return text.len();
+    }
+    let n = script::find(&text[from..], b'\n');
+    if n < text.len() - from {
+        return from + n + 1;
+    }
+    text.len()
+}
+
+// Puts a script's events with the answers of the text that was printed for it, as many bytes as there is room for.
+// Answers where they end.
+pub fn put_events(events: &mut [u8], script: &[u8], text: &[u8]) -> usize
+    ensures memory { λ r. ⌜
+        now (events .exit) ≡ put (now (events .entry)) 0 (eventsOf (now (script .entry)) (now (text .entry)))
+        ⌝ }
+    ensures place { λ r. ⌜
+        r ≡ ends (now (events .entry)) 0 (eventsOf (now (script .entry)) (now (text .entry)))
+        ⌝ }
+{
+    let first = script::line_at(script, 0);
+    let mut at = first.next;
+    let mut from = next_from(text, 0);
+    let mut end = 0;
+    while at < script.len() {
+        let p = script::line_at(script, at);
+        let line = p.line;
+        end = put_event(&mut *events, end, line, answer_at(text, from));
+        at = p.next;
+        from = next_from(text, from);
+    }
+    end
+}
