@@ -11,15 +11,12 @@
  * at on: `rt staticlib recording_c` writes target/staticlib/librecording_c.a. It can be linked beside the barrier's, and
  * needs nothing of it.
  *
- * An event is four bytes, as in the lines of a rehearsal:
+ * An event is four bytes: the letter of the rehearsal's line, its one or two node numbers, and the answer of the call.
  *
- *     letter    first    second    the call                                              the answer
- *     's'       a        b         node a sends a job to b: ocb_send                     that of the call
- *     't'       a        b         node a sends a note to b: ocb_send                    that of the call
- *     'd'       a        b         the oldest item from a reaches b: ocb_take,           that of the call,
- *                                  ocb_take_note or ocb_frame_in at b                    or OCB_NOTHING
- *     'i'       a        0         ocb_idle at a                                         that of the call
- *     'b'       a        0         ocb_barrier at a                                      that of the call
+ * - 's', a, b: ocb_send at node a for a job to b. 't', a, b: the same for a note.
+ * - 'd', a, b: the oldest item on the link from a reaches b, and is handed in there: ocb_take, ocb_take_note or
+ *   ocb_frame_in. Where the link has none, the answer is OCB_NOTHING.
+ * - 'i', a, 0: ocb_idle at a. 'b', a, 0: ocb_barrier at a.
  *
  * An item that is answered OCB_EARLY stays on its link; any other answer takes it off. The replay keeps what is on the
  * links in places that it is lent, and answers OCB_CROWDED where they are too few.
