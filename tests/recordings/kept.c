@@ -1,152 +1,68 @@
 /*
- * Boards played at random through the C functions, with every call told to the example of include/ocb_recording.h. From
- * time to time what that has kept is written, and has to play again with the same answers. Some boards come to rest
- * between cycles, some never do. Ends with status 1 where a recording is refused or differs, and where one of the ways in
- * which the example keeps events was never taken.
+ * Boards played at random, with every call told to the example of include/ocb_recording.h. From time to time what that has
+ * kept is written, and has to play again with the same answers. Some boards come to rest between cycles, some never do.
+ * Ends with status 1 where a recording is refused or differs, and where one of the ways in which the example keeps events
+ * was never taken.
  */
-#include "ocb.h"
-#include "ocb_recording.h"
+#include "board.h"
 
-#include <stdbool.h>
 #include <stdio.h>
 #include <stdlib.h>
-#include <string.h>
 
 void log_start(uint32_t nodes);
 void log_event(uint8_t letter, uint32_t first, uint32_t second, uint32_t answer, uint32_t put);
 uint32_t log_write(uint8_t *buffer, size_t count, uint32_t length[1]);
 
-#define NODES OCB_RECORDING_NODES
-#define WORDS OCB_STATE_WORDS(NODES)
+/* What was met: recordings, their events, those with several sections, those that begin after the board's start, and those
+ * without an event, all of which were lost. */
+static uint64_t recordings, played, parted, later, empty;
 
-enum kind { JOB, NOTE, FRAME };
+/* Events since the board was started. */
+static uint32_t told;
 
-struct item {
-    enum kind kind;
-    uint32_t from, to, count;
-    uint8_t phase, bytes[OCB_FRAME_BYTES];
-};
-
-static uint32_t states[NODES][WORDS], nodes;
-static struct item items[OCB_PLACES];
-static uint32_t under_way;
-static uint64_t seed = 1;
-
-static uint32_t below(uint32_t most)
+void on_event(uint8_t letter, uint32_t first, uint32_t second, uint32_t answer, uint32_t put)
 {
-    seed = seed * 6364136223846793005u + 1442695040888963407u;
-    return (uint32_t)(seed >> 33) % most;
+    log_event(letter, first, second, answer, put);
+    told++;
 }
 
-static void put(struct item item, uint32_t to)
-{
-    item.to = to;
-    items[under_way++] = item;
-}
-
-static void send_work(uint32_t from, uint32_t to, enum kind kind)
-{
-    struct item work = {.kind = kind, .from = from, .phase = (uint8_t)states[from][OCB_AT_PHASE]};
-    uint32_t answer = ocb_send(states[from], WORDS, to);
-    if (answer == OCB_DONE) put(work, to);
-    log_event(kind == JOB ? 's' : 't', from, to, answer, answer == OCB_DONE);
-}
-
-static void deliver(uint32_t from, uint32_t to)
-{
-    uint32_t at = 0, answer = OCB_NOTHING;
-    while (at < under_way && (items[at].from != from || items[at].to != to)) at++;
-    if (at < under_way) {
-        const struct item *item = &items[at];
-        answer = item->kind == JOB    ? ocb_take(states[to], WORDS, from, item->phase)
-                 : item->kind == NOTE ? ocb_take_note(states[to], WORDS, from, item->phase)
-                                      : ocb_frame_in(states[to], WORDS, item->bytes, item->count);
-        if (answer != OCB_EARLY) {
-            under_way--;
-            memmove(&items[at], &items[at + 1], (under_way - at) * sizeof *items);
-        }
-    }
-    log_event('d', from, to, answer, 0);
-}
-
-static void barrier(uint32_t node)
-{
-    uint32_t details[OCB_DETAIL_WORDS] = {0};
-    struct item frame = {.kind = FRAME, .from = node, .phase = (uint8_t)states[node][OCB_AT_PHASE]};
-    uint32_t answer = ocb_barrier(states[node], WORDS, frame.bytes, sizeof frame.bytes, details);
-    if (answer != OCB_SENT) details[0] = 0;
-    frame.count = details[3];
-    for (uint32_t i = 0; i < details[0]; i++) put(frame, details[1 + i]);
-    log_event('b', node, 0, answer, details[0]);
-}
-
-/* Whether a node may act: on a board that comes to rest, one that has left waits for all others. */
-static bool may_act(uint32_t node, bool rests)
-{
-    if (!rests) return true;
-    for (uint32_t other = 0; other < nodes; other++)
-        if ((uint8_t)(states[node][OCB_AT_PHASE] - states[other][OCB_AT_PHASE]) == 1) return false;
-    return true;
-}
-
-static void step(uint32_t busy, bool rests)
-{
-    uint32_t node = below(nodes), other = below(nodes), what = below(100);
-    if (under_way + 4 > OCB_PLACES || (under_way && what < 50)) {
-        const struct item *item = &items[below(under_way)];
-        if (may_act(item->to, rests)) deliver(item->from, item->to);
-        return;
-    }
-    if (!may_act(node, rests)) return;
-    if (what < 50 + busy) send_work(node, other, below(2) ? JOB : NOTE);
-    else if (what < 60 + busy) log_event('i', node, 0, ocb_idle(states[node], WORDS), 0);
-    else if (what == 99) deliver(other, node);
-    else barrier(node);
-}
-
-/* What is kept is a recording that plays again with the same answers. Answers how many events it has. */
-static uint32_t check(void)
+/* What is kept is a recording that plays again with the same answers. */
+static void check(void)
 {
     static uint8_t bytes[OCB_RECORDING_LONGEST], places[OCB_PLACE_BYTES * OCB_PLACES];
-    uint32_t length, events = 0;
+    uint32_t length = 0, events = 0;
     uint32_t answer = log_write(bytes, sizeof bytes, &length);
     if (answer == OCB_DONE) answer = ocb_replay(bytes, length, places, sizeof places, &events);
-    if (answer != OCB_DONE) {
-        printf("recordings: what the example kept is answered %u at event %u\n", answer, events);
+    if (answer != OCB_DONE || OCB_RECORDING_BYTES(bytes[1], events) != length) {
+        printf("recordings: what the example kept, %u bytes, is answered %u at event %u\n", length, answer, events);
         exit(1);
     }
-    if (OCB_RECORDING_BYTES(bytes[1], events) != length) {
-        printf("recordings: %u events in %u bytes\n", events, length);
-        exit(1);
-    }
-    return events;
+    recordings++;
+    played += events;
+    parted += bytes[1] > 1;
+    later += events > 0 && events < told;
+    empty += events == 0 && told > 0;
 }
 
 int main(void)
 {
-    uint64_t recordings = 0, played = 0, sections = 0, empty = 0, phases = 0;
     for (uint32_t board = 0; board < 400; board++) {
-        nodes = 1 + below(NODES);
-        under_way = 0;
-        for (uint32_t node = 0; node < nodes; node++) ocb_fresh(states[node], WORDS, nodes, node);
-        log_start(nodes);
-        uint32_t busy = below(8);
+        uint32_t nodes = 1 + below(OCB_RECORDING_NODES), busy = below(8);
         bool rests = below(4) != 0;
+        board_start(nodes);
+        log_start(nodes);
+        told = 0;
         for (uint32_t part = 0; part < 20; part++) {
-            for (uint32_t i = below(400); i > 0; i--) step(busy, rests);
-            uint32_t events = check();
-            recordings++;
-            played += events;
-            empty += events == 0;
+            for (uint32_t i = below(400); i > 0; i--) board_step(busy, rests);
+            check();
         }
-        phases += states[0][OCB_AT_PHASE];
     }
-    sections = phases;
-    if (empty == 0 || played == 0 || sections == 0) {
+    printf("recordings: %llu written by the header's example and played again, %llu events; %llu of several sections, %llu"
+           " begun at a rest, %llu without an event\n", (unsigned long long)recordings, (unsigned long long)played,
+           (unsigned long long)parted, (unsigned long long)later, (unsigned long long)empty);
+    if (!parted || !later || !empty) {
         printf("recordings: a way of keeping events was never taken\n");
         return 1;
     }
-    printf("recordings: %llu written by the header's example and played again, %llu events; %llu after events were lost\n",
-           (unsigned long long)recordings, (unsigned long long)played, (unsigned long long)empty);
     return 0;
 }
