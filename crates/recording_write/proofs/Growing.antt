@@ -8,11 +8,7 @@ use lib.ListN.{length, getD, take, drop, take-append-drop}
 use lib.Seq.{take-suc}
 use Rattle.recording.specs.Recording.{twoBytes, table}
 use Rattle.recording.specs.Test.{sum}
-
-sum-append : (xs ys : List ℕ) → sum (xs ++ ys) ≡ sum xs + sum ys
-unfolding sum
-sum-append [] ys = omega arith
-sum-append (x ∷ xs) ys = omega (arith, sum-append xs ys)
+use Rattle.recording.proofs.Sums.{sum-append}
 
 sum-one : (x : ℕ) → sum (x ∷ []) ≡ x
 unfolding sum
