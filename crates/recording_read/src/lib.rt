@@ -5,7 +5,7 @@ ghost use Prim.Native.Nat.{_+_, _≤_, _<_};
 ghost use lib.ListN.{length, drop};
 ghost use Rattle.base.specs.Choice.{list};
 ghost use Rattle.printing.specs.Put.{put};
-ghost use Rattle.recording.specs.Recording.{numberAt, bodies, countAt, recordingIn};
+ghost use Rattle.recording.specs.Recording.{numberAt, bodies, sectionsIn, countAt, recordingIn};
 ghost use Rattle.recording.specs.Test.{sum, placed, isBadIn};
 ghost use Rattle.recording_read.specs.Read.{readAnswer, heldAnswer, filled};
 
@@ -36,6 +36,14 @@ fn number_at(bytes: &[u8], at: usize) -> u32
     let low = wide(bytes[at]);
     let high = wide(bytes[at + 1]);
     low + 256 * high
+}
+
+// How many sections the bytes are to have.
+fn sections_of(bytes: &[u8]) -> usize
+    requires { ⌜ 2 ≤ length (now bytes) ⌝ }
+    ensures { λ r. ⌜ (r ≡ sectionsIn (now (bytes .entry))) × (r < 256) ⌝ }
+{
+    wide(bytes[1]) as usize
 }
 
 // The bytes from a place on.
@@ -80,7 +88,7 @@ pub fn is_recording(bytes: &[u8]) -> bool
     if bytes.len() < 2 {
         return false;
     }
-    let sections = wide(bytes[1]) as usize;
+    let sections = sections_of(bytes);
     let head = 2 + 4 * sections;
     if bytes.len() < head {
         return false;
@@ -127,7 +135,7 @@ pub fn read(bytes: &[u8], counts: &mut [u32], events: &mut [u8]) -> Held
     if !is_recording(bytes) {
         return Held::Refused(18);
     }
-    let sections = wide(bytes[1]) as usize;
+    let sections = sections_of(bytes);
     let text = from(bytes, 2 + 4 * sections);
     if counts.len() < sections {
         return Held::Refused(14);

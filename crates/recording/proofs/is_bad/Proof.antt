@@ -9,24 +9,28 @@ use Prim.Native.Nat.{ℕ, _+_, _*_, _≤_, _<_}
 use lib.ListN.{length}
 use Rattle.recording.specs.Recording.{bodies}
 use Rattle.recording.specs.Test.{outside, goodEvents, isBadBy}
+use Rattle.recording.proofs.Tests.{above}
 use Rattle.recording.proofs.is_bad.Statement.{statement}
 use Rattle.recording.proofs.is_bad.Tie as tie
 
 within : (most x : ℕ) → (x ≡ 0 → ⊥) → x ≤ most → outside most x ≡ false
 within most x p l = rw (ne-eqb x 0 p, le-ltb most x l)
 
-above : (most x : ℕ) → most < x → outside most x ≡ true
-above most x l = rw (ne-eqb x 0 (λ e. omega arith), lt-ltb most x l)
-
 module _ (nodes sections total : ℕ) (events : List ℕ) where
   bad-nodes : outside 16 nodes ≡ true → true ≡ isBadBy nodes sections total events
   unfolding isBadBy
   bad-nodes e = rw e
 
+  many-nodes : 16 < nodes → true ≡ isBadBy nodes sections total events
+  many-nodes l = bad-nodes (above 16 nodes l)
+
   module _ (n : (nodes ≡ 0 → ⊥) × (nodes ≤ 16)) where
     bad-sections : outside 32 sections ≡ true → true ≡ isBadBy nodes sections total events
     unfolding isBadBy
     bad-sections e = rw (within 16 nodes (n .0) (n .1), e)
+
+    many-sections : 32 < sections → true ≡ isBadBy nodes sections total events
+    many-sections l = bad-sections (above 32 sections l)
 
     module _ (s : (sections ≡ 0 → ⊥) × (sections ≤ 32)) where
       bad-count : (4 * total ≡ length events → ⊥) → true ≡ isBadBy nodes sections total events
@@ -59,13 +63,13 @@ returns : tie.Need-returns
 returns c = bad-nodes _ _ _ _ (ap (outside 16) (c .if1 .taken))
 
 returns-2 : tie.Need-returns-2
-returns-2 c = bad-nodes _ _ _ _ (above 16 _ (c .if2 .taken))
+returns-2 c = many-nodes _ _ _ _ (omega arith)
 
 returns-3 : tie.Need-returns-3
 returns-3 c = bad-sections _ _ _ _ (search needs) (ap (outside 32) (c .if3 .taken))
 
 returns-4 : tie.Need-returns-4
-returns-4 c = bad-sections _ _ _ _ (search needs) (above 32 _ (c .if4 .taken))
+returns-4 c = many-sections _ _ _ _ (search needs) (omega arith)
 
 returns-5 : tie.Need-returns-5
 returns-5 c = bad-count _ _ _ _ (search needs) (search needs) (λ e. omega arith)

@@ -19,60 +19,60 @@ returns c =
 
 good : (c : tie.Else1) → isBadIn (now (c .before .before .before .before .before .args .bytes)) ≡ false
 good c =
-    let r = c .before .is-recording in
-    not-true _ (sym (r .ensures) ∙ not-false (r .result) (c .if1 .left))
+    let r = c .before .is-recording in not-true _ (sym (r .ensures) ∙ not-false (r .result) (c .if1 .left))
 
 sizes : (c : tie.Else1) → HeldSizes (now (c .before .before .before .before .before .args .bytes))
 sizes c = held-sizes _ (good c)
 
-shared-slice-read-wide : tie.Need-shared-slice-read-wide
-shared-slice-read-wide c = let s = sizes (c .before) in omega arith
+sections-of-requires : tie.Need-sections-of-requires
+sections-of-requires c κs = let s = sizes c in omega arith
 
 from-requires : tie.Need-from-requires
-from-requires c κs = let s = sizes (c .before .before) in omega arith
+from-requires c κs = let s = sizes (c .before) in omega arith
 
 returns-2 : tie.Need-returns-2
 returns-2 c =
-    let w = c .before .before in
-    few-words _ _ _ (good (w .before .before)) _ _ (w .wide .ensures .0) (c .before .from .ensures) (c .if2 .taken)
+    let text = c .before in
+    let n = text .before in
+    few-words _ _ _ (good (n .before)) _ _ (n .sections-of .ensures .0) (text .from .ensures) (omega arith)
 
 returns-3 : tie.Need-returns-3
 returns-3 c =
-    let f = c .before .before in
-    few-bytes _ _ _ (good (f .before .before .before)) _ _ (f .before .wide .ensures .0) (f .from .ensures)
-    (c .before .if2 .left) (c .if3 .taken)
+    let text = c .before .before in
+    let n = text .before in
+    few-bytes _ _ _ (good (n .before)) _ _ (n .sections-of .ensures .0) (text .from .ensures) (omega arith)
+    (omega arith)
 
 put-counts-requires : tie.Need-put-counts-requires
 put-counts-requires c κs =
-    let w = c .before .before .before .before in
-    let s = sizes (w .before .before) in (omega arith, omega arith, omega arith)
+    let s = sizes (c .before .before .before .before .before) in (omega arith, omega arith, omega arith)
 
-shared-slice-read-wide-2 : tie.Need-shared-slice-read-wide-2
-shared-slice-read-wide-2 c =
-    let put = c .before .before .before .before .before .before .before in
-    let f = put .before .before .before .before in
-    let s = sizes (f .before .before .before) in omega arith
+-- before the counts are put
+abbrev begun : tie.After-put-bytes → tie.Else3
+begun c = c .before .before .before .before .before .before
 
-cast-t20 : tie.Need-cast-t20
-cast-t20 c =
-    let put = c .before .before .before .before .before .before .before .before in
-    let f = put .before .before .before .before in
-    let s = sizes (f .before .before .before) in omega (arith, simp length-drop at (ap length (f .from .ensures)))
+shared-slice-read-wide : tie.Need-shared-slice-read-wide
+shared-slice-read-wide c =
+    let s = sizes (begun (c .before .before .before) .before .before .before .before) in omega arith
+
+cast-t19 : tie.Need-cast-t19
+cast-t19 c =
+    let text = begun (c .before .before .before .before) .before .before in
+    let s = sizes (text .before .before) in omega (arith, simp length-drop at (ap length (text .from .ensures)))
 
 returns-4 : tie.Need-returns-4
 returns-4 c =
-    let text = c .before .before .before .before in
-    let put = text .before .before .before .before in
-    let asked = put .before .before in
-    let f = asked .before .before in
-    is-read _ _ _ (good (f .before .before .before)) _ _ (f .before .wide .ensures .0) (f .from .ensures)
-    (asked .before .if2 .left) (asked .if3 .left) _ _ _ (c .wide2 .ensures .0) (put .put-counts .ensures)
-    (text .put-bytes .ensures .0)
+    let put = c .before .before .before .before in
+    let b = begun put in
+    let text = b .before .before in
+    let n = text .before in
+    is-read _ _ _ (good (n .before)) _ _ (n .sections-of .ensures .0) (text .from .ensures) (omega arith) (omega arith)
+    _ _ _ (c .wide .ensures .0) (put .before .before .before .before .put-counts .ensures)
+    (put .put-bytes .ensures .0)
 
 pub read-spec : {M : Type 1} → statement M
 read-spec =
     tie.close
-    (tie.spec (λ c κs. search needs) returns shared-slice-read-wide (λ c κs. search needs) (λ c. search needs)
-    (λ c. search needs) (λ c. search needs) from-requires returns-2 returns-3 put-counts-requires
-    (λ c κs. search needs) shared-slice-read-wide-2 (λ c κs. search needs) (λ c. search needs) cast-t20
-    (λ c. search needs) (λ c. search needs) returns-4)
+    (tie.spec (λ c κs. search needs) returns sections-of-requires (λ c. search needs) (λ c. search needs)
+    from-requires returns-2 returns-3 put-counts-requires (λ c κs. search needs) shared-slice-read-wide
+    (λ c κs. search needs) (λ c. search needs) cast-t19 (λ c. search needs) (λ c. search needs) returns-4)
