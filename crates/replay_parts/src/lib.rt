@@ -35,8 +35,7 @@ fn byte_at(bytes: &[u8], at: usize) -> u8
 }
 
 // Where an event of a recording stands.
-fn place_of(bytes: &[u8], i: u32) -> usize
-{
+fn place_of(bytes: &[u8], i: u32) -> usize {
     2 + 4 * byte_at(bytes, 1) as usize + 4 * i as usize
 }
 
