@@ -1,0 +1,4 @@
+pub mod Sums
+pub mod Sizes
+pub mod Tables
+pub mod Survives
