@@ -2,3 +2,4 @@ pub mod Sums
 pub mod Sizes
 pub mod Tables
 pub mod Survives
+pub mod Tests

@@ -54,7 +54,7 @@ module _ (r : Recording) (e : isBad r ≡ false) where
 -- ---- Read, then written
 
 module _ (bs : List ℕ) (e : isBadIn bs ≡ false) where
-  known : (bodies (sectionsIn bs) ≤ length bs) × (placed bs (bodies (sectionsIn bs)) 0 (sectionsIn bs) ≡ true)
+  pub known : (bodies (sectionsIn bs) ≤ length bs) × (placed bs (bodies (sectionsIn bs)) 0 (sectionsIn bs) ≡ true)
       × (isBad (recordingIn bs) ≡ false)
   unfolding isBadIn
   known =

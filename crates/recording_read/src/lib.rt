@@ -2,7 +2,7 @@
 ghost use mathlib.Core.Path.{_≡_};
 ghost use mathlib.Core.Bool.{not};
 ghost use Prim.Native.Nat.{_+_, _*_, _≤_, _<_};
-ghost use lib.ListN.{length};
+ghost use lib.ListN.{length, drop};
 ghost use Rattle.base.specs.Choice.{list};
 ghost use Rattle.printing.specs.Put.{put};
 ghost use Rattle.recording.specs.Recording.{numberAt, bodies, sectionsIn, countAt, recordingIn};
@@ -36,6 +36,14 @@ fn number_at(bytes: &[u8], at: usize) -> u32
     let low = wide(bytes[at]);
     let high = wide(bytes[at + 1]);
     low + 256 * high
+}
+
+// The bytes from a place on.
+fn from(bytes: &[u8], at: usize) -> &[u8]
+    requires { ⌜ at ≤ length (now bytes) ⌝ }
+    ensures { λ r. ⌜ now r ≡ drop at (now (bytes .entry)) ⌝ }
+{
+    &bytes[at..]
 }
 
 // The bodies of so many sections stand one after the other behind the table.
@@ -84,7 +92,7 @@ pub fn is_recording(bytes: &[u8]) -> bool
         return false;
     }
     let total = total_of(bytes, sections);
-    !recording::is_bad(wide(bytes[0]), sections, total, &bytes[head..])
+    !recording::is_bad(wide(bytes[0]), sections, total, from(bytes, head))
 }
 
 // Puts how many events each section has.
@@ -128,7 +136,7 @@ pub fn read(bytes: &[u8], counts: &mut [u32], events: &mut [u8]) -> Held
         return Held::Refused(14);
     }
     put_counts(bytes, counts, sections);
-    printing::put_bytes(events, 0, &bytes[head..]);
+    printing::put_bytes(events, 0, from(bytes, head));
     Held::Is(Head {
         nodes: wide(bytes[0]),
         sections: sections as u32,
