@@ -1,7 +1,7 @@
 -- `replays::play_again` meets its contract: a walk of its MIR. Each turn reads an event of the recording, steps, and
--- holds the answer to the recorded one; each slice is lent again for each call. What holds at the loop's head is `Inv` of
--- `Played.antt`.
-use mathlib.Core.Path.{_≡_, refl, _∙_}
+-- holds the answer to the recorded one; each slice is lent again for each call. What holds at the loop's head is `Inv`
+-- of `Played.antt`.
+use mathlib.Core.Path.{_≡_, refl}
 use mathlib.Core.Bool.{Bool}
 use mathlib.Core.List.{List, [], _∷_}
 use Prim.Native.Nat.{ℕ, zero, suc, _<_, _≤_, _+_, _^_}
@@ -355,20 +355,13 @@ module _ {M : Type 1} (𝓤 : URA M) (H : Heap 𝓤) (A : Atoms 𝓤) (W : Given
         -- [recording; true; bytes; items; κ₂'s; true; κ₁'s; κ₀'s]
         keep ! (3 ∷ 7 ∷ 2 ∷ 6 ∷ 0 ∷ 4 ∷ []) $ enter ! C Λ code.function (s₀ ∷ s₁ ∷ s₂ ∷ []) _ $
         alloc1 ! (λ l₀. alloc1 !
-        (λ l₁. alloc1 !
-        (λ l₂. alloc1 !
-        (λ l₃. alloc1 !
-        (λ l₄. alloc1 !
-        (λ l₅. alloc1 !
-        (λ l₆. alloc1 !
-        (λ l₇. alloc1 !
-        (λ l₈. alloc1 !
-        (λ l₉. alloc1 !
-        (λ l₁₀. alloc1 !
-        (λ l₁₁. alloc1 !
-        (λ l₁₂. alloc1 !
-        (λ l₁₃. alloc1 !
-        (λ l₁₄. alloc0 ! $ move ! (30 ∷ 31 ∷ 32 ∷ 33 ∷ 34 ∷ 35 ∷ []) $ params1 ! $
+        (λ l₁. alloc1 ! (λ l₂. alloc1 !
+        (λ l₃. alloc1 ! (λ l₄. alloc1 !
+        (λ l₅. alloc1 ! (λ l₆. alloc1 !
+        (λ l₇. alloc1 ! (λ l₈. alloc1 !
+        (λ l₉. alloc1 ! (λ l₁₀. alloc1 !
+        (λ l₁₁. alloc1 ! (λ l₁₂. alloc1 !
+        (λ l₁₃. alloc1 ! (λ l₁₄. alloc0 ! $ move ! (30 ∷ 31 ∷ 32 ∷ 33 ∷ 34 ∷ 35 ∷ []) $ params1 ! $
         pass1 ! (init ! 32 refl (tt, (tt, (record { fits = room₀ .0 }, tt)))) $
         pass1 ! (init ! 30 refl (tt, (tt, (record { fits = room₁ .0 }, tt)))) $
         pass1 ! (init ! 28 refl (tt, (tt, (record { fits = room₂ .0 }, tt)))) $ pass0 ! $
