@@ -1,11 +1,11 @@
 // Recordings in lent bytes: tested there, and read into lent words and bytes. Any bytes may be handed.
 ghost use mathlib.Core.Path.{_≡_};
 ghost use mathlib.Core.Bool.{not};
-ghost use Prim.Native.Nat.{_+_, _*_, _≤_, _<_};
+ghost use Prim.Native.Nat.{_+_, _≤_, _<_};
 ghost use lib.ListN.{length, drop};
 ghost use Rattle.base.specs.Choice.{list};
 ghost use Rattle.printing.specs.Put.{put};
-ghost use Rattle.recording.specs.Recording.{numberAt, bodies, sectionsIn, countAt, recordingIn};
+ghost use Rattle.recording.specs.Recording.{numberAt, bodies, countAt, recordingIn};
 ghost use Rattle.recording.specs.Test.{sum, placed, isBadIn};
 ghost use Rattle.recording_read.specs.Read.{readAnswer, heldAnswer, filled};
 
@@ -128,18 +128,18 @@ pub fn read(bytes: &[u8], counts: &mut [u32], events: &mut [u8]) -> Held
         return Held::Refused(18);
     }
     let sections = wide(bytes[1]) as usize;
-    let head = 2 + 4 * sections;
+    let text = from(bytes, 2 + 4 * sections);
     if counts.len() < sections {
         return Held::Refused(14);
     }
-    if events.len() < bytes.len() - head {
+    if events.len() < text.len() {
         return Held::Refused(14);
     }
     put_counts(bytes, counts, sections);
-    printing::put_bytes(events, 0, from(bytes, head));
+    printing::put_bytes(events, 0, text);
     Held::Is(Head {
         nodes: wide(bytes[0]),
         sections: sections as u32,
-        events: ((bytes.len() - head) / 4) as u32,
+        events: (text.len() / 4) as u32,
     })
 }

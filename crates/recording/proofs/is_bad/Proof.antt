@@ -6,7 +6,6 @@ use mathlib.Core.Bool.{true, false, not}
 use mathlib.Core.List.{List}
 use mathlib.Core.Path.{_≡_, ap, _∙_}
 use Prim.Native.Nat.{ℕ, _+_, _*_, _≤_, _<_}
-use lib.Dec.{ltb, eqb}
 use lib.ListN.{length}
 use Rattle.recording.specs.Recording.{bodies}
 use Rattle.recording.specs.Test.{outside, goodEvents, isBadBy}
@@ -78,7 +77,9 @@ returns-7 : tie.Need-returns-7
 returns-7 c = bad-size _ _ _ _ (search needs) (search needs) (omega arith) (omega arith)
 
 returns-8 : tie.Need-returns-8
-returns-8 c = ap not (c .events-good .ensures) ∙ by-events _ _ _ _ (search needs) (search needs) (omega arith) (omega arith)
+returns-8 c =
+    ap not (c .events-good .ensures)
+    ∙ by-events _ _ _ _ (search needs) (search needs) (omega arith) (omega arith)
 
 pub is-bad-spec : {M : Type 1} → statement M
 is-bad-spec =
