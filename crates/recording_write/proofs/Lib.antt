@@ -1,2 +1,3 @@
 pub mod Growing
 pub mod Turns
+pub mod Writing

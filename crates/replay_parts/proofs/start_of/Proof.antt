@@ -3,31 +3,30 @@ use borrow.Author.Needs.{needs}
 use borrow.Author.Tests.{not-true, not-false}
 use native.Mathlib.Omega.{arith}
 use mathlib.Core.Path.{_≡_, sym, _∙_}
-use mathlib.Core.Bool.{false}
+use mathlib.Core.Bool.{true, false}
 use lib.ListN.{length-drop}
-use Rattle.base.proofs.Laws.{choose-yes, choose-no}
 use Rattle.recording.specs.Recording.{recordingIn}
 use Rattle.recording.specs.Test.{isBadIn}
+use Rattle.recording.proofs.Tests.{held-sizes}
 use Rattle.replay_parts.specs.Parts.{startOf}
-use Rattle.replay_parts.proofs.Places.{within}
 use Rattle.replay_parts.proofs.start_of.Statement.{statement}
 use Rattle.replay_parts.proofs.start_of.Tie as tie
 
-returns : tie.Need-returns
-unfolding startOf
-returns c =
-    let b = c .before in
-    let w = b .before .is-recording .ensures in
-    rw (not-false (isBadIn (b .before .before .before .args .recording .now)) (sym w ∙ not-true _ (b .if1 .taken)), c .open-stage .ensures)
+bad : (c : tie.Then1) → isBadIn (c .before .before .before .args .recording .now) ≡ true
+bad c = not-false _ (sym (c .before .is-recording .ensures) ∙ not-true _ (c .if1 .taken))
 
 good : (c : tie.Else1) → isBadIn (c .before .before .before .args .recording .now) ≡ false
 good c = not-true _ (sym (c .before .is-recording .ensures) ∙ not-false _ (c .if1 .left))
 
+returns : tie.Need-returns
+unfolding startOf
+returns c = rw (bad (c .before), c .open-stage .ensures)
+
 sub-t9 : tie.Need-sub-t9
-sub-t9 c = let w = within _ (good (c .before .before .before)) in omega arith
+sub-t9 c = let w = held-sizes _ (good (c .before .before .before)) in omega arith
 
 cast-t13 : tie.Need-cast-t13
-cast-t13 c = let w = within _ (good (c .before .before .before)) in omega arith
+cast-t13 c = let w = held-sizes _ (good (c .before .before .before)) in omega arith
 
 returns-2 : tie.Need-returns-2
 unfolding startOf recordingIn
