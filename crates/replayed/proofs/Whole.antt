@@ -52,7 +52,7 @@ event-good : (r : Recording) → Sized r → (i : ℕ) → i < eventCount r → 
 unfolding goodEvents lineOf
 event-good r g i h =
     line-good (r .nodes) (eventByte (r .events) i 0) (eventByte (r .events) i 1) (eventByte (r .events) i 2)
-    (every-at 0 (eventCount r) (goodAt (r .nodes) (r .events)) (g .good) i (omega arith) (omega arith))
+    (every-at 0 (eventCount r) (goodAt (r .nodes) (r .events)) (g .events) i (omega arith) (omega arith))
 
 -- ---- the events, whether or not they answer as recorded
 
@@ -77,8 +77,8 @@ module _ (r : Recording) where
   prints g (suc more) i h st items bytes w s ran =
       let l = lineOf r i in
       let t = turnOf st items bytes l in
-      prints-one (r .nodes) (g .some) (g .nodes) w l t (toldBy more (i + 1) (t .stage) (t .items) (t .bytes)) ran
-      (plays (r .nodes) (g .some) (g .nodes) st items bytes w s ran l
+      prints-one (r .nodes) (g .board) (g .nodes) w l t (toldBy more (i + 1) (t .stage) (t .items) (t .bytes)) ran
+      (plays (r .nodes) (g .board) (g .nodes) st items bytes w s ran l
       (ap (λ size. isEvent size l) (s .size) ∙ event-good r g i (omega arith)))
       (prints g more (i + 1) (omega arith) (t .stage) (t .items) (t .bytes))
 
@@ -124,6 +124,6 @@ every-replay bs items bytes e =
           answered r n 0 st items bytes
           (omega (arith, ltb-false (replay bs items bytes .same) n (z .1), ap (λ c. c .same) played));
       isRun =
-          is-run (r .nodes) (g .some) (g .nodes) items bytes (toldBy r n 0 st items bytes)
+          is-run (r .nodes) (g .board) (g .nodes) items bytes (toldBy r n 0 st items bytes)
           (prints r g n 0 (omega arith) st items bytes);
     }

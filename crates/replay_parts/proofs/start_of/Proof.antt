@@ -7,8 +7,8 @@ use mathlib.Core.Bool.{true, false}
 use lib.ListN.{length-drop}
 use Rattle.recording.specs.Recording.{recordingIn}
 use Rattle.recording.specs.Test.{isBadIn}
+use Rattle.recording.proofs.Tests.{held-sizes}
 use Rattle.replay_parts.specs.Parts.{startOf}
-use Rattle.replay_parts.proofs.Places.{within}
 use Rattle.replay_parts.proofs.start_of.Statement.{statement}
 use Rattle.replay_parts.proofs.start_of.Tie as tie
 
@@ -23,10 +23,10 @@ unfolding startOf
 returns c = rw (bad (c .before), c .open-stage .ensures)
 
 sub-t9 : tie.Need-sub-t9
-sub-t9 c = let w = within _ (good (c .before .before .before)) in omega arith
+sub-t9 c = let w = held-sizes _ (good (c .before .before .before)) in omega arith
 
 cast-t13 : tie.Need-cast-t13
-cast-t13 c = let w = within _ (good (c .before .before .before)) in omega arith
+cast-t13 c = let w = held-sizes _ (good (c .before .before .before)) in omega arith
 
 returns-2 : tie.Need-returns-2
 unfolding startOf recordingIn
