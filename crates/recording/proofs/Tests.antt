@@ -19,6 +19,9 @@ either-right : (s : Bool) {t : Bool} → t ≡ true → either s t ≡ true
 either-right true e = refl
 either-right false e = e
 
+pub above : (most x : ℕ) → most < x → outside most x ≡ true
+above most x l = rw (ne-eqb x 0 (λ e. omega arith), lt-ltb most x l)
+
 -- ---- Where bodies begin
 
 module _ (bs : List ℕ) where
@@ -57,9 +60,7 @@ module _ (bs : List ℕ) where
   bad-many h =
       either-right (ltb (length bs) (bodies (sectionsIn bs)))
       (either-right (not (placed bs (bodies (sectionsIn bs)) 0 (sectionsIn bs)))
-      (held
-      ∙ either-right (outside 16 (getD bs 0 0))
-      (rw (ne-eqb (sectionsIn bs) 0 (λ e. omega arith), lt-ltb 32 (sectionsIn bs) h))))
+      (held ∙ either-right (outside 16 (getD bs 0 0)) (rw (above 32 (sectionsIn bs) h))))
 
   -- by the number of sections as it was read
   module _ (n : ℕ) (read : n ≡ sectionsIn bs) where

@@ -38,12 +38,12 @@ between letter p q = go (ℕ-discrete letter 115)
     go (no n) = let e : letter ≡ 116 = omega arith in ap hasTwo e
 
 returns : tie.Need-returns
-returns c = rw (le-ltb _ _ (c .if1 .taken))
+returns c = let x = c .before .args in rw (le-ltb (x .first) (x .nodes) (omega arith))
 
 returns-2 : tie.Need-returns-2
 returns-2 c =
     let x = c .before .before .args in
-    let is = one (x .nodes) (x .letter) (x .first) (x .second) (c .before .if1 .left) in
+    let is = one (x .nodes) (x .letter) (x .first) (x .second) (omega arith) in
     ⊎-elim (λ e. is (ap hasTwo e) (ap hasOne e)) (λ e. is (ap hasTwo e) (ap hasOne e)) (c .match .keys2)
 
 returns-3 : tie.Need-returns-3
@@ -59,7 +59,7 @@ returns-4 c =
 returns-5 : tie.Need-returns-5
 returns-5 c =
     let x = c .before .before .args in
-    two (x .nodes) (x .letter) (x .first) (x .second) (c .before .if1 .left)
+    two (x .nodes) (x .letter) (x .first) (x .second) (omega arith)
     (⊎-elim (λ w. ap hasTwo (w .keys1)) (λ w. between _ (w .1 .left) (w .2 .taken)) (c .match .came))
 
 pub event-good-spec : {M : Type 1} → statement M

@@ -1,9 +1,8 @@
 -- `total_of`: before section i is counted, the events of those before it are.
 use borrow.Author.Needs.{needs}
 use native.Mathlib.Omega.{arith}
-use mathlib.Core.Path.{_≡_, refl, sym, ap, _∙_}
+use mathlib.Core.Path.{_≡_, refl}
 use Prim.Native.Nat.{_-_, _*_, _≤_}
-use denote.Ref.{now}
 use Rattle.base.specs.Choice.{list}
 use Rattle.recording.specs.Recording.{countAt}
 use Rattle.recording.specs.Test.{sum}
