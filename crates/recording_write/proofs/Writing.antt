@@ -1,4 +1,4 @@
--- The writer refuses by its checks in their order; otherwise its pieces are the recording's bytes, put from the start on.
+-- The writer refuses by its checks in their order; else its pieces are the recording's bytes, put from the start on.
 use native.Mathlib.Omega.{arith}
 use mathlib.Core.Path.{_≡_, refl, sym, ap, _∙_}
 use mathlib.Core.Bool.{true, false}
