@@ -78,8 +78,8 @@ module _ (recording : List ℕ) (items : List Item) (bytes : List ℕ) where
     pub long-bytes : length bs ≡ length bytes
 
   -- none is left
-  none-left : (most i : ℕ) (st : Stage) (zs : List Item) (bs : List ℕ) → i ≤ most → replayFrom r (most - i) i st zs bs ≡ goal
-      → most ≤ i → course most zs bs ≡ goal
+  none-left : (most i : ℕ) (st : Stage) (zs : List Item) (bs : List ℕ) → i ≤ most
+      → replayFrom r (most - i) i st zs bs ≡ goal → most ≤ i → course most zs bs ≡ goal
   unfolding replayFrom
   none-left most i st zs bs h e k =
       let z : most - i ≡ 0 = omega arith in
