@@ -5,14 +5,16 @@ use mathlib.Core.Bool.{true, false}
 use mathlib.Core.List.{List}
 use Prim.Native.Nat.{ℕ, _+_, _-_, _≤_, _<_, _%_}
 use native.Mathlib.Omega.{arith}
+use lib.Dec.{ltb}
 use lib.ListN.{length, getD, set}
-use borrow.Author.Tests.{le-ltb, ne-eqb}
+use borrow.Author.Tests.{ltb-true, le-ltb, ne-eqb}
 use Rattle.base.specs.Choice.{either}
 use Rattle.base.specs.Limits.{base}
-use Rattle.base.proofs.Laws.{clash}
+use Rattle.base.proofs.Laws.{clash, both-true}
 use Rattle.tree.specs.Lookups.{badBoard}
 use Rattle.script.specs.declared.Line.{Line}
 use Rattle.script.specs.declared.Line.the-variants.{Nodes, Sends, Delivers, Idles, Calls, Bad}
+use Rattle.script.proofs.Named.{isEvent}
 use Rattle.items.specs.Places.{noItem, oldestAt, oldestWithin}
 use Rattle.item_changes.specs.Places.{removedWithin, moved}
 use Rattle.items.specs.declared.Item.{Item}
@@ -36,6 +38,16 @@ Near (Delivers a b) = (a < 256) × (b < 256)
 Near (Idles a) = Unit {0}
 Near (Calls a) = Unit {0}
 Near Bad = Unit {0}
+
+pub near : (size : ℕ) → size ≤ 256 → (l : Line) → isEvent size l ≡ true → Near l
+near size h (Nodes P) e = tt
+near size h (Sends kind a b) e = tt
+near size h (Delivers a b) e =
+    let k = both-true (ltb a size) (ltb b size) e in
+    (omega (arith, ltb-true a size (k .0)), omega (arith, ltb-true b size (k .1)))
+near size h (Idles a) e = tt
+near size h (Calls a) e = tt
+near size h Bad e = tt
 
 -- what a step leaves, as a turn
 abbrev pub turnAfter : Stage → List Item → List ℕ → Line → Turn

@@ -18,7 +18,9 @@ use Rattle.stage.specs.declared.Stage.{Stage}
 use Rattle.turns.specs.Events.{turnOf}
 use Rattle.rehearsed.specs.Run.{Told, toldOf}
 use Rattle.rehearsed.proofs.Same.{Same}
-use Rattle.rehearsed.proofs.Events.{isEvent, Ran, Prints, plays, prints-one, is-run}
+use Rattle.script.proofs.Named.{isEvent}
+use Rattle.replay_parts.proofs.Good.{event-good}
+use Rattle.rehearsed.proofs.Events.{Ran, Prints, plays, prints-one, is-run}
 use Rattle.recording.specs.Recording.{Recording, eventCount, eventByte, recordingIn}
 use Rattle.recording.specs.Test.{goodEvent, goodAt, goodEvents, isBadIn}
 use Rattle.recording.proofs.Sizes.{Sized, sized}
@@ -27,32 +29,6 @@ use Rattle.replay_parts.specs.Events.{lineBy, lineOf, answerOf}
 use Rattle.replay_parts.specs.declared.Replayed.{Replayed}
 use Rattle.replays.specs.Replay.{course, replayFrom, replay, replayAnswer}
 use Rattle.replayed.specs.Run.{Recorded, EveryReplay}
-
--- ---- an event that is not refused is one of the board
-
-line-good : (nodes letter a b : ℕ) → goodEvent nodes letter a b ≡ true → isEvent nodes (lineBy letter a b) ≡ true
-line-good nodes letter a b =
-    go (eqb letter 115) (eqb letter 116) (eqb letter 100) (eqb letter 105) (eqb letter 98)
-  where
-    go : (s t d i c : Bool)
-        → both (ltb a nodes) (choose (either s (either t d)) (ltb b nodes) (both (either i c) (eqb b 0))) ≡ true
-        → isEvent nodes
-        (choose s (Sends Job a b)
-        (choose t (Sends Note a b) (choose d (Delivers a b) (choose i (Idles a) (choose c (Calls a) Bad)))))
-        ≡ true
-    go true t d i c e = e
-    go false true d i c e = e
-    go false false true i c e = e
-    go false false false true c e = both-true (ltb a nodes) _ e .0
-    go false false false false true e = both-true (ltb a nodes) _ e .0
-    go false false false false false e = clash (sym (both-true (ltb a nodes) false e .1))
-
--- event i of what is not refused
-event-good : (r : Recording) → Sized r → (i : ℕ) → i < eventCount r → isEvent (r .nodes) (lineOf r i) ≡ true
-unfolding goodEvents lineOf
-event-good r g i h =
-    line-good (r .nodes) (eventByte (r .events) i 0) (eventByte (r .events) i 1) (eventByte (r .events) i 2)
-    (every-at 0 (eventCount r) (goodAt (r .nodes) (r .events)) (g .events) i (omega arith) (omega arith))
 
 -- ---- the events, whether or not they answer as recorded
 
