@@ -34,11 +34,11 @@
 //! - Removal (rule S6): the places in use above the gap move down whole, and the place that was the
 //!   last in use keeps what it had. Places lent beyond 512 are not touched. The number of places is
 //!   the smallest of 512, the headers lent and the whole 76-byte parts of the buffer lent.
-//! - Recordings: at least one section, and any of them may be empty; an empty one's offset is where its body
-//!   would begin. Lengths are 2 more than a multiple of 4, so that the longest has 59,998 bytes. The test
-//!   before 18 never looks at an answer, and for `i` and `b` the second number is 0 whatever the node count.
-//!   A replay has 512 headers of its own, so only the bytes lent tell its number of places. An event
-//!   answered 15 where 15 is recorded changes nothing, and the replay goes on.
+//! - Recordings (rule K2): there is at least one section, and any of them may be empty; the offset of an empty
+//!   one is where its body would begin. Lengths are 2 more than a multiple of 4, so that the longest has
+//!   59,998 bytes. The test never looks at an answer.
+//! - Replay (rule K7): the headers are its own, 512 of them, so that only the bytes lent tell how many places
+//!   there are. An event answered 15 where 15 is recorded changes nothing, and the replay goes on.
 
 pub mod board;
 pub mod frame;

@@ -1,5 +1,5 @@
-//! Recordings of a board and their replay: a reader and a writer, each undoing the other, a recorder, and
-//! the replay, which compares each answer with the recorded one.
+//! Recordings of a board and their replay (rule K1 to rule K9): a reader and a writer, each undoing the other,
+//! a recorder, and the replay, which compares each answer with the recorded one.
 
 use crate::node::Work;
 use crate::rehearsal::{self, Header, Line, Stage, PLACES};
@@ -14,7 +14,7 @@ pub const RECORDED_NODES: u32 = 16;
 /// The most sections.
 pub const SECTIONS: usize = 32;
 
-/// The most events that the recorder puts into a section.
+/// The most events that the recorder puts into a section (rule K9).
 pub const SECTION_EVENTS: usize = 500;
 
 /// Byte 0 and byte 1.
@@ -36,14 +36,14 @@ pub struct Event {
     pub answer: u8,
 }
 
-/// A node count, and sections of events. What is held need not stand (`stands`).
+/// A node count, and sections of events (rule K1). What is held need not stand (`stands`).
 #[derive(Clone, Debug, PartialEq, Eq)]
 pub struct Recording {
     pub nodes: u32,
     pub sections: Vec<Vec<Event>>,
 }
 
-/// What is wrong with a recording: any of these gives 18.
+/// What is wrong with a recording: any of these gives 18 (rule K2).
 #[derive(Clone, Copy, Debug, PartialEq, Eq, PartialOrd, Ord)]
 pub enum Fault {
     /// No room for the node count, the number of sections and the table.
@@ -110,7 +110,7 @@ impl Event {
         Event { letter, first: a as u8, second: b as u8, answer }
     }
 
-    /// The line of an event on a board of so many nodes. The answer may be any byte.
+    /// The line of an event on a board of so many nodes (rule K6). The answer may be any byte.
     pub fn line(&self, nodes: u32) -> Result<Line, Fault> {
         let (a, b) = (u32::from(self.first), u32::from(self.second));
         let line = match self.letter {
@@ -156,7 +156,7 @@ impl Recording {
         HEAD + ENTRY * self.sections.len() + EVENT * self.events().count()
     }
 
-    /// The test that reader and writer share.
+    /// The test that reader and writer share (rule K2).
     pub fn stands(&self) -> Result<(), Fault> {
         if self.length() > RECORDING_LIMIT {
             return Err(Fault::Long);
@@ -238,8 +238,8 @@ pub fn write(recording: &Recording) -> Result<Vec<u8>, Fault> {
     Ok(bytes)
 }
 
-/// The reader over lent memory: nodes, sections and events found. What is behind that which is read stays,
-/// and all of it where it is refused.
+/// The reader over lent memory (rule K5): nodes, sections and events found. What is behind that which is read
+/// stays, and all of it where it is refused.
 pub fn read_into(bytes: &[u8], counts: &mut [u32], events: &mut [u8]) -> Result<[u32; 3], Refusal> {
     let recording = read(bytes).map_err(Refusal::Broken)?;
     let (all_counts, all_events) = (recording.counts(), recording.event_bytes());
@@ -251,7 +251,7 @@ pub fn read_into(bytes: &[u8], counts: &mut [u32], events: &mut [u8]) -> Result<
     Ok([recording.nodes, all_counts.len() as u32, (all_events.len() / EVENT) as u32])
 }
 
-/// The writer over lent memory: how many bytes were written. The others stay.
+/// The writer over lent memory (rule K4): how many bytes were written. The others stay.
 pub fn write_into(nodes: u32, counts: &[u32], events: &[u8], buffer: &mut [u8]) -> Result<u32, Refusal> {
     let recording = Recording::of_parts(nodes, counts, events).map_err(Refusal::Broken)?;
     let bytes = write(&recording).map_err(Refusal::Broken)?;
@@ -284,14 +284,14 @@ pub fn record(nodes: u32, lines: &[Line], places: usize, section_events: usize) 
     Recording { nodes, sections }
 }
 
-/// The recording of a script; where that stops, the number and the line.
+/// The recording of a script (rule K9); where that stops, the number and the line.
 pub fn record_script(script: &[u8], places: usize) -> Result<Recording, (u8, usize)> {
     let (nodes, lines) = rehearsal::lines_of(script)?;
     Ok(record(nodes, &lines, places, SECTION_EVENTS))
 }
 
-/// The events of all sections on one fresh board, with the places that are lent; gives how many there are.
-/// No event runs before all are tested, so that with 18 the lent bytes stay.
+/// The events of all sections on one fresh board, with the places that are lent (rule K7); gives how many
+/// there are. No event runs before all are tested, so that with 18 the lent bytes stay.
 pub fn replay(bytes: &[u8], places: &mut [u8]) -> Result<u32, Refusal> {
     let recording = read(bytes).map_err(Refusal::Broken)?;
     let mut headers = vec![Header::default(); PLACES];

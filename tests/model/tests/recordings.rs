@@ -541,17 +541,7 @@ fn every_byte_altered() {
     assert!(same > 14 * 256 && broken > 1_000);
 }
 
-/// The event of a run as a line.
-fn line_of(event: board::Event) -> Line {
-    match event {
-        board::Event::Send { work, at, to } => Line::Send { work, a: at, b: to },
-        board::Event::Idle { at } => Line::Idle { a: at },
-        board::Event::Barrier { at, .. } => Line::Barrier { a: at },
-        board::Event::Deliver { from, to } => Line::Deliver { a: from, b: to },
-        board::Event::Lose { .. } => unreachable!("no habit"),
-    }
-}
-
+/// A line as an event of a run.
 fn event_of(line: Line) -> board::Event {
     match line {
         Line::Send { work, a, b } => board::Event::Send { work, at: a, to: b },
@@ -561,8 +551,8 @@ fn event_of(line: Line) -> board::Event {
     }
 }
 
-/// A replay that ends well is a run with the recorded answers, those answered 15 left out: the board, which
-/// checks rule P4 and rule P5, plays it.
+/// A replay that ends well is a run with the recorded answers, those answered 15 left out (rule K8): the board,
+/// which checks rule P4 and rule P5, plays it.
 #[test]
 fn replays_are_runs() {
     let habits = Habits { job: 2, note: 2, idle: 12, barrier: 40, deliver: 40, lose: 0, odd: 0 };
@@ -571,12 +561,7 @@ fn replays_are_runs() {
     for round in 0..160 {
         let size = 1 + round % 16;
         let places = [PLACES, 1, 3, 9][round as usize / 16 % 4];
-        let (mut guide, mut lines) = (Board::new(size), vec![]);
-        for _ in 0..900 {
-            let event = random::event(&mut random, &guide, &habits);
-            guide.play(event);
-            lines.push(line_of(event));
-        }
+        let lines = random::lines(&mut random, size, 900, &habits);
         let bytes = write(&record(size, &lines, places, 100)).unwrap();
         assert_eq!(replayed(&bytes, places), Ok(900));
         let mut board = Board::new(size);
