@@ -1,10 +1,10 @@
 #!/usr/bin/env python3
-"""Makes docs/pictures and the made parts of docs/BARRIER.md from what the programs print today.
+"""Makes docs/pictures and the made parts of docs/BARRIER.md and docs/RECORDINGS.md from what the programs print today.
 
 python3 docs/pages.py make     writes them
 python3 docs/pages.py check    remakes them in memory and ends with status 1 at the first difference
 
-A made part of the page stands between two comments, <!-- made: KIND WORDS --> and <!-- end -->; the function KIND
+A made part of a page stands between two comments, <!-- made: KIND WORDS --> and <!-- end -->; the function KIND
 makes it. Wants what tests/c/run and tests/scripts/run build: target/bin, target/c and target/staticlib.
 """
 import itertools
@@ -19,6 +19,7 @@ from partners import partners as partners_picture
 from partners import tree
 
 PAGE = played.ROOT / "docs" / "BARRIER.md"
+RECORDINGS = played.ROOT / "docs" / "RECORDINGS.md"
 COST = played.ROOT / "docs" / "COST.md"
 PICTURES = played.ROOT / "docs" / "pictures"
 MADE = re.compile(r"(<!-- made: ([^>]*) -->)(.*?)(<!-- end -->)", re.DOTALL)
@@ -150,7 +151,53 @@ def costs():
     return table(["What", "How much"], rows)
 
 
-KINDS = {kind.__name__: kind for kind in (trace, partners, shells, frame, lengths, again, waits, phases, costs)}
+# ---- The made parts on recordings
+
+def recorded(name):
+    """The recording of a script."""
+    return played.written("target/bin/record", played.read(played.SCRIPTS / name))
+
+
+def two(data, at):
+    return int.from_bytes(data[at:at + 2], "little")
+
+
+def recording(name):
+    """The recording of a script, byte by byte: its head, its table and its events with the lines that say the same."""
+    data = recorded(name)
+    rows = [(0, f"`{data[0]:02x}`", f"{data[0]} nodes"), (1, f"`{data[1]:02x}`", wording.count(data[1], "section"))]
+    for at in range(2, 2 + 4 * data[1], 4):
+        words = f"its body begins at {two(data, at)} and has {wording.count(two(data, at + 2), 'event')}"
+        rows.append((f"{at} to {at + 3}", f"`{data[at:at + 4].hex(' ')}`", words))
+    events = events_of(name)
+    for at, event in zip(range(2 + 4 * data[1], len(data), 4), events, strict=True):
+        if data[at + 3] != event.answer:
+            raise played.Trouble(f"docs/RECORDINGS.md: the recording of scripts/{name} has another answer at byte {at + 3}")
+        words = f"`{event.text}`, answered {event.answer} {played.names()[event.answer]}"
+        rows.append((f"{at} to {at + 3}", f"`{data[at:at + 4].hex(' ')}`", words))
+    return table(["Bytes", "In hex", "What"], rows)
+
+
+def replays():
+    """What replay prints for the recording of every script."""
+    rows = []
+    for path in sorted(path for path in played.SCRIPTS.iterdir() if path.is_file()):
+        data = recorded(path.name)
+        rows.append((f"`scripts/{path.name}`", len(data), f"`{played.output('target/bin/replay', data)[0]}`"))
+    return table(["Script", "Bytes of its recording", "`replay` prints"], rows)
+
+
+def limits():
+    """The limits of a recording, by its header."""
+    numbers = played.header("ocb_recording.h")
+    rows = [("nodes of the board", f"1 to {numbers['OCB_RECORDING_NODES']} (`OCB_RECORDING_NODES`)"),
+            ("sections", f"1 to {numbers['OCB_SECTIONS']} (`OCB_SECTIONS`)"),
+            ("bytes in all", f"at most {numbers['OCB_RECORDING_LONGEST']:,} (`OCB_RECORDING_LONGEST`)")]
+    return table(["What", "How many"], rows)
+
+
+KINDS = {kind.__name__: kind for kind in (trace, partners, shells, frame, lengths, again, waits, phases, costs, recording,
+                                          replays, limits)}
 
 
 # ---- The page
@@ -158,14 +205,15 @@ KINDS = {kind.__name__: kind for kind in (trace, partners, shells, frame, length
 def remade(match):
     kind, *words = match[2].split()
     if kind not in KINDS:
-        raise played.Trouble(f"docs/BARRIER.md: no made part is called '{kind}'")
+        raise played.Trouble(f"no made part is called '{kind}'")
     return match[1] + KINDS[kind](*words) + match[4]
 
 
-def page(text):
-    """The page with its made parts made anew."""
+def page(path):
+    """A page with its made parts made anew."""
+    text = path.read_text(encoding="utf-8")
     if len(MADE.findall(text)) != text.count("<!-- made:") or text.count("<!-- end -->") != text.count("<!-- made:"):
-        raise played.Trouble("docs/BARRIER.md: a made part without its end")
+        raise played.Trouble(f"{path.relative_to(played.ROOT)}: a made part without its end")
     return MADE.sub(remade, text)
 
 
@@ -187,6 +235,24 @@ def check_names(text):
         raise played.Trouble("docs/BARRIER.md: not every answer and refusal stands once in its tables")
 
 
+def check_recordings(text):
+    """The names of the page on recordings are in the headers, its refusals with their numbers, and what it names is there."""
+    numbers = {**played.header(), **played.header("ocb_recording.h")}
+    heads = played.header_text() + played.header_text("ocb_recording.h")
+    for name in re.findall(r"\b(?:OCB|ocb)_\w+", text):
+        if name not in numbers and f" {name}(" not in heads and name != "ocb_recording":
+            raise played.Trouble(f"docs/RECORDINGS.md: no header has {name}")
+    rows = [(int(value), name) for value, name, _ in NUMBERED.findall(text)]
+    if rows != [(numbers[name], name) for name in ("OCB_RECORDING", "OCB_DIFFERS")]:
+        raise played.Trouble("docs/RECORDINGS.md: its refusals are not those of include/ocb_recording.h")
+    places = numbers["OCB_PLACE_BYTES"] * numbers["OCB_PLACES"]
+    if f"{numbers['OCB_PLACES']} places ({places:,} bytes" not in text:
+        raise played.Trouble("docs/RECORDINGS.md: the places of a replay are not those of include/ocb_recording.h")
+    if numbers["OCB_PLACE_BYTES"] != numbers["OCB_FRAME_BYTES"]:
+        raise played.Trouble("include/ocb_recording.h: a place has not the bytes of the longest frame")
+    check_named("docs/RECORDINGS.md", text)
+
+
 def check_stack():
     """The header's bytes of stack are enough: no bound of docs/COST.md is above them."""
     tables = {match[2].strip(): match[3] for match in MADE.finditer(COST.read_text(encoding="utf-8"))}
@@ -197,11 +263,16 @@ def check_stack():
         raise played.Trouble(f"include/ocb.h: a call takes up to {most} bytes by docs/COST.md, more than OCB_STACK_BYTES")
 
 
-def check_paths(text, pictures):
-    """What the page names is there, and every picture is shown."""
+def check_named(page, text):
+    """What a page names is there."""
     for path in PATH.findall(text):
         if not (played.ROOT / path).exists():
-            raise played.Trouble(f"docs/BARRIER.md: there is no {path}")
+            raise played.Trouble(f"{page}: there is no {path}")
+
+
+def check_paths(text, pictures):
+    """What the page names is there, and every picture is shown."""
+    check_named("docs/BARRIER.md", text)
     shown = set(re.findall(r"\(pictures/(\w+)\.svg\)", text))
     if shown != set(pictures):
         raise played.Trouble(f"docs/BARRIER.md: made and shown pictures differ: {sorted(shown ^ set(pictures))}")
@@ -225,13 +296,14 @@ def pictures():
 
 def wanted():
     """Every made file with the text it should have."""
-    text = page(PAGE.read_text(encoding="utf-8"))
+    text, recordings = page(PAGE), page(RECORDINGS)
     made = pictures()
     check_names(text)
+    check_recordings(recordings)
     check_stack()
     check_paths(text, made)
     files = {PICTURES / f"{name}.svg": picture for name, picture in made.items()}
-    files[PAGE] = text
+    files[PAGE], files[RECORDINGS] = text, recordings
     return files
 
 

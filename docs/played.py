@@ -16,6 +16,8 @@ SCRIPTS = ROOT / "scripts"
 BUILDERS = {
     "target/bin/boards": "rt check boards",
     "target/bin/rehearse": "rt check rehearse",
+    "target/bin/record": "rt check record",
+    "target/bin/replay": "rt check replay",
     "target/c/places": "bash tests/c/run",
     "target/c/play": "bash tests/c/run",
 }
@@ -51,15 +53,20 @@ class Trouble(Exception):
     """Something is not as it should be; the text says what."""
 
 
-def output(program, data=b"", *words):
-    """The lines that a program prints when it is handed bytes on its standard input."""
+def written(program, data=b"", *words):
+    """The bytes that a program writes when it is handed bytes on its standard input."""
     path = ROOT / program
     if not path.exists():
         raise Trouble(f"{program} is not built yet: {BUILDERS[program]} builds it")
     done = subprocess.run([str(path), *words], input=data, stdout=subprocess.PIPE, check=False)
     if done.returncode != 0:
         raise Trouble(f"{program} ends with status {done.returncode}")
-    return done.stdout.decode().splitlines()
+    return done.stdout
+
+
+def output(program, data=b"", *words):
+    """The lines that a program prints when it is handed bytes on its standard input."""
+    return written(program, data, *words).decode().splitlines()
 
 
 def whole(text):
@@ -208,14 +215,15 @@ def code_size():
     return int(totals.splitlines()[-1].split()[0])
 
 
-def header_text():
-    text = (ROOT / "include" / "ocb.h").read_text(encoding="utf-8")
-    return text[text.index("#ifndef OCB_H"):]
+def header_text(name="ocb.h"):
+    """A header without its first comment."""
+    text = (ROOT / "include" / name).read_text(encoding="utf-8")
+    return text[text.index("#ifndef OCB_"):]
 
 
-def header():
-    """The numbers that include/ocb.h gives to its names."""
-    return {name: int(value) for name, value in re.findall(r"\b(OCB_\w+)(?: =)? (\d+)", header_text())}
+def header(name="ocb.h"):
+    """The numbers that a header gives to its names."""
+    return {name: int(value) for name, value in re.findall(r"\b(OCB_\w+)(?: =)? (\d+)", header_text(name))}
 
 
 @functools.cache

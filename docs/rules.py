@@ -16,14 +16,14 @@ from collections import Counter
 ROOT = pathlib.Path(__file__).resolve().parent.parent
 PAGE = ROOT / "docs" / "RULES.md"
 DECISIONS = ROOT / "docs" / "DECISIONS.md"
-CHAPTERS = "TNFRHPSC"
+CHAPTERS = "TNFRHPSKC"
 # what is promised and where it is proved: a crate of theorems passes whatever it still says, so each of these lines must stand
 HEADLINE = {
     "crates/promises/specs/Promises.antt": [
         "pub anyInput : AnyInput", "pub kinds : Kinds", "pub waits : Waits", "pub tree : (P : ℕ) → 1 ≤ P → P ≤ base .nodes → Tree P",
         "pub frames : (P : ℕ) → 1 ≤ P → P ≤ base .nodes → Frames P",
         "pub runs : (P : ℕ) → 1 ≤ P → P ≤ base .nodes → Runs P", "pub links : LinkBytes", "pub starred : All table",
-        "pub rehearsals : EveryRehearsal", "pub texts : EveryTextFits",
+        "pub rehearsals : EveryRehearsal", "pub texts : EveryTextFits", "pub recordings : Survives", "pub replays : EveryReplay",
         "pub safe : (es : List Event) → Safe base P (run base P es)",
         "pub lives : (es : List Event) → NoLoss es → Lives base P (run base P es)",
         "pub facts : (es : List Event) → Facts base P (run base P es)",
@@ -46,8 +46,13 @@ HEADLINE = {
         "pub leftTake : (a : ℕ) → a < P → (n : ℕ) → n < w .count a → (kind : Kind) (b : ℕ) (e : Event)"],
     "crates/runs/proofs/Whole.antt": ["pub demand3 : Demand3"],
     "crates/rehearsed/proofs/Whole.antt": ["pub every-rehearsal : EveryRehearsal"],
+    "crates/recording/specs/Laws.antt": ["pub writtenGood :", "pub writtenRead :", "pub readGood :", "pub readWritten :"],
+    "crates/recording/proofs/Survives.antt": ["pub survives : Survives"],
+    "crates/replayed/specs/Run.antt": ["pub same : map (λ t. record { line = t .line; answer = t .answer }) told ≡ recorded r",
+                                       "pub isRun : IsRun (r .nodes) told"],
+    "crates/replayed/proofs/Whole.antt": ["pub every-replay : EveryReplay"],
     "crates/starred/proofs/Starred.antt": ["pub starred : All table"],
-    "crates.txt": ["promises:", "runs:", "rehearsed:", "starred:"],
+    "crates.txt": ["promises:", "runs:", "rehearsed:", "starred:", "recording:", "replayed:"],
 }
 # where rules may be named
 TEXTS = ["crates", "include", "tests", "targets", "docs", "README.md"]

@@ -7,6 +7,10 @@ def joined(numbers):
     return " and ".join(([", ".join(words[:-1])] if words[1:] else []) + words[-1:])
 
 
+def count(number, word):
+    return f"{number} {word}" + ("" if number == 1 else "s")
+
+
 def step(found):
     return f"pass {found[0]}, dimension {found[1]}"
 

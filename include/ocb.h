@@ -9,7 +9,8 @@
  * The functions hold no memory of their own. The caller lends each call what it reads and writes: for each node a state
  * of OCB_STATE_WORDS(nodes) words, which the calls read and change in place, frames as bytes, a few words for an answer.
  * Any numbers and bytes may be handed in; what is not allowed is refused with its number, and a refused call leaves all
- * that was lent as it was. docs/BARRIER.md explains the barrier, and has a line for each refusal.
+ * that was lent as it was. docs/BARRIER.md explains the barrier, and has a line for each refusal. ocb_recording.h has what
+ * keeps a run of a board and plays it again, for a bench.
  *
  * What stays with the caller:
  *
@@ -225,7 +226,7 @@ enum {
     OCB_WORKING = 12,   /* working: barrier call while busy */
     OCB_STATE = 13,     /* state: the words are no state of a node, or too few for the board */
     OCB_BUFFER = 14,    /* buffer: shorter than the frame to be written */
-    OCB_CROWDED = 15,   /* crowded, nothing, script: the rehearsal's; no function answers them */
+    OCB_CROWDED = 15,   /* crowded, nothing, script: the rehearsal's and in recordings; no function answers them */
     OCB_NOTHING = 16,
     OCB_SCRIPT = 17
 };

@@ -34,7 +34,7 @@ use Rattle.opening.proofs.Opened as OpenedT
 use Rattle.opening.proofs.Opened.Laws as OpenedL
 
 -- a value's machine values are those that its type spells
-spelled : (R : RattleType) (L : Lowered R) (d : R .Denot) (us : List Val) → Is R d us → Is R d (L .lowered d ∷ [])
+pub spelled : (R : RattleType) (L : Lowered R) (d : R .Denot) (us : List Val) → Is R d us → Is R d (L .lowered d ∷ [])
 spelled R L d us h = subst (Is R d) (L .val-is d us h) h
 
 -- the fields that a walk hands on
@@ -49,6 +49,9 @@ pub acted-fit : (r : Acted) → Is ActedT.the-row r (ActedL.lowered r ∷ [])
 acted-fit r is =
     let o = LL.owed ActedT.the-type ActedL.the-laws r _ is .1 .1 .1 in
     (o .0 .1, (o .1 .0 .1, (o .1 .1 .0, (o .1 .1 .1 .0 .1, o .1 .1 .1 .1 .0))))
+
+pub acted-answer : (r : Acted) → Is ActedT.the-row r (ActedL.lowered r ∷ []) → r .answer < 2 ^ 32
+acted-answer r is = LL.owed ActedT.the-type ActedL.the-laws r _ is .1 .1 .0 .1
 
 pub acted-stage : (r : Acted) → Is ActedT.the-row r (ActedL.lowered r ∷ [])
     → Is StageT.the-row (r .stage) (StageL.lowered (r .stage) ∷ [])

@@ -34,8 +34,8 @@ abbrev pub outside : ℕ → ℕ → Bool
 outside most x = either (eqb x 0) (ltb most x)
 
 -- by its node count, its number of sections, how many events they are to have, and the events' bytes: 1 to 16 nodes, 1
--- to 32 sections, four bytes an event, at most 60,000 bytes in all, and each event with a letter and with numbers of its
--- own
+-- to 32 sections, four bytes an event, at most 60,000 bytes in all, and each event with a letter and with numbers of
+-- its own
 unfoldable pub isBadBy : ℕ → ℕ → ℕ → List ℕ → Bool
 isBadBy nodes sections total events =
     either (outside 16 nodes)

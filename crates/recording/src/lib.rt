@@ -1,8 +1,6 @@
 // Recordings of a board: the test behind refusal 18. Any numbers and bytes may be handed.
 ghost use mathlib.Core.Path.{_≡_};
-ghost use Prim.Native.Nat.{_≤_};
-ghost use lib.ListN.{length};
-ghost use Rattle.recording.specs.Test.{goodEvent, goodEvents, isBadBy, sum};
+ghost use Rattle.recording.specs.Test.{goodEvent, goodEvents, isBadBy};
 
 // An event has a letter, and numbers of nodes where its letter has them; a second that it does not have is 0.
 fn event_good(nodes: u32, letter: u8, first: u8, second: u8) -> bool

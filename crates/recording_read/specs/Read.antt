@@ -7,7 +7,7 @@ use lib.ListN.{length}
 use Rattle.base.specs.Choice.{either}
 use Rattle.base.specs.Refusal.{Refusal, Answered, refused, found, when, inOrder}
 use Rattle.printing.specs.Put.{put}
-use Rattle.recording.specs.Recording.{Recording, eventCount, sectionsIn, recordingIn}
+use Rattle.recording.specs.Recording.{Recording, eventCount, recordingIn}
 use Rattle.recording.specs.Test.{isBadIn}
 use Rattle.recording_read.specs.declared.Held.{Held}
 use Rattle.recording_read.specs.declared.Head.{Head}

@@ -1,8 +1,8 @@
 // Recordings in lent bytes: tested there, and read into lent words and bytes. Any bytes may be handed.
 ghost use mathlib.Core.Path.{_≡_};
 ghost use mathlib.Core.Bool.{not};
-ghost use Prim.Native.Nat.{_+_, _*_, _≤_, _<_};
-ghost use lib.ListN.{length};
+ghost use Prim.Native.Nat.{_+_, _≤_, _<_};
+ghost use lib.ListN.{length, drop};
 ghost use Rattle.base.specs.Choice.{list};
 ghost use Rattle.printing.specs.Put.{put};
 ghost use Rattle.recording.specs.Recording.{numberAt, bodies, sectionsIn, countAt, recordingIn};
@@ -36,6 +36,22 @@ fn number_at(bytes: &[u8], at: usize) -> u32
     let low = wide(bytes[at]);
     let high = wide(bytes[at + 1]);
     low + 256 * high
+}
+
+// How many sections the bytes are to have.
+fn sections_of(bytes: &[u8]) -> usize
+    requires { ⌜ 2 ≤ length (now bytes) ⌝ }
+    ensures { λ r. ⌜ (r ≡ sectionsIn (now (bytes .entry))) × (r < 256) ⌝ }
+{
+    wide(bytes[1]) as usize
+}
+
+// The bytes from a place on.
+fn from(bytes: &[u8], at: usize) -> &[u8]
+    requires { ⌜ at ≤ length (now bytes) ⌝ }
+    ensures { λ r. ⌜ now r ≡ drop at (now (bytes .entry)) ⌝ }
+{
+    &bytes[at..]
 }
 
 // The bodies of so many sections stand one after the other behind the table.
@@ -72,7 +88,7 @@ pub fn is_recording(bytes: &[u8]) -> bool
     if bytes.len() < 2 {
         return false;
     }
-    let sections = wide(bytes[1]) as usize;
+    let sections = sections_of(bytes);
     let head = 2 + 4 * sections;
     if bytes.len() < head {
         return false;
@@ -84,7 +100,7 @@ pub fn is_recording(bytes: &[u8]) -> bool
         return false;
     }
     let total = total_of(bytes, sections);
-    !recording::is_bad(wide(bytes[0]), sections, total, &bytes[head..])
+    !recording::is_bad(wide(bytes[0]), sections, total, from(bytes, head))
 }
 
 // Puts how many events each section has.
@@ -119,19 +135,19 @@ pub fn read(bytes: &[u8], counts: &mut [u32], events: &mut [u8]) -> Held
     if !is_recording(bytes) {
         return Held::Refused(18);
     }
-    let sections = wide(bytes[1]) as usize;
-    let head = 2 + 4 * sections;
+    let sections = sections_of(bytes);
+    let text = from(bytes, 2 + 4 * sections);
     if counts.len() < sections {
         return Held::Refused(14);
     }
-    if events.len() < bytes.len() - head {
+    if events.len() < text.len() {
         return Held::Refused(14);
     }
     put_counts(bytes, counts, sections);
-    printing::put_bytes(events, 0, &bytes[head..]);
+    printing::put_bytes(events, 0, text);
     Held::Is(Head {
         nodes: wide(bytes[0]),
         sections: sections as u32,
-        events: ((bytes.len() - head) / 4) as u32,
+        events: (text.len() / 4) as u32,
     })
 }

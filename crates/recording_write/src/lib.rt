@@ -41,9 +41,10 @@ fn put_number(buf: &mut [u8], at: usize, x: u32) -> usize
 
 // Puts the table of contents.
 fn put_table(buf: &mut [u8], at: usize, counts: &[u32]) -> usize
-    requires { ⌜ (length (now counts) ≤ 32) × (sum (now counts) ≤ 15000) ⌝ }
+    requires { ⌜ (at ≤ length (now buf)) × (length (now counts) ≤ 32) × (sum (now counts) ≤ 15000) ⌝ }
     ensures memory { λ r. ⌜
-        now (buf .exit) ≡ put (now (buf .entry)) at (table (bodies (length (now (counts .entry)))) (now (counts .entry)))
+        now (buf .exit)
+        ≡ put (now (buf .entry)) at (table (bodies (length (now (counts .entry)))) (now (counts .entry)))
         ⌝ }
     ensures place { λ r. ⌜
         r ≡ ends (now (buf .entry)) at (table (bodies (length (now (counts .entry)))) (now (counts .entry)))

@@ -2,30 +2,21 @@
 use mathlib.Core.Path.{_≡_, refl, sym, ap, subst, _∙_}
 use mathlib.Core.Bool.{Bool, true, false}
 use mathlib.Core.List.{List, [], _++_, append-assoc, append-nil}
-use Prim.Native.Nat.{ℕ, zero, suc, _+_, _-_, _≤_, _<_, _/_, _%_, min}
+use Prim.Native.Nat.{ℕ, zero, suc, _+_, _≤_, _<_, _/_, min}
 use native.Mathlib.Omega.{arith}
 use lib.Dec.{ltb, eqb}
-use lib.ListN.{length, getD, set, drop}
-use borrow.Author.Tests.{le-ltb, le-leb, lt-leb, ne-eqb, ltb-true, ltb-false}
+use lib.ListN.{length, drop}
+use borrow.Author.Tests.{le-leb, lt-leb, ltb-true, ltb-false}
 use Rattle.base.specs.Choice.{choose, both, either}
-use Rattle.base.specs.Limits.{base}
-use Rattle.base.proofs.Laws.{choose-yes, choose-no, cases, both-true, clash}
-use Rattle.tree.specs.Lookups.{badBoard}
+use Rattle.base.proofs.Laws.{choose-yes, choose-no, cases, both-true}
 use Rattle.script.specs.Script.{before, lineAt}
 use Rattle.script.specs.declared.Line.{Line}
 use Rattle.script.specs.declared.Line.the-variants.{Nodes, Sends, Delivers, Idles, Calls, Bad}
 use Rattle.script.specs.declared.Parsed.{Parsed}
-use Rattle.items.specs.Places.{noItem, oldestAt, oldestWithin}
-use Rattle.item_changes.specs.Places.{removedWithin, moved}
 use Rattle.items.specs.declared.Item.{Item}
-use Rattle.items.proofs.Lists.{oldest-within}
-use Rattle.item_changes.proofs.Lists.{set-past, removed-within}
 use Rattle.under_way.specs.Frames.{roomFor}
 use Rattle.stage.specs.Board.{nodeAt, opening}
-use Rattle.turns.specs.Events.{Turn, sendTurn, idleTurn, callTurn, deliverTurn}
-use Rattle.turns.specs.Acts.{acted, actedBytes, actedItems}
-use Rattle.turns.proofs.Turning.{seen, send-turns, idle-turns, call-turns, deliver-turns}
-use Rattle.turns.proofs.Keeping.{line-keeps}
+use Rattle.turns.specs.Events.{Turn, turnOf}
 use Rattle.stage.specs.declared.Stage.{Stage}
 use Rattle.stage.specs.declared.Acted.{Acted}
 use Rattle.text.specs.Text.{header, turnText, stopText}
@@ -35,7 +26,8 @@ use Rattle.rehearsal.specs.Play.{playOpened, play}
 use Rattle.opening.specs.Opens.{shut, openedBy, opened, openingText}
 use Rattle.lines.specs.Told.{taken, stops, toldAt}
 use Rattle.lines.specs.Printed.{lineText}
-use Rattle.line_step.specs.Steps.{oldest, stepped, steppedBytes, steppedItems}
+use Rattle.line_step.specs.Steps.{stepped, steppedBytes, steppedItems}
+use Rattle.line_turns.proofs.Turned.{Near, turnAfter, still, step-turns, step-keeps}
 use Rattle.opening.specs.declared.Opened.{Opened}
 use Rattle.opening.proofs.Sizes.{size-good, size-some}
 use Rattle.opening.proofs.Texts.{opening-stop}
@@ -69,81 +61,6 @@ no-more script (suc j) at count st items bytes h = choose-yes _ _ (le-leb (lengt
 
 module _ (st : Stage) (items : List Item) (bytes : List ℕ) (within : st .under ≤ roomFor (length items) bytes)
     (small : st .size ≤ 16) where
-  fits : st .under ≤ length items
-  fits = omega (arith, within)
-
-  -- the headers after a step are those of the event
-  same-items : (r : Acted) → steppedItems (st .under) r items ≡ actedItems (st .under) r items
-  unfolding steppedItems actedItems
-  same-items r =
-      ap (λ (l : List Item). set (set l (r .at) (r .first)) (r .next) (r .second))
-      (removed-within items (st .under) (r .gone) fits)
-
-  -- what a line does, with an item at a place
-  abbrev turnOf : Line → ℕ → Item → Turn
-  turnOf line at it =
-      seen (st .under) items (acted st (length items) bytes line at it) (actedBytes st (length items) bytes line at it)
-
-  -- what an event does, with what a step answers
-  abbrev Event : Line → Turn
-  Event line =
-      let r = stepped st items bytes line in
-      record {
-        stage = r .stage;
-        items = steppedItems (st .under) r items;
-        bytes = steppedBytes st items bytes line;
-        actor = r .actor;
-        answer = r .answer;
-      }
-
-  event-is : (line : Line) → turnOf line (oldest st items bytes line) (getD items (oldest st items bytes line) noItem) ≡
-      Event line
-  unfolding stepped steppedBytes
-  event-is line =
-      ap
-      (λ (l : List Item).
-      record {
-        stage = stepped st items bytes line .stage;
-        items = l;
-        bytes = steppedBytes st items bytes line;
-        actor = stepped st items bytes line .actor;
-        answer = stepped st items bytes line .answer;
-      })
-      (sym (same-items (stepped st items bytes line)))
-
-  oldest-is : (a b : ℕ) → a < 16 → b < 16 → oldest st items bytes (Delivers a b) ≡ oldestAt items (st .under) a b
-  oldest-is a b h k =
-      let e : a % 256 ≡ a = omega (arith, h) in
-      let f : b % 256 ≡ b = omega (arith, k) in
-      (λ i. oldestWithin items (st .under) (e i) (f i)) ∙ oldest-within items (st .under) a b fits
-
-  good-size : 0 < st .size → badBoard base (st .size) ≡ false
-  good-size h =
-      (λ i. either (ne-eqb (st .size) 0 (λ e. omega (arith, e, h)) i) (le-ltb 256 (st .size) (omega (arith, small)) i))
-
-  -- no header goes, and none is put
-  nothing-put : set (set (removedWithin items (st .under) (st .under)) (length items) noItem) (length items) noItem ≡
-      items
-  unfolding moved
-  nothing-put =
-      let z : st .under - (st .under + 1) ≡ 0 = omega arith in
-      ap (λ (l : List Item). set (set l (length items) noItem) (length items) noItem)
-      (removed-within items (st .under) (st .under) fits ∙ ap (moved items (st .under)) z)
-      ∙ ap (λ (l : List Item). set l (length items) noItem) (set-past items (length items) noItem (omega arith))
-      ∙ set-past items (length items) noItem (omega arith)
-
-  -- a line that stops the play changes nothing
-  still : (l : Line) → stops l ≡ true
-      → (stepped st items bytes l .stage ≡ st)
-      × ((steppedItems (st .under) (stepped st items bytes l) items ≡ items) × (steppedBytes st items bytes l ≡ bytes))
-  unfolding stepped steppedItems steppedBytes acted actedBytes
-  still (Nodes P) e = (refl, (nothing-put, refl))
-  still (Sends kind a b) e = clash (sym e)
-  still (Delivers a b) e = clash (sym e)
-  still (Idles a) e = clash (sym e)
-  still (Calls a) e = clash (sym e)
-  still Bad e = (refl, (nothing-put, refl))
-
   -- what a line does, read either way
   abbrev read : (Turn → Played) → Played → Act → Played
   read E S act =
@@ -152,35 +69,29 @@ module _ (st : Stage) (items : List Item) (bytes : List ℕ) (within : st .under
         | stop ↦ S
       ]
 
-  by-test : (E : Turn → Played) (S : Played) (t : Bool) (T : Turn) (l : Line) → stops l ≡ false
-      → (t ≡ true → T ≡ Event l)
-      → read E S (choose t (event T) stop) ≡ choose (stops (choose t l Bad)) S (E (Event (choose t l Bad)))
-  by-test E S true T l e h = ap E (h refl) ∙ sym (choose-no S (E (Event l)) e)
-  by-test E S false T l e h = refl
+  module _ (some : 0 < st .size) (E : Turn → Played) (S : Played) where
+    by-test : (t : Bool) (l : Line) → stops l ≡ false → (t ≡ true → Near l)
+        → read E S (choose t (event (turnOf st items bytes l)) stop)
+        ≡ choose (stops (choose t l Bad)) S (E (turnAfter st items bytes (choose t l Bad)))
+    by-test true l e near =
+        sym (ap E (step-turns st items bytes within some small l (near refl)))
+        ∙ sym (choose-no S (E (turnAfter st items bytes l)) e)
+    by-test false l e near = refl
 
-  acts : 0 < st .size → (E : Turn → Played) (S : Played) (raw : Line)
-      → read E S (actOf st items bytes raw) ≡ choose (stops (taken (st .size) raw)) S (E (Event (taken (st .size) raw)))
-  acts h E S (Nodes P) = refl
-  acts h E S (Sends kind a b) =
-      by-test E S (both (ltb a (st .size)) (ltb b (st .size))) (sendTurn st items bytes kind a b) (Sends kind a b) refl
-      (λ e. sym (send-turns st items bytes kind a b _ _) ∙ event-is (Sends kind a b))
-  acts h E S (Delivers a b) =
-      by-test E S (both (ltb a (st .size)) (ltb b (st .size))) (deliverTurn st items bytes a b) (Delivers a b) refl
-      (λ e.
-      let k = both-true (ltb a (st .size)) (ltb b (st .size)) e in
-      let below-a = ltb-true a (st .size) (k .0) in
-      let below-b = ltb-true b (st .size) (k .1) in
-      sym (deliver-turns st items bytes within (good-size h) a b)
-      ∙ ap (λ (at : ℕ). turnOf (Delivers a b) at (getD items at noItem))
-      (sym (oldest-is a b (omega (arith, below-a, small)) (omega (arith, below-b, small))))
-      ∙ event-is (Delivers a b))
-  acts h E S (Idles a) =
-      by-test E S (ltb a (st .size)) (idleTurn st items bytes a) (Idles a) refl
-      (λ e. sym (idle-turns st items bytes a _ _) ∙ event-is (Idles a))
-  acts h E S (Calls a) =
-      by-test E S (ltb a (st .size)) (callTurn st items bytes a) (Calls a) refl
-      (λ e. sym (call-turns st items bytes a _ _) ∙ event-is (Calls a))
-  acts h E S Bad = refl
+    acts : (raw : Line) → read E S (actOf st items bytes raw)
+        ≡ choose (stops (taken (st .size) raw)) S (E (turnAfter st items bytes (taken (st .size) raw)))
+    acts (Nodes P) = refl
+    acts (Sends kind a b) = by-test (both (ltb a (st .size)) (ltb b (st .size))) (Sends kind a b) refl (λ e. tt)
+    acts (Delivers a b) =
+        by-test (both (ltb a (st .size)) (ltb b (st .size))) (Delivers a b) refl
+        (λ e.
+        let k = both-true (ltb a (st .size)) (ltb b (st .size)) e in
+        let below-a = ltb-true a (st .size) (k .0) in
+        let below-b = ltb-true b (st .size) (k .1) in
+        (omega (arith, below-a, small), omega (arith, below-b, small)))
+    acts (Idles a) = by-test (ltb a (st .size)) (Idles a) refl (λ e. tt)
+    acts (Calls a) = by-test (ltb a (st .size)) (Calls a) refl (λ e. tt)
+    acts Bad = refl
 
   -- so a line is played as the player plays it
   pub play-line : 0 < st .size → (script : List ℕ) (j at count : ℕ) → at < length script
@@ -212,27 +123,19 @@ module _ (st : Stage) (items : List Item) (bytes : List ℕ) (within : st .under
           (playFrom script j (p .next) (count + 1) (t .stage) (t .items) (t .bytes))
 
       go : (t : Bool) → stops l ≡ t
-          → choose t S (E (Event l))
+          → choose t S (E (turnAfter st items bytes l))
           ≡ printedBefore (choose t (stopText 17 count) (turnText (r .actor) (r .answer)
           (nodeAt (r .stage) (r .actor))))
           (playFrom script j (choose t (length script) (p .next)) (count + 1) (r .stage)
           (steppedItems (st .under) r items) (steppedBytes st items bytes l))
       go true e =
-          let s = still l e in
           sym
           (ap (printedBefore (stopText 17 count))
-          ((λ i. playFrom script j (length script) (count + 1) (s .0 i) (s .1 .0 i) (s .1 .1 i))
+          (ap (λ (t : Turn). playFrom script j (length script) (count + 1) (t .stage) (t .items) (t .bytes))
+          (still st items bytes within l e)
           ∙ no-more script j (length script) (count + 1) st items bytes (omega arith))
           ∙ printed-end (stopText 17 count) items bytes)
       go false e = refl
-
-  pub step-keeps : (l : Line) → (stepped st items bytes l .stage .size ≡ st .size) ×
-      (stepped st items bytes l .stage .under ≤ roomFor (length items) bytes)
-  unfolding stepped
-  step-keeps l =
-      let k = line-keeps st (length items) bytes within l (oldest st items bytes l)
-      (getD items (oldest st items bytes l) noItem) in
-      (k .size, k .lent)
 
 -- the next line begins after this one
 told-on : (script : List ℕ) (at size : ℕ) → at < length script → at < toldAt script at size .next
@@ -300,7 +203,7 @@ module _ (script : List ℕ) (items : List Item) (bytes out : List ℕ) where
 
       keeps : (stepped st zs bs (told .line) .stage .size ≡ st .size) ×
           (stepped st zs bs (told .line) .stage .under ≤ roomFor (length zs) bs)
-      keeps = step-keeps st zs bs (inv .within) (inv .small) (told .line)
+      keeps = step-keeps st zs bs (inv .within) (told .line)
 
       size-is : r .stage .size ≡ st .size
       size-is = ap (λ (a : Acted). a .stage .size) r-is ∙ keeps .0

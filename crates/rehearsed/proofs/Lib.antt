@@ -5,5 +5,6 @@ pub mod Same
 pub mod Follows
 pub mod Acting
 pub mod Delivering
+pub mod Events
 pub mod Whole
 pub mod Fits

@@ -2,47 +2,29 @@
 use mathlib.Core.Path.{_≡_, refl, sym, ap, _∙_, subst}
 use mathlib.Core.Bool.{Bool, true, false}
 use mathlib.Core.List.{List, [], _∷_, _++_, append-assoc}
-use Prim.Native.Nat.{ℕ, zero, suc, _+_, _≤_, _<_}
+use Prim.Native.Nat.{ℕ, zero, suc, _+_, _≤_}
 use native.Mathlib.Omega.{arith}
 use lib.Dec.{ltb, leb, eqb}
-use lib.ListN.{length, take}
-use borrow.Author.Tests.{ltb-true, ltb-false, eqb-false, eq-eqb, ne-eqb}
-use Rattle.base.specs.Choice.{choose, both, either}
-use Rattle.base.specs.Limits.{base}
+use lib.ListN.{length}
+use Rattle.base.specs.Choice.{choose, either}
 use Rattle.base.specs.Refusal.{Refusal, number}
-use Rattle.base.proofs.Laws.{clash, choose-yes, choose-no, cases, both-true, length-list, list-at}
-use Rattle.node.specs.Change.{freshIn}
-use Rattle.events.specs.Board.{Board, Event, sends, idles, calls, delivers, start, step, after, run}
-use Rattle.events.specs.Fit.{Fit}
-use Rattle.runs.specs.Claim.{NoLoss}
-use Rattle.runs.specs.Facts.{Facts}
-use Rattle.runs.specs.Printed.{line, printed, lines}
-use Rattle.runs.proofs.Facts.{every-run}
-use Rattle.runs.proofs.Whole.{safe, lives}
+use Rattle.base.proofs.Laws.{cases}
+use Rattle.events.specs.Board.{Board}
 use Rattle.script.specs.Script.{lineAt}
 use Rattle.script.specs.declared.Line.{Line}
 use Rattle.script.specs.declared.Line.the-variants.{Nodes, Sends, Delivers, Idles, Calls, Bad}
 use Rattle.script.specs.declared.Parsed.{Parsed}
 use Rattle.items.specs.declared.Item.{Item}
-use Rattle.states.specs.Words.{noState, freshState}
-use Rattle.under_way.specs.Frames.{placeSize}
 use Rattle.stage.specs.Board.{nodeAt, opening}
 use Rattle.stage.specs.declared.Stage.{Stage}
-use Rattle.turns.specs.Events.{Turn}
+use Rattle.turns.specs.Events.{Turn, turnOf}
 use Rattle.text.specs.Text.{header, turnText, stopText}
+use Rattle.opening.proofs.Sizes.{size-good, size-some}
 use Rattle.rehearsal.specs.Play.{Played, Act, event, stop, actOf, ended, stopped, printedBefore, playFrom, playOpened}
 use Rattle.rehearsal.specs.Play.{play}
-use Rattle.rehearsed.specs.Run.{Told, toldOf, toldFrom, told, kept, eventsOf, eventsIn, linesOf, textOf, Closing}
-use Rattle.rehearsed.specs.Run.{IsRun, Rehearsal, EveryRehearsal}
-use Rattle.rehearsed.proofs.States.{Bears, fresh-bears}
+use Rattle.rehearsed.specs.Run.{Told, toldOf, toldFrom, told, textOf, Closing, Rehearsal, EveryRehearsal}
 use Rattle.rehearsed.proofs.Same.{Same}
-use Rattle.rehearsed.proofs.Follows.{Follows}
-use Rattle.rehearsed.proofs.Acting.{send-follows, idle-follows, call-follows}
-use Rattle.rehearsed.proofs.Delivering.{deliver-follows}
-
-either-false : (s t : Bool) → either s t ≡ false → (s ≡ false) × (t ≡ false)
-either-false true t e = clash e
-either-false false t e = (refl, e)
+use Rattle.rehearsed.proofs.Events.{isEvent, Ran, Prints, plays, prints-one, is-run}
 
 -- ---- what is printed
 
@@ -101,147 +83,32 @@ texted script (suc most) at count st items bytes =
 
 -- ---- the events
 
-module _ (P : ℕ) (one : 1 ≤ P) (few : P ≤ 16) where
-  fit : Fit base
-  fit = record { room = omega arith; four = omega arith }
+-- what a line does: its turn is played where it is an event of the board, else the play stops
+act-is : (st : Stage) (items : List Item) (bytes : List ℕ) (l : Line)
+    → choose (isEvent (st .size) l) (event (turnOf st items bytes l)) stop ≡ actOf st items bytes l
+act-is st items bytes (Nodes P) = refl
+act-is st items bytes (Sends kind a b) = refl
+act-is st items bytes (Delivers a b) = refl
+act-is st items bytes (Idles a) = refl
+act-is st items bytes (Calls a) = refl
+act-is st items bytes Bad = refl
 
-  -- a board that a run leads to
-  record Ran (w : Board) : Type 0 where
-    events : List Event
-    leads : run base P events ≡ w
-
-  one-after : (w : Board) (es : List Event) (e : Event)
-      → after base P w (es ++ e ∷ []) ≡ step base P (after base P w es) e
-  one-after w [] e = refl
-  one-after w (x ∷ es) e = one-after (step base P w x) es e
-
-  ran-on : (w : Board) → Ran w → (e : Event) → Ran (step base P w e)
-  ran-on w r e =
-      record {
-        events = r .events ++ e ∷ [];
-        leads = one-after (start P) (r .events) e ∙ ap (λ w. step base P w e) (r .leads);
-      }
-
-  facts-of : (w : Board) → Ran w → Facts base P w
-  facts-of w r = subst (Facts base P) (r .leads) (every-run base fit P one (omega arith) (r .events))
-
-  -- what a line does: it stops the play, or its turn follows its event
-  data Does (w : Board) (l : Line) : Act → Type 0 where
-    stops : Does w l stop
-    turns : (e : Event) (t : Turn) → eventsOf l ≡ e ∷ [] → Follows P w (step base P w e) (printed P w e) t
-        → Does w l (event t)
-
-  within : {st : Stage} {items : List Item} {bytes : List ℕ} {w : Board} → Same P st items bytes w → (a : ℕ)
-      → ltb a (st .size) ≡ true → a < P
-  within {st} s a e = omega (arith, ltb-true a (st .size) e, s .size)
-
-  does : (st : Stage) (items : List Item) (bytes : List ℕ) (w : Board) → Same P st items bytes w → Ran w → (l : Line)
-      → Does w l (actOf st items bytes l)
-  does st items bytes w s r (Nodes n) = stops
-  does st items bytes w s r (Sends kind a b) =
-      cases (Does w (Sends kind a b)) (both (ltb a (st .size)) (ltb b (st .size))) _ _
-      (λ e.
-      turns (sends kind a b) _ refl
-      (send-follows few s (facts-of w r) a (within s a (both-true (ltb a (st .size)) (ltb b (st .size)) e .0)) kind b))
-      (λ e. stops)
-  does st items bytes w s r (Delivers a b) =
-      cases (Does w (Delivers a b)) (both (ltb a (st .size)) (ltb b (st .size))) _ _
-      (λ e.
-      turns (delivers a b) _ refl
-      (deliver-follows few s (facts-of w r) a b
-      (within s b (both-true (ltb a (st .size)) (ltb b (st .size)) e .1))))
-      (λ e. stops)
-  does st items bytes w s r (Idles a) =
-      cases (Does w (Idles a)) (ltb a (st .size)) _ _
-      (λ e.
-      turns (idles a) _ refl (idle-follows few s (facts-of w r) a (within s a e)))
-      (λ e. stops)
-  does st items bytes w s r (Calls a) =
-      cases (Does w (Calls a)) (ltb a (st .size)) _ _
-      (λ e.
-      turns (calls a placeSize) _ refl
-      (call-follows few s (facts-of w r) a (within s a e)))
-      (λ e. stops)
-  does st items bytes w s r Bad = stops
-
-  -- from a board on, the lines printed are those of the events kept
-  abbrev Prints : Board → List Told → Type 0
-  Prints w ts = linesOf (kept ts) ≡ lines P w (eventsIn (kept ts))
-
-  prints-one : (w : Board) (l : Line) (e : Event) (t : Turn) (rest : List Told) → eventsOf l ≡ e ∷ []
-      → Follows P w (step base P w e) (printed P w e) t
-      → (Same P (t .stage) (t .items) (t .bytes) w → Prints w rest)
-      → (Same P (t .stage) (t .items) (t .bytes) (step base P w e) → Prints (step base P w e) rest)
-      → Prints w (toldOf l t ∷ rest)
-  prints-one w l e t rest q (Follows.out z s) f g =
-      subst (λ ts. linesOf ts ≡ lines P w (eventsIn ts)) (sym (choose-yes _ _ (eq-eqb _ _ z))) (f s)
-  prints-one w l e t rest q (Follows.on z s shown) f g =
-      subst (λ ts. linesOf ts ≡ lines P w (eventsIn ts)) (sym (choose-no _ _ (ne-eqb _ _ z)))
-      (subst (λ es. linesOf (toldOf l t ∷ kept rest) ≡ lines P w (es ++ eventsIn (kept rest))) (sym q)
-      (λ i. shown i ∷ g s i))
-
-  prints-by : (script : List ℕ) (most : ℕ) (p : Parsed) (w : Board) → Ran w → {x : Act} → Does w (p .line) x
-      → ((t : Turn) (w : Board) → Same P (t .stage) (t .items) (t .bytes) w → Ran w
-      → Prints w (toldFrom script most (p .next) (t .stage) (t .items) (t .bytes)))
-      → Prints w (toldBy script most 0 p x)
-  prints-by script most p w r stops f = refl
-  prints-by script most p w r (turns e t q k) f =
-      prints-one w (p .line) e t (toldFrom script most (p .next) (t .stage) (t .items) (t .bytes)) q k
-      (λ z. f t w z r) (λ z. f t (step base P w e) z (ran-on w r e))
-
-  prints : (script : List ℕ) (most at : ℕ) (st : Stage) (items : List Item) (bytes : List ℕ) (w : Board)
-      → Same P st items bytes w → Ran w → Prints w (toldFrom script most at st items bytes)
-  unfolding toldFrom
-  prints script zero at st items bytes w s r = refl
-  prints script (suc most) at st items bytes w s r =
-      let p = lineAt script at in
-      cases (Prints w) (leb (length script) at) _ _ (λ e. refl)
-      (λ e.
-      prints-by script most p w r (does st items bytes w s r (p .line))
-      (λ t w k i. prints script most (p .next) (t .stage) (t .items) (t .bytes) w k i))
-
-  -- a fresh board
-  begun : (items : List Item) (bytes : List ℕ) → Same P (opening P) items bytes (start P)
-  begun items bytes =
-      record {
-        size = refl;
-        array = length-list 0 16 (freshState P);
-        nodes =
-            λ a h. subst (λ s. Bears s (freshIn P a 0)) (sym (list-at 16 (freshState P) a noState (omega arith)))
-            (fresh-bears P a one few h);
-        under = refl;
-        lent = omega arith;
-        stand = tt;
-      }
-
-  no-loss : (ts : List Told) (n : ℕ) → NoLoss (take n (eventsIn ts))
-  no-loss [] zero = tt
-  no-loss [] (suc n) = tt
-  no-loss (t ∷ ts) n = go (t .line) n (no-loss ts)
-    where
-      go : (l : Line) (n : ℕ) → ((n : ℕ) → NoLoss (take n (eventsIn ts)))
-          → NoLoss (take n (eventsOf l ++ eventsIn ts))
-      go (Nodes P) n f = f n
-      go (Sends kind a b) zero f = tt
-      go (Sends kind a b) (suc n) f = f n
-      go (Delivers a b) zero f = tt
-      go (Delivers a b) (suc n) f = f n
-      go (Idles a) zero f = tt
-      go (Idles a) (suc n) f = f n
-      go (Calls a) zero f = tt
-      go (Calls a) (suc n) f = f n
-      go Bad n f = f n
-
-  is-run : (script : List ℕ) (items : List Item) (bytes : List ℕ) → IsRun P (told script P items bytes)
-  is-run script items bytes =
-      let es = eventsIn (kept (told script P items bytes)) in
-      record {
-        printed =
-            prints script (length script) (lineAt script 0 .next) (opening P) items bytes (start P) (begun items bytes)
-            (record { events = []; leads = refl });
-        safe = λ n. safe base fit P one (omega arith) (take n es);
-        lives = λ n. lives base fit P one (omega arith) (take n es) (no-loss (kept (told script P items bytes)) n);
-      }
+prints : (P : ℕ) → 1 ≤ P → P ≤ 16 → (script : List ℕ) (most at : ℕ) (st : Stage) (items : List Item) (bytes : List ℕ)
+    (w : Board) → Same P st items bytes w → Ran P w → Prints P w (toldFrom script most at st items bytes)
+unfolding toldFrom
+prints P one few script zero at st items bytes w s r = refl
+prints P one few script (suc most) at st items bytes w s r =
+    let p = lineAt script at in
+    let t = turnOf st items bytes (p .line) in
+    let rest = toldFrom script most (p .next) (t .stage) (t .items) (t .bytes) in
+    cases (Prints P w) (leb (length script) at) _ _ (λ e. refl)
+    (λ e.
+    subst (λ x. Prints P w (toldBy script most 0 p x)) (act-is st items bytes (p .line))
+    (cases (λ x. Prints P w (toldBy script most 0 p x)) (isEvent (st .size) (p .line)) (event t) stop
+    (λ h.
+    prints-one P one few w (p .line) t rest r (plays P one few st items bytes w s r (p .line) h)
+    (prints P one few script most (p .next) (t .stage) (t .items) (t .bytes)))
+    (λ h. refl)))
 
 -- ---- every script
 
@@ -255,8 +122,7 @@ module _ (script : List ℕ) (items : List Item) (bytes : List ℕ) where
   by-line : (l : Line) → lineAt script 0 .line ≡ l → Opening (playOpened script (lineAt script 0 .next) items bytes l)
   by-line (Nodes P) e =
       cases Opening (either (eqb P 0) (ltb 16 P)) _ _ (λ t. shut 1 1 (omega arith))
-      (λ t. let z = either-false (eqb P 0) (ltb 16 P) t in
-      opens P (omega (arith, eqb-false P 0 (z .0))) (ltb-false 16 P (z .1)) e)
+      (λ t. opens P (size-some P t) (size-good P t) e)
   by-line (Sends kind a b) e = shut 17 1 (omega arith)
   by-line (Delivers a b) e = shut 17 1 (omega arith)
   by-line (Idles a) e = shut 17 1 (omega arith)
@@ -274,7 +140,8 @@ module _ (script : List ℕ) (items : List Item) (bytes : List ℕ) where
   by-opening (opens P one few l) e =
       let t = texted script (length script) (lineAt script 0 .next) 2 (opening P) items bytes in
       Rehearsal.opens P one few l (t .closing) (t .closes) (e ∙ ap (λ r. header ++ r) (t .is))
-      (is-run P one few script items bytes)
+      (is-run P one few items bytes (told script P items bytes)
+      (prints P one few script (length script) (lineAt script 0 .next) (opening P) items bytes))
 
 pub every-rehearsal : EveryRehearsal
 unfolding play

@@ -1,6 +1,7 @@
 // What the player of recordings calls: how a replay starts, the events as lines, and how it ends. Any bytes and numbers
 // may be handed.
 ghost use mathlib.Core.Path.{_≡_};
+ghost use Prim.Native.Nat.{_+_, _*_};
 ghost use lib.ListN.{getD};
 ghost use Rattle.recording.specs.Recording.{recordingIn};
 ghost use Rattle.replay_parts.specs.Events.{lineBy, lineOf};
@@ -36,6 +37,7 @@ fn byte_at(bytes: &[u8], at: usize) -> u8
 
 // Where an event of a recording stands.
 fn place_of(bytes: &[u8], i: u32) -> usize
+    ensures { λ r. ⌜ r ≡ 2 + 4 * getD (now (bytes .entry)) 1 0 + 4 * i ⌝ }
 {
     2 + 4 * byte_at(bytes, 1) as usize + 4 * i as usize
 }

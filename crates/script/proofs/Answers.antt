@@ -8,8 +8,9 @@ use native.Mathlib.Omega.{arith}
 use lib.Dec.{ltb}
 use lib.ListN.{length, take, drop, length-drop}
 use Rattle.base.specs.Choice.{choose, both}
-use Rattle.base.proofs.Laws.{choose-yes, choose-no, clash}
+use Rattle.base.proofs.Laws.{choose-yes, choose-no, cases, clash}
 use Rattle.script.specs.declared.Line.the-variants.{Bad}
+use Rattle.script.specs.declared.Parsed.{Parsed}
 use Rattle.line_parts.specs.declared.Number.{Number}
 use Rattle.line_parts.specs.declared.Number.the-variants.{Is, None}
 use Rattle.line_parts.specs.Parts.{isNumber, valueAfter, isNodes, isLetter}
@@ -97,6 +98,13 @@ pub at-past : (text : List ℕ) (at : ℕ) → length text ≤ at → lineAt tex
 at-past text at h =
     let d = length-drop at text in
     at-end text at (drop at text) refl (before 10 (drop at text)) refl (omega arith)
+
+-- a line ends after it begins
+pub next-on : (text : List ℕ) (at : ℕ) → at < length text → at < lineAt text at .next
+unfolding lineAt
+next-on text at h =
+    cases (λ (p : Parsed). at < p .next) (ltb (before 10 (drop at text)) (length (drop at text))) _ _ (λ e. omega arith)
+    (λ e. h)
 
 -- ---- Numbers
 

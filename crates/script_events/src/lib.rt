@@ -1,13 +1,29 @@
 // The events of a script that was played, each with the answer that was printed for it. Any script and text may be handed.
 ghost use mathlib.Core.Path.{_≡_};
+ghost use Prim.Native.Nat.{_+_, _%_};
+ghost use lib.ListN.{take, drop};
+ghost use Rattle.script.specs.Script.{before};
 ghost use Rattle.printing.specs.Put.{put, ends};
-ghost use Rattle.script_events.specs.Events.{fourOf, eventBytes, answerOf, lineFrom, nextFrom, eventsOf};
+ghost use Rattle.script_events.specs.Events.{letterOf, fourOf, eventBytes, answerOf, lineFrom, nextFrom, eventsOf};
 use base::Kind;
 use line_parts::Number;
 use script::Line;
 
-fn low(x: u32) -> u8 {
+// ---- The bytes of an event
+
+fn low(x: u32) -> u8
+    ensures { λ r. ⌜ r ≡ x % 256 ⌝ }
+{
     (x % 256) as u8
+}
+
+fn letter_of(kind: Kind) -> u8
+    ensures { λ r. ⌜ r ≡ letterOf kind ⌝ }
+{
+    match kind {
+        Kind::Job => b's',
+        Kind::Note => b't',
+    }
 }
 
 // Puts an event's four bytes.
@@ -25,10 +41,7 @@ fn put_event(events: &mut [u8], at: usize, line: Line, answer: u32) -> usize
     ensures place { λ r. ⌜ r ≡ ends (now (events .entry)) at (eventBytes line answer) ⌝ }
 {
     match line {
-        Line::Sends(kind, a, b) => match kind {
-            Kind::Job => put_four(events, at, b's', a, b, answer),
-            Kind::Note => put_four(events, at, b't', a, b, answer),
-        },
+        Line::Sends(kind, a, b) => put_four(events, at, letter_of(kind), a, b, answer),
         Line::Delivers(a, b) => put_four(events, at, b'd', a, b, answer),
         Line::Idles(a) => put_four(events, at, b'i', a, 0, answer),
         Line::Calls(a) => put_four(events, at, b'b', a, 0, answer),
@@ -36,17 +49,42 @@ fn put_event(events: &mut [u8], at: usize, line: Line, answer: u32) -> usize
     }
 }
 
+// ---- The answers of a text
+
+// The bytes from a place on.
+fn from(s: &[u8], at: usize) -> &[u8]
+    ensures { λ r. ⌜ now r ≡ drop at (now (s .entry)) ⌝ }
+{
+    if s.len() <= at {
+        return &s[s.len()..];
+    }
+    &s[at..]
+}
+
+// The bytes before the first of a kind, and those after it.
+fn up_to(s: &[u8], byte: u8) -> &[u8]
+    ensures { λ r. ⌜ now r ≡ take (before byte (now (s .entry))) (now (s .entry)) ⌝ }
+{
+    let n = script::find(s, byte);
+    &s[..n]
+}
+
+fn after(s: &[u8], byte: u8) -> &[u8]
+    ensures { λ r. ⌜ now r ≡ drop (before byte (now (s .entry)) + 1) (now (s .entry)) ⌝ }
+{
+    let n = script::find(s, byte);
+    if s.len() <= n {
+        return &s[s.len()..];
+    }
+    &s[n + 1..]
+}
+
 // The answer that a printed line tells.
 fn answer_of(line: &[u8]) -> u32
     ensures { λ r. ⌜ r ≡ answerOf (now (line .entry)) ⌝ }
 {
-    let a = script::find(line, b' ');
-    if line.len() <= a {
-        return 0;
-    }
-    let rest = &line[a + 1..];
-    let b = script::find(rest, b' ');
-    let part = &rest[..b];
+    let rest = after(line, b' ');
+    let part = up_to(rest, b' ');
     let Number::Is(x) = line_parts::number_of(part) else {
         return 0;
     };
@@ -54,30 +92,26 @@ fn answer_of(line: &[u8]) -> u32
 }
 
 // The answer that the line of a text at a place tells.
-fn answer_at(text: &[u8], from: usize) -> u32
-    ensures { λ r. ⌜ r ≡ answerOf (lineFrom (now (text .entry)) from) ⌝ }
+fn answer_at(text: &[u8], at: usize) -> u32
+    ensures { λ r. ⌜ r ≡ answerOf (lineFrom (now (text .entry)) at) ⌝ }
 {
-    if text.len() <= from {
-        return 0;
-    }
-    let rest = &text[from..];
-    let n = script::find(rest, b'\n');
-    answer_of(&rest[..n])
+    let rest = from(text, at);
+    answer_of(up_to(rest, b'\n'))
 }
 
 // Where the next line of a text begins; its end where there is none.
-fn next_from(text: &[u8], from: usize) -> usize
-    ensures { λ r. ⌜ r ≡ nextFrom (now (text .entry)) from ⌝ }
+fn next_from(text: &[u8], at: usize) -> usize
+    ensures { λ r. ⌜ r ≡ nextFrom (now (text .entry)) at ⌝ }
 {
-    if text.len() <= from {
-        return text.len();
-    }
-    let n = script::find(&text[from..], b'\n');
-    if n < text.len() - from {
-        return from + n + 1;
+    let rest = from(text, at);
+    let n = script::find(rest, b'\n');
+    if n < rest.len() {
+        return at + n + 1;
     }
     text.len()
 }
+
+// ---- All events
 
 // Puts a script's events with the answers of the text that was printed for it, as many bytes as there is room for.
 // Answers where they end.

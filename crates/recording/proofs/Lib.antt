@@ -1,0 +1,5 @@
+pub mod Sums
+pub mod Sizes
+pub mod Tables
+pub mod Survives
+pub mod Tests

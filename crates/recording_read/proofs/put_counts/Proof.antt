@@ -1,0 +1,50 @@
+-- `put_counts`: before the count of section i is put, those before it are.
+use borrow.Author.Needs.{needs}
+use native.Mathlib.Omega.{arith}
+use mathlib.Core.Path.{_≡_, sym, ap, _∙_}
+use mathlib.Core.List.{List, [], _∷_}
+use Prim.Native.Nat.{ℕ, _+_, _-_, _≤_}
+use lib.ListN.{length, set, length-set}
+use denote.Ref.{now}
+use Rattle.base.specs.Choice.{list}
+use Rattle.base.proofs.Laws.{length-list, list-more}
+use Rattle.printing.specs.Put.{put}
+use Rattle.printing.proofs.Putting.{put-none, put-one, put-more}
+use Rattle.recording.specs.Recording.{countAt}
+use Rattle.recording_read.proofs.put_counts.Statement.{statement}
+use Rattle.recording_read.proofs.put_counts.Tie as tie
+
+abbrev Inv-loop : tie.InvT-loop
+Inv-loop bytes counts₀ sections i₀ counts i =
+    (i ≤ sections) × (length counts ≡ length counts₀) × (counts ≡ put counts₀ 0 (list 0 i (countAt bytes)))
+
+abbrev μ-loop : tie.MeasureT-loop
+μ-loop bytes counts₀ sections i₀ counts i = sections - i
+
+-- a value more at the end of those put
+more : (l : List ℕ) (i : ℕ) (f : ℕ → ℕ) → set (put l 0 (list 0 i f)) i (f i) ≡ put l 0 (list 0 (i + 1) f)
+more l i f =
+    let z : 0 + length (list 0 i f) ≡ i = omega (arith, length-list 0 i f) in
+    let s : 0 + i ≡ i = omega arith in
+    put-one _ i (f i)
+    ∙ rw z at (put-more l 0 (list 0 i f) (f i ∷ []))
+    ∙ ap (put l 0) (sym (rw s at (list-more 0 i f)))
+
+loop-again : tie.Need-loop-again Inv-loop μ-loop
+loop-again c =
+    let l = c .before .before in
+    let x = l .before .before .before .args in (
+      omega arith,
+      simp length-set (omega arith),
+      rw (l .loop .inv .2, c .number-at .ensures .0) (more (now (x .counts)) (l .loop .i) (countAt (now (x .bytes)))),
+    )
+
+returns : tie.Need-returns Inv-loop μ-loop
+returns c = let e : c .before .loop .i ≡ c .before .before .before .before .args .sections = omega arith in cc
+
+pub put-counts-spec : {M : Type 1} → statement M
+put-counts-spec =
+    tie.close
+    (tie.spec Inv-loop μ-loop (λ c. (search needs, search needs, sym (put-none _ _))) (λ c. search needs)
+    (λ c. search needs) (λ c κs. search needs) (λ c. search needs) (λ c. search needs) (λ c. search needs)
+    (λ c. search needs) loop-again (λ c. search needs) returns)
