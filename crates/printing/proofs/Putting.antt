@@ -5,8 +5,10 @@ use Prim.Native.Nat.{ℕ, zero, suc, _+_, _-_, _≤_, _<_, min}
 use native.Mathlib.Numerals.{add-one}
 use native.Mathlib.Omega.{arith}
 use native.Mathlib.Decide.{decLt}
-use lib.ListN.{length, getD, set, take, drop, length-set, length-append}
-use lib.Seq.{take-nil, drop-nil, take-suc}
+use lib.ListN.{length, getD, set, take, drop, length-set, length-append, length-take}
+use lib.Seq.{take-nil, drop-nil, take-suc, take-at}
+use Rattle.base.specs.Choice.{list}
+use Rattle.base.proofs.Laws.{length-list, list-more}
 use Rattle.printing.specs.Put.{put, ends}
 
 put-empty : (at : ℕ) (text : List ℕ) → put [] at text ≡ []
@@ -105,3 +107,20 @@ pub turn-more : (out now now′ s : List ℕ) (at next next′ i : ℕ) → i < 
 turn-more out now now′ s at next next′ i h w z =
     said out now′ (take i s ++ (getD s i 0 ∷ [])) (take (i + 1) s) at next′ (sym (rw add-one (take-suc s i 0 h)))
     (then out now now′ (take i s) (getD s i 0 ∷ []) at next next′ w z)
+
+-- a value more put after those that a rule lists
+pub put-next : (l : List ℕ) (i : ℕ) (f : ℕ → ℕ) → set (put l 0 (list 0 i f)) i (f i) ≡ put l 0 (list 0 (i + 1) f)
+put-next l i f =
+    let z : 0 + length (list 0 i f) ≡ i = omega (arith, length-list 0 i f) in
+    let s : 0 + i ≡ i = omega arith in
+    put-one _ i (f i)
+    ∙ rw z at (put-more l 0 (list 0 i f) (f i ∷ []))
+    ∙ ap (put l 0) (sym (rw s at (list-more 0 i f)))
+
+-- what is put from the start on, and no more
+pub taken : (out text : List ℕ) → take (ends out 0 text) (put out 0 text) ≡ take (length out) text
+unfolding put
+taken out text =
+    let e : length (take (length out - 0) text) ≡ ends out 0 text = rw length-take (omega arith) in
+    let d : length out - 0 ≡ length out = omega arith in
+    take-at (take (length out - 0) text) _ _ e ∙ ap (λ n. take n text) d

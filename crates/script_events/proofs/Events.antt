@@ -5,12 +5,13 @@ use mathlib.Core.List.{List, [], _∷_, _++_}
 use Prim.Native.Nat.{ℕ, zero, suc, _+_, _-_, _≤_, _<_}
 use native.Mathlib.Decide.{decLt}
 use native.Mathlib.Omega.{arith}
-use borrow.Author.Tests.{lt-ltb, le-ltb, le-leb, lt-leb}
+use borrow.Author.Tests.{ltb-true, lt-ltb, le-ltb, le-leb, lt-leb}
 use types.Run.{OneOf, miss}
 use denote.Enum.Declared.{tagOf}
+use lib.Dec.{ltb}
 use lib.ListN.{length, take, drop, length-drop, drop-of-length-le}
 use lib.Seq.{take-all}
-use Rattle.base.proofs.Laws.{choose-yes, choose-no}
+use Rattle.base.proofs.Laws.{choose-yes, choose-no, cases}
 use Rattle.line_parts.specs.Parts.{isNumber, valueAfter}
 use Rattle.printing.specs.Put.{put, ends}
 use Rattle.printing.proofs.Putting.{Written, then, put-none}
@@ -20,7 +21,7 @@ use Rattle.script.specs.declared.Line.the-variants.{Nodes, Sends, Delivers, Idl
 use Rattle.script.specs.declared.Parsed.{Parsed}
 use Rattle.script.proofs.Line as LineT
 use Rattle.script.proofs.Answers.{next-on}
-use Rattle.script_events.specs.Events.{eventBytes, answerOf, lineFrom, nextFrom, eventsFrom}
+use Rattle.script_events.specs.Events.{eventBytes, answerOf, lineFrom, nextFrom, stopAt, eventsFrom}
 
 -- ---- Parts of bytes
 
@@ -38,12 +39,25 @@ rest-past s at h =
 pub left : (text : List ℕ) (at : ℕ) (rest : List ℕ) → rest ≡ drop at text → length rest ≡ length text - at
 left text at rest e = ap length e ∙ length-drop at text
 
+next-within : (text : List ℕ) (at : ℕ) → nextFrom text at ≤ length text
+next-within text at =
+    cases (λ n. n ≤ length text) (ltb (at + before 10 (drop at text)) (length text)) _ _
+    (λ e. omega (arith, ltb-true (at + before 10 (drop at text)) (length text) e)) (λ e. omega arith)
+
 module _ (text : List ℕ) (at : ℕ) (rest : List ℕ) (e : rest ≡ drop at text) (n : ℕ) (p : n ≡ before 10 rest) where
   pub next-there : n < length rest → at + n + 1 ≡ nextFrom text at
   next-there h = rw (← e, ← p, lt-ltb (at + n) (length text) (omega (arith, left text at rest e)))
 
   pub next-none : length rest ≤ n → length text ≡ nextFrom text at
   next-none h = rw (← e, ← p, le-ltb (at + n) (length text) (omega (arith, left text at rest e)))
+
+-- where a text says why the play stopped, by where its second line begins
+pub stop-there : (text : List ℕ) (at : ℕ) → at ≡ nextFrom text 0 → (rest : List ℕ) → rest ≡ drop at text
+    → (n : ℕ) → (n ≡ before 115 rest) × (n ≤ length rest) → (at + n ≡ stopAt text) × (at + n ≤ length text)
+unfolding stopAt
+stop-there text at e rest f n p =
+    let h : at ≤ length text = rw e (next-within text 0) in
+    (rw (← e, ← f, p .0), omega (arith, left text at rest f))
 
 module _
     (line rest part : List ℕ)

@@ -47,6 +47,10 @@ nextFrom text from =
     let n = before 10 (drop from text) in
     choose (ltb (from + n) (length text)) (from + n + 1) (length text)
 
+-- where a text says why the play stopped: at the only letter s after its first line; its end where there is none
+unfoldable pub stopAt : List ℕ → ℕ
+stopAt text = let at = nextFrom text 0 in at + before 115 (drop at text)
+
 -- ---- All events
 
 -- the lines of a script from a place on, at most so many, with those of the printed text from its place on

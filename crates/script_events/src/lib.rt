@@ -1,10 +1,10 @@
 // The events of a script that was played, each with the answer that was printed for it. Any script and text may be handed.
 ghost use mathlib.Core.Path.{_≡_};
-ghost use Prim.Native.Nat.{_+_, _%_};
-ghost use lib.ListN.{take, drop};
+ghost use Prim.Native.Nat.{_+_, _%_, _≤_};
+ghost use lib.ListN.{length, take, drop};
 ghost use Rattle.script.specs.Script.{before};
 ghost use Rattle.printing.specs.Put.{put, ends};
-ghost use Rattle.script_events.specs.Events.{letterOf, fourOf, eventBytes, answerOf, lineFrom, nextFrom, eventsOf};
+ghost use Rattle.script_events.specs.Events.{letterOf, fourOf, eventBytes, answerOf, lineFrom, nextFrom, stopAt, eventsOf};
 use base::Kind;
 use line_parts::Number;
 use script::Line;
@@ -109,6 +109,15 @@ fn next_from(text: &[u8], at: usize) -> usize
         return at + n + 1;
     }
     text.len()
+}
+
+// Where a text says why the play stopped; its end where it did not.
+pub fn stop_at(text: &[u8]) -> usize
+    ensures { λ r. ⌜ (r ≡ stopAt (now (text .entry))) × (r ≤ length (now (text .entry))) ⌝ }
+{
+    let at = next_from(text, 0);
+    let rest = from(text, at);
+    at + script::find(rest, b's')
 }
 
 // ---- All events

@@ -7,9 +7,8 @@ use Prim.Native.Nat.{ℕ, _+_, _-_, _≤_}
 use lib.ListN.{length, set, length-set}
 use denote.Ref.{now}
 use Rattle.base.specs.Choice.{list}
-use Rattle.base.proofs.Laws.{length-list, list-more}
 use Rattle.printing.specs.Put.{put}
-use Rattle.printing.proofs.Putting.{put-none, put-one, put-more}
+use Rattle.printing.proofs.Putting.{put-none, put-next}
 use Rattle.recording.specs.Recording.{countAt}
 use Rattle.recording_read.proofs.put_counts.Statement.{statement}
 use Rattle.recording_read.proofs.put_counts.Tie as tie
@@ -21,22 +20,13 @@ Inv-loop bytes counts₀ sections i₀ counts i =
 abbrev μ-loop : tie.MeasureT-loop
 μ-loop bytes counts₀ sections i₀ counts i = sections - i
 
--- a value more at the end of those put
-more : (l : List ℕ) (i : ℕ) (f : ℕ → ℕ) → set (put l 0 (list 0 i f)) i (f i) ≡ put l 0 (list 0 (i + 1) f)
-more l i f =
-    let z : 0 + length (list 0 i f) ≡ i = omega (arith, length-list 0 i f) in
-    let s : 0 + i ≡ i = omega arith in
-    put-one _ i (f i)
-    ∙ rw z at (put-more l 0 (list 0 i f) (f i ∷ []))
-    ∙ ap (put l 0) (sym (rw s at (list-more 0 i f)))
-
 loop-again : tie.Need-loop-again Inv-loop μ-loop
 loop-again c =
     let l = c .before .before in
     let x = l .before .before .before .args in (
       omega arith,
       simp length-set (omega arith),
-      rw (l .loop .inv .2, c .number-at .ensures .0) (more (now (x .counts)) (l .loop .i) (countAt (now (x .bytes)))),
+      rw (l .loop .inv .2, c .number-at .ensures .0) (put-next (now (x .counts)) (l .loop .i) (countAt (now (x .bytes)))),
     )
 
 returns : tie.Need-returns Inv-loop μ-loop

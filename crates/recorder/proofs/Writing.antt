@@ -1,0 +1,81 @@
+-- What is written of a script: its recording, or nothing where that is refused.
+use native.Mathlib.Omega.{arith}
+use native.Mathlib.Decide.{decLt}
+use mathlib.Core.Path.{_≡_, refl, sym, ap, _∙_}
+use mathlib.Core.Bool.{Bool, true, false}
+use mathlib.Core.List.{List, [], _∷_}
+use Prim.Native.Nat.{ℕ, _+_, _/_, _≤_, _<_, min}
+use types.Run.{OneOf, miss}
+use denote.Enum.Declared.{tagOf}
+use lib.ListN.{length, take}
+use lib.Seq.{take-all, length-take-le}
+use Rattle.base.proofs.Laws.{length-list}
+use Rattle.script.specs.declared.Line.{Line}
+use Rattle.script.specs.declared.Line.the-variants.{Nodes, Sends, Delivers, Idles, Calls, Bad}
+use Rattle.script.proofs.Line as LineT
+use Rattle.script.specs.Script.{lineAt}
+use Rattle.printing.specs.Put.{put, ends}
+use Rattle.printing.proofs.Putting.{taken}
+use Rattle.recording.specs.Recording.{Recording, made, bodies}
+use Rattle.recording.specs.Test.{isBad}
+use Rattle.recording.proofs.Sizes.{sized}
+use Rattle.recording_write.specs.Write.{writeAnswer, writtenOn}
+use Rattle.recording_write.proofs.Writing.{bad}
+use Rattle.script_events.specs.Events.{eventsOf}
+use Rattle.recorder.specs.Recorded.{sectionsFor, sizeOf, countsFor, nodesBy, recordingOf}
+
+pub no-nodes : (line : Line) → OneOf (1 ∷ 2 ∷ 3 ∷ 4 ∷ 5 ∷ []) (tagOf LineT.the-type line) → 0 ≡ nodesBy line
+no-nodes (Nodes P) h = absurd (miss (1 ∷ 2 ∷ 3 ∷ 4 ∷ 5 ∷ []) 0 tt h)
+no-nodes (Sends kind a b) h = refl
+no-nodes (Delivers a b) h = refl
+no-nodes (Idles a) h = refl
+no-nodes (Calls a) h = refl
+no-nodes Bad h = refl
+
+-- ---- What is put into memory that is long enough, and taken from it
+
+pub length-counts : (events : ℕ) → length (countsFor events) ≡ sectionsFor events
+unfolding countsFor
+length-counts events = length-list 0 (sectionsFor events) (sizeOf events)
+
+pub counts-put : (out : List ℕ) (events n : ℕ) → n ≡ sectionsFor events → n ≤ length out
+    → take n (put out 0 (countsFor events)) ≡ countsFor events
+counts-put out events n e h =
+    let l = length-counts events in
+    let m : n ≡ ends out 0 (countsFor events) = omega arith in
+    rw m (taken out (countsFor events) ∙ take-all (length out) (countsFor events) (omega arith))
+
+-- ---- Both recordings are written alike
+
+-- more than a recording may have
+long : (r : Recording) → 60000 < bodies (length (r .counts)) + length (r .events) → isBad r ≡ true
+long r h = go (isBad r) refl
+  where
+    go : (t : Bool) → isBad r ≡ t → isBad r ≡ true
+    go true e = e
+    go false e = absurd (omega (arith, sized r e .room))
+
+module _ (script text : List ℕ) (nodes : ℕ) (lent buf : List ℕ) (size : length lent ≡ 60000) where
+  abbrev all : List ℕ
+  all = eventsOf script text
+
+  pub written : (end : ℕ) (counts events : List ℕ) → nodes ≡ nodesBy (lineAt script 0 .line) → end ≡ ends lent 0 all
+      → counts ≡ countsFor (end / 4) → events ≡ take end (put lent 0 all)
+      → (writeAnswer (made nodes counts events) (length buf) ≡ writeAnswer (recordingOf script text) (length buf))
+      × (writtenOn (made nodes counts events) buf ≡ writtenOn (recordingOf script text) buf)
+  unfolding recordingOf
+  written end counts events e n k t = go (decLt (length lent) (length all)) (rw n at t ∙ taken lent all)
+    where
+      go : Dec (length lent < length all) → events ≡ take (length lent) all
+          → (writeAnswer (made nodes counts events) (length buf) ≡ writeAnswer (recordingOf script text) (length buf))
+          × (writtenOn (made nodes counts events) buf ≡ writtenOn (recordingOf script text) buf)
+      go (yes h) q =
+          let l : length events ≡ length lent = ap length q ∙ length-take-le (length lent) all (omega arith) in
+          let one = bad (made nodes counts events) buf (long (made nodes counts events) (omega arith)) in
+          let two = bad (recordingOf script text) buf (long (recordingOf script text) (omega arith)) in
+          (sym (one .0) ∙ two .0, sym (one .1) ∙ two .1)
+      go (no h) q =
+          let m : end ≡ length all = omega arith in
+          let r : made nodes counts events ≡ recordingOf script text =
+          rw (e, k, m, q, take-all (length lent) all (omega arith)) in
+          (ap (λ r. writeAnswer r (length buf)) r, ap (λ r. writtenOn r buf) r)
