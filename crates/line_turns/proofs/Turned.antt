@@ -135,11 +135,12 @@ module _ (st : Stage) (items : List Item) (bytes : List ℕ) (within : st .under
   step-turns h small (Calls a) near = event-is (Calls a) ∙ call-turns st items bytes a _ _
   step-turns h small Bad near = still Bad refl
 
-  -- the size stays, and what is under way stays lent
-  pub step-keeps : (l : Line) → (stepped st items bytes l .stage .size ≡ st .size) ×
-      (stepped st items bytes l .stage .under ≤ roomFor (length items) bytes)
+  -- the size stays, and what is under way stays lent where as much is lent as before
+  pub step-keeps : (l : Line) (r : Acted) → r ≡ stepped st items bytes l → (zs : List Item) → length zs ≡ length items
+      → (bs : List ℕ) → length bs ≡ length bytes
+      → (r .stage .size ≡ st .size) × (r .stage .under ≤ roomFor (length zs) bs)
   unfolding stepped
-  step-keeps l =
+  step-keeps l r e zs same-items bs same-bytes =
       let k = line-keeps st (length items) bytes within l (oldest st items bytes l)
       (getD items (oldest st items bytes l) noItem) in
-      (k .size, k .lent)
+      (ap (λ (x : Acted). x .stage .size) e ∙ k .size, rw (same-items, same-bytes, e) (k .lent))

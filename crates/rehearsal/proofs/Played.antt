@@ -2,7 +2,7 @@
 use mathlib.Core.Path.{_≡_, refl, sym, ap, subst, _∙_}
 use mathlib.Core.Bool.{Bool, true, false}
 use mathlib.Core.List.{List, [], _++_, append-assoc, append-nil}
-use Prim.Native.Nat.{ℕ, zero, suc, _+_, _≤_, _<_, _/_, min}
+use Prim.Native.Nat.{ℕ, zero, suc, _+_, _≤_, _<_}
 use native.Mathlib.Omega.{arith}
 use lib.Dec.{ltb, eqb}
 use lib.ListN.{length, drop}
@@ -174,12 +174,9 @@ module _ (script : List ℕ) (items : List Item) (bytes out : List ℕ) where
       =
       record {
         enough = omega (arith, next, inv .enough);
-        live = λ h. (live .0, (omega (arith, next, live .1 .0), omega (arith, size-is, live .1 .1)));
-        small = omega (arith, size-is, inv .small);
-        within =
-            subst (λ (n : ℕ). r .stage .under ≤ min 512 (min n (length bs′ / 76))) (sym l-items)
-            (subst (λ (n : ℕ). r .stage .under ≤ min 512 (min (length zs) (n / 76))) (sym l-bytes)
-            (subst (λ (a : Acted). a .stage .under ≤ roomFor (length zs) bs) (sym r-is) (keeps .1)));
+        live = λ h. (live .0, (omega (arith, next, live .1 .0), omega (arith, keeps .0, live .1 .1)));
+        small = omega (arith, keeps .0, inv .small);
+        within = keeps .1;
         long-items = l-items ∙ inv .long-items;
         long-bytes = l-bytes ∙ inv .long-bytes;
         text = inv .text ++ lineText (told .line) r count;
@@ -197,12 +194,8 @@ module _ (script : List ℕ) (items : List Item) (bytes out : List ℕ) where
       next : at < told .next
       next = subst (λ (p : Parsed). at < p .next) (sym told-is) (told-on script at (st .size) below)
 
-      keeps : (stepped st zs bs (told .line) .stage .size ≡ st .size) ×
-          (stepped st zs bs (told .line) .stage .under ≤ roomFor (length zs) bs)
-      keeps = step-keeps st zs bs (inv .within) (told .line)
-
-      size-is : r .stage .size ≡ st .size
-      size-is = ap (λ (a : Acted). a .stage .size) r-is ∙ keeps .0
+      keeps : (r .stage .size ≡ st .size) × (r .stage .under ≤ roomFor (length zs′) bs′)
+      keeps = step-keeps st zs bs (inv .within) (told .line) r r-is zs′ l-items bs′ l-bytes
 
       -- what the calls answered is what the definitions say
       r-said : r ≡ stepped st zs bs (toldAt script at (st .size) .line)

@@ -2,7 +2,7 @@
 use mathlib.Core.Path.{_≡_, refl, sym, ap, subst, _∙_}
 use mathlib.Core.Bool.{Bool, true, false}
 use mathlib.Core.List.{List}
-use Prim.Native.Nat.{ℕ, suc, _+_, _-_, _≤_, _<_, _/_, min}
+use Prim.Native.Nat.{ℕ, suc, _+_, _-_, _≤_, _<_}
 use native.Mathlib.Nat.{sub-zero}
 use native.Mathlib.Omega.{arith}
 use lib.Dec.{ltb, eqb}
@@ -81,9 +81,8 @@ module _ (recording : List ℕ) (items : List Item) (bytes : List ℕ) where
       sizes : Sized r
       sizes = sized r (live .good)
 
-      keeps : (stepped st zs bs line .stage .size ≡ st .size) ×
-          (stepped st zs bs line .stage .under ≤ roomFor (length zs) bs)
-      keeps = step-keeps st zs bs (live .within) line
+      keeps : (a .stage .size ≡ st .size) × (a .stage .under ≤ roomFor (length zs′) bs′)
+      keeps = step-keeps st zs bs (live .within) line a a-is zs′ l-items bs′ l-bytes
 
       -- what the calls answered is the turn of the event
       came : record { stage = a .stage; items = zs′; bytes = bs′; actor = a .actor; answer = a .answer }
@@ -121,11 +120,8 @@ module _ (recording : List ℕ) (items : List Item) (bytes : List ℕ) where
                 record {
                   good = live .good;
                   all = m ∙ live .all;
-                  size = ap (λ (x : Acted). x .stage .size) a-is ∙ keeps .0 ∙ live .size;
-                  within =
-                      subst (λ (n : ℕ). a .stage .under ≤ min 512 (min n (length bs′ / 76))) (sym l-items)
-                      (subst (λ (n : ℕ). a .stage .under ≤ min 512 (min (length zs) (n / 76))) (sym l-bytes)
-                      (subst (λ (x : Acted). x .stage .under ≤ roomFor (length zs) bs) (sym a-is) (keeps .1)));
+                  size = keeps .0 ∙ live .size;
+                  within = keeps .1;
                   rest = rw m e;
                 };
             over = none-left most′ (i + 1) (a .stage) zs′ bs′ (omega (arith, m)) (rw m e);
