@@ -16,7 +16,7 @@ fn sections_of_idles(nodes: u32, counts: &[usize]) -> Recording {
 
 // ---- Bytes
 
-/// Node counts and numbers of sections, with events and without, whose node numbers would be refused too.
+/// Every node count and every number of sections that a byte can tell, with events and without.
 fn heads(report: &mut Report) {
     for number in 0..=255 {
         for counts in [vec![0], vec![1, 0, 2]] {
