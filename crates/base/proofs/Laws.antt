@@ -8,7 +8,7 @@ use native.Mathlib.Nat.{zero-add}
 use native.Mathlib.Numerals.{add-one}
 use native.Mathlib.Omega.{arith}
 use lib.ListN.{length, getD, set}
-use Rattle.base.specs.Choice.{choose, both, every, list}
+use Rattle.base.specs.Choice.{choose, both, either, every, list}
 use Rattle.base.specs.Refusal.{refused, found, Check, inOrder, number}
 
 -- true is not false
@@ -32,6 +32,10 @@ both-true false t e = clash (sym e)
 
 pub both-make : {s t : Bool} → s ≡ true → t ≡ true → both s t ≡ true
 both-make a b = rw (a, b)
+
+pub either-false : (s t : Bool) → either s t ≡ false → (s ≡ false) × (t ≡ false)
+either-false true t e = clash e
+either-false false t e = (refl, e)
 
 pub every-at : (start count : ℕ) (f : ℕ → Bool) → every start count f ≡ true → (i : ℕ) → start ≤ i → i < start + count
     → f i ≡ true

@@ -5,14 +5,16 @@ use mathlib.Core.Bool.{true, false}
 use mathlib.Core.List.{List}
 use Prim.Native.Nat.{ℕ, _+_, _-_, _≤_, _<_, _%_}
 use native.Mathlib.Omega.{arith}
+use lib.Dec.{ltb}
 use lib.ListN.{length, getD, set}
-use borrow.Author.Tests.{le-ltb, ne-eqb}
+use borrow.Author.Tests.{ltb-true, le-ltb, ne-eqb}
 use Rattle.base.specs.Choice.{either}
 use Rattle.base.specs.Limits.{base}
-use Rattle.base.proofs.Laws.{clash}
+use Rattle.base.proofs.Laws.{clash, both-true}
 use Rattle.tree.specs.Lookups.{badBoard}
 use Rattle.script.specs.declared.Line.{Line}
 use Rattle.script.specs.declared.Line.the-variants.{Nodes, Sends, Delivers, Idles, Calls, Bad}
+use Rattle.script.proofs.Named.{isEvent}
 use Rattle.items.specs.Places.{noItem, oldestAt, oldestWithin}
 use Rattle.item_changes.specs.Places.{removedWithin, moved}
 use Rattle.items.specs.declared.Item.{Item}
@@ -36,6 +38,16 @@ Near (Delivers a b) = (a < 256) × (b < 256)
 Near (Idles a) = Unit {0}
 Near (Calls a) = Unit {0}
 Near Bad = Unit {0}
+
+pub near : (size : ℕ) → size ≤ 256 → (l : Line) → isEvent size l ≡ true → Near l
+near size h (Nodes P) e = tt
+near size h (Sends kind a b) e = tt
+near size h (Delivers a b) e =
+    let k = both-true (ltb a size) (ltb b size) e in
+    (omega (arith, ltb-true a size (k .0)), omega (arith, ltb-true b size (k .1)))
+near size h (Idles a) e = tt
+near size h (Calls a) e = tt
+near size h Bad e = tt
 
 -- what a step leaves, as a turn
 abbrev pub turnAfter : Stage → List Item → List ℕ → Line → Turn
@@ -123,11 +135,12 @@ module _ (st : Stage) (items : List Item) (bytes : List ℕ) (within : st .under
   step-turns h small (Calls a) near = event-is (Calls a) ∙ call-turns st items bytes a _ _
   step-turns h small Bad near = still Bad refl
 
-  -- the size stays, and what is under way stays lent
-  pub step-keeps : (l : Line) → (stepped st items bytes l .stage .size ≡ st .size) ×
-      (stepped st items bytes l .stage .under ≤ roomFor (length items) bytes)
+  -- the size stays, and what is under way stays lent where as much is lent as before
+  pub step-keeps : (l : Line) (r : Acted) → r ≡ stepped st items bytes l → (zs : List Item) → length zs ≡ length items
+      → (bs : List ℕ) → length bs ≡ length bytes
+      → (r .stage .size ≡ st .size) × (r .stage .under ≤ roomFor (length zs) bs)
   unfolding stepped
-  step-keeps l =
+  step-keeps l r e zs same-items bs same-bytes =
       let k = line-keeps st (length items) bytes within l (oldest st items bytes l)
       (getD items (oldest st items bytes l) noItem) in
-      (k .size, k .lent)
+      (ap (λ (x : Acted). x .stage .size) e ∙ k .size, rw (same-items, same-bytes, e) (k .lent))

@@ -1,16 +1,12 @@
 -- The sizes of a board that can be played.
-use mathlib.Core.Path.{_≡_, refl}
-use mathlib.Core.Bool.{Bool, true, false}
+use mathlib.Core.Path.{_≡_}
+use mathlib.Core.Bool.{false}
 use Prim.Native.Nat.{ℕ, _≤_, _<_}
 use native.Mathlib.Omega.{arith}
 use lib.Dec.{eqb, ltb}
 use borrow.Author.Tests.{ltb-false, eqb-false}
 use Rattle.base.specs.Choice.{either}
-use Rattle.base.proofs.Laws.{clash}
-
-either-false : (s t : Bool) → either s t ≡ false → (s ≡ false) × (t ≡ false)
-either-false true t e = clash e
-either-false false t e = (refl, e)
+use Rattle.base.proofs.Laws.{either-false}
 
 pub size-good : (size : ℕ) → either (eqb size 0) (ltb 16 size) ≡ false → size ≤ 16
 size-good size e = ltb-false 16 size (either-false (eqb size 0) (ltb 16 size) e .1)

@@ -184,7 +184,7 @@ step-stays ws buf ds x e =
 -- ---- the lookups, and frames
 
 -- what is found gives 0, and what is refused the number of a check
-looked-up : {A : Type 0} (ns : List ℕ) (cs : List Check) (r : Answered A) → covers ns cs ≡ true
+pub looked-up : {A : Type 0} (ns : List ℕ) (cs : List Check) (r : Answered A) → covers ns cs ≡ true
     → OneOf ns (lookupNumber r) → OneOf ns (lookupNumber (inOrder noAnswer cs r))
 looked-up ns cs r e z = order-cases noAnswer (λ q. OneOf ns (lookupNumber q)) cs r (λ x s. stops-among ns e s) (λ p. z)
 
@@ -237,29 +237,28 @@ writes P room ws =
     (when (badBoard base P) Refusal.board ∷ when (leb 256 (getD ws atPhase 0)) Refusal.field ∷ [])
     (writeFrame base P (frameFrom ws) room) refl (written P room (frameFrom ws))
 
-number-stays : (r : Answered ℕ) (ws : List ℕ) → lookupNumber r ≢ 0 → numberWords r ws ≡ ws
-number-stays (noAnswer x) ws z = refl
-number-stays (found n) ws z = absurd (z refl)
+-- what stays in each refusal, stays where the number is not 0
+pub refused-stays : {A B : Type 0} (left : Answered A → B) (lent : B) → ((x : ℕ) → left (noAnswer x) ≡ lent)
+    → (r : Answered A) → lookupNumber r ≢ 0 → left r ≡ lent
+refused-stays left lent f (noAnswer x) z = f x
+refused-stays left lent f (found a) z = absurd (z refl)
+
+pub number-stays : (r : Answered ℕ) (ws : List ℕ) → lookupNumber r ≢ 0 → numberWords r ws ≡ ws
+number-stays r ws = refused-stays (λ q. numberWords q ws) ws (λ x. refl) r
 
 place-stays : (r : Answered Place) (ws : List ℕ) → lookupNumber r ≢ 0 → placeWords r ws ≡ ws
-place-stays (noAnswer x) ws z = refl
-place-stays (found a) ws z = absurd (z refl)
+place-stays r ws = refused-stays (λ q. placeWords q ws) ws (λ x. refl) r
 
 pub write-stays : (P : ℕ) (ws buf size : List ℕ) → lookupNumber (writeOn base P ws (length buf)) ≢ 0
     → (writtenOn base P ws buf ≡ buf) × (numberWords (writeOn base P ws (length buf)) size ≡ size)
-write-stays P ws buf size z = (go (writeOn base P ws (length buf)) z, number-stays (writeOn base P ws (length buf)) size z)
-  where
-    go : (r : Answered ℕ) → lookupNumber r ≢ 0 → over (frameBytes (dimension P) (frameFrom ws)) buf r ≡ buf
-    go (noAnswer x) z = refl
-    go (found n) z = absurd (z refl)
+write-stays P ws buf size z =
+    let r = writeOn base P ws (length buf) in
+    let new = frameBytes (dimension P) (frameFrom ws) in
+    (refused-stays (over new buf) buf (λ x. refl) r z, number-stays r size z)
 
 pub read-stays : (P : ℕ) (bs ws : List ℕ) → lookupNumber (readFrame base P bs) ≢ 0
     → frameWords (readFrame base P bs) ws ≡ ws
-read-stays P bs ws = go (readFrame base P bs)
-  where
-    go : (r : Answered Frame) → lookupNumber r ≢ 0 → frameWords r ws ≡ ws
-    go (noAnswer x) z = refl
-    go (found f) z = absurd (z refl)
+read-stays P bs ws = refused-stays (λ q. frameWords q ws) ws (λ x. refl) (readFrame base P bs)
 
 pub any-input : AnyInput
 any-input =

@@ -12,10 +12,13 @@ use Rattle.runs.proofs.LinkBytes.{link-bytes}
 use Rattle.starred.proofs.Starred.{starred}
 use Rattle.rehearsed.proofs.Whole.{every-rehearsal}
 use Rattle.rehearsed.proofs.Fits.{every-text-fits}
+use Rattle.recording.proofs.Survives.{survives}
+use Rattle.replayed.proofs.Whole.{every-replay}
 use Rattle.promises.specs.Promises.{Runs, Promises}
 use Rattle.promises.proofs.AnyInput.{any-input}
 use Rattle.promises.proofs.Tree.{tree}
 use Rattle.promises.proofs.Frames.{frames}
+use Rattle.promises.proofs.Recordings.{recordings}
 
 fit : Fit base
 fit = record { room = omega arith; four = omega arith }
@@ -47,4 +50,7 @@ promises =
       starred = starred;
       rehearsals = every-rehearsal;
       texts = every-text-fits;
+      anyRecording = recordings;
+      recordings = survives;
+      replays = every-replay;
     }

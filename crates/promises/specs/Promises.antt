@@ -1,6 +1,6 @@
 -- What the part promises, at the limits of this build. Each field cites the definitions that the contracts of the functions cite, so
 -- that a change of either is seen here. Carried by contracts alone: that every call ends, touches nothing but what is lent, and gives
--- the state, answer and bytes of its definition (the functions of crates/barrier_c/src/lib.rt).
+-- the state, answer and bytes of its definition (the functions of crates/barrier_c/src/lib.rt and crates/recording_c/src/lib.rt).
 use mathlib.Core.Path.{_≡_}
 use mathlib.Core.Logic.{_≢_}
 use mathlib.Core.Bool.{Bool, true, false}
@@ -38,6 +38,14 @@ use Rattle.runs.specs.LinkBytes.{LinkBytes}
 use Rattle.starred.specs.Rows.{All, table}
 use Rattle.rehearsed.specs.Run.{EveryRehearsal}
 use Rattle.rehearsed.specs.Fits.{EveryTextFits}
+use Rattle.items.specs.declared.Item.{Item}
+use Rattle.recording.specs.Recording.{Recording, recordingIn}
+use Rattle.recording.specs.Laws.{Survives}
+use Rattle.recording_write.specs.Write.{writeAnswer, writtenOn as recordingOn}
+use Rattle.recording_read.specs.Read.{readAnswer, filled}
+use Rattle.replays.specs.Replay.{replay, replayAnswer}
+use Rattle.replayed.specs.Run.{EveryReplay}
+use Rattle.recording_c.specs.Exports.{headWords, positionWords}
 
 abbrev pub among : List ℕ → ℕ → Bool
 among [] x = false
@@ -169,6 +177,24 @@ pub record Runs (P : ℕ) : Type 0 where
   -- and what a maker may rely on besides, losses or not
   pub facts : (es : List Event) → Facts base P (run base P es)
 
+-- ---- 6. Any recording: an answer of ours, and what is lent stays where it is refused
+
+pub record Recordings : Type 0 where
+  pub reads : (bs : List ℕ) (counts events : ℕ) → OneOf (18 ∷ 14 ∷ 0 ∷ []) (lookupNumber (readAnswer bs counts events))
+  pub readStays : (bs counts events head : List ℕ) → let read = readAnswer bs (length counts) (length events) in
+      lookupNumber read ≢ 0
+      → (filled counts (recordingIn bs .counts) read ≡ counts) × (filled events (recordingIn bs .events) read ≡ events)
+      × (headWords read head ≡ head)
+  pub writes : (r : Recording) (room : ℕ) → OneOf (18 ∷ 14 ∷ 0 ∷ []) (lookupNumber (writeAnswer r room))
+  pub writeStays : (r : Recording) (buf size : List ℕ) → lookupNumber (writeAnswer r (length buf)) ≢ 0
+      → (recordingOn r buf ≡ buf) × (numberWords (writeAnswer r (length buf)) size ≡ size)
+  pub replays : (bs : List ℕ) (items : List Item) (bytes : List ℕ)
+      → OneOf (18 ∷ 19 ∷ 0 ∷ []) (replayAnswer bs items bytes .why)
+  -- a replay that is refused with 19 has been played up to the answer that differs
+  pub replayStays : (bs : List ℕ) (items : List Item) (bytes position : List ℕ) → replayAnswer bs items bytes .why ≡ 18
+      → (replay bs items bytes .items ≡ items) × (replay bs items bytes .bytes ≡ bytes)
+      × (positionWords (replayAnswer bs items bytes) position ≡ position)
+
 -- ---- All of it
 
 pub record Promises : Type 0 where
@@ -185,3 +211,7 @@ pub record Promises : Type 0 where
   -- every rehearsal is a run, and its text fits what the program lends for it
   pub rehearsals : EveryRehearsal
   pub texts : EveryTextFits
+  pub anyRecording : Recordings
+  -- recordings survive writing and reading, and a replay that ends well is a run
+  pub recordings : Survives
+  pub replays : EveryReplay

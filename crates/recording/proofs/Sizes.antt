@@ -1,6 +1,6 @@
 -- What holds of a recording that is not refused: its sizes, so that each of its numbers has room in the bytes, and its
 -- events.
-use mathlib.Core.Path.{_≡_, refl}
+use mathlib.Core.Path.{_≡_}
 use mathlib.Core.Bool.{Bool, true, false, not}
 use Prim.Native.Nat.{ℕ, _+_, _*_, _≤_, _<_}
 use native.Mathlib.Omega.{arith}
@@ -8,13 +8,9 @@ use lib.Dec.{ltb, eqb}
 use lib.ListN.{length}
 use borrow.Author.Tests.{ltb-false, eqb-true, eqb-false, not-false}
 use Rattle.base.specs.Choice.{either}
-use Rattle.base.proofs.Laws.{clash}
+use Rattle.base.proofs.Laws.{either-false}
 use Rattle.recording.specs.Recording.{Recording, bodies}
 use Rattle.recording.specs.Test.{outside, goodEvents, isBadBy, isBad, sum}
-
-pub either-false : (s t : Bool) → either s t ≡ false → (s ≡ false) × (t ≡ false)
-either-false true t e = clash e
-either-false false t e = (refl, e)
 
 within : (most x : ℕ) → outside most x ≡ false → x ≤ most
 within most x e = ltb-false most x (either-false (eqb x 0) (ltb most x) e .1)

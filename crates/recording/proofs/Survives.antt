@@ -10,12 +10,12 @@ use lib.ListN.{length, getD, drop, length-append}
 use lib.Seq.{drop-at}
 use borrow.Author.Tests.{ltb-false, le-ltb, not-false}
 use Rattle.base.specs.Choice.{list}
-use Rattle.base.proofs.Laws.{length-list}
+use Rattle.base.proofs.Laws.{either-false, length-list}
 use Rattle.frame.specs.Shapes.{Bytes}
 use Rattle.recording.specs.Laws.{Survives}
 use Rattle.recording.specs.Recording.{Recording, made, bytesOf, recordingIn, table, bodies, sectionsIn, countAt}
 use Rattle.recording.specs.Test.{isBad, isBadIn, placed}
-use Rattle.recording.proofs.Sizes.{either-false, sized}
+use Rattle.recording.proofs.Sizes.{sized}
 use Rattle.recording.proofs.Tables.{length-table, table-read, table-written}
 
 -- ---- Written, then read

@@ -2,7 +2,7 @@
 use mathlib.Core.Path.{_≡_, refl, sym, ap, subst, _∙_}
 use mathlib.Core.Bool.{Bool, true, false}
 use mathlib.Core.List.{List, [], _++_, append-assoc, append-nil}
-use Prim.Native.Nat.{ℕ, zero, suc, _+_, _≤_, _<_, _/_, min}
+use Prim.Native.Nat.{ℕ, zero, suc, _+_, _≤_, _<_}
 use native.Mathlib.Omega.{arith}
 use lib.Dec.{ltb, eqb}
 use lib.ListN.{length, drop}
@@ -27,7 +27,7 @@ use Rattle.opening.specs.Opens.{shut, openedBy, opened, openingText}
 use Rattle.lines.specs.Told.{taken, stops, toldAt}
 use Rattle.lines.specs.Printed.{lineText}
 use Rattle.line_step.specs.Steps.{stepped, steppedBytes, steppedItems}
-use Rattle.line_turns.proofs.Turned.{Near, turnAfter, still, step-turns, step-keeps}
+use Rattle.line_turns.proofs.Turned.{Near, near, turnAfter, still, step-turns, step-keeps}
 use Rattle.opening.specs.declared.Opened.{Opened}
 use Rattle.opening.proofs.Sizes.{size-good, size-some}
 use Rattle.opening.proofs.Texts.{opening-stop}
@@ -73,10 +73,10 @@ module _ (st : Stage) (items : List Item) (bytes : List ℕ) (within : st .under
     by-test : (t : Bool) (l : Line) → stops l ≡ false → (t ≡ true → Near l)
         → read E S (choose t (event (turnOf st items bytes l)) stop)
         ≡ choose (stops (choose t l Bad)) S (E (turnAfter st items bytes (choose t l Bad)))
-    by-test true l e near =
-        sym (ap E (step-turns st items bytes within some small l (near refl)))
+    by-test true l e h =
+        sym (ap E (step-turns st items bytes within some small l (h refl)))
         ∙ sym (choose-no S (E (turnAfter st items bytes l)) e)
-    by-test false l e near = refl
+    by-test false l e h = refl
 
     acts : (raw : Line) → read E S (actOf st items bytes raw)
         ≡ choose (stops (taken (st .size) raw)) S (E (turnAfter st items bytes (taken (st .size) raw)))
@@ -84,11 +84,7 @@ module _ (st : Stage) (items : List Item) (bytes : List ℕ) (within : st .under
     acts (Sends kind a b) = by-test (both (ltb a (st .size)) (ltb b (st .size))) (Sends kind a b) refl (λ e. tt)
     acts (Delivers a b) =
         by-test (both (ltb a (st .size)) (ltb b (st .size))) (Delivers a b) refl
-        (λ e.
-        let k = both-true (ltb a (st .size)) (ltb b (st .size)) e in
-        let below-a = ltb-true a (st .size) (k .0) in
-        let below-b = ltb-true b (st .size) (k .1) in
-        (omega (arith, below-a, small), omega (arith, below-b, small)))
+        (λ e. near (st .size) (omega (arith, small)) (Delivers a b) e)
     acts (Idles a) = by-test (ltb a (st .size)) (Idles a) refl (λ e. tt)
     acts (Calls a) = by-test (ltb a (st .size)) (Calls a) refl (λ e. tt)
     acts Bad = refl
@@ -178,12 +174,9 @@ module _ (script : List ℕ) (items : List Item) (bytes out : List ℕ) where
       =
       record {
         enough = omega (arith, next, inv .enough);
-        live = λ h. (live .0, (omega (arith, next, live .1 .0), omega (arith, size-is, live .1 .1)));
-        small = omega (arith, size-is, inv .small);
-        within =
-            subst (λ (n : ℕ). r .stage .under ≤ min 512 (min n (length bs′ / 76))) (sym l-items)
-            (subst (λ (n : ℕ). r .stage .under ≤ min 512 (min (length zs) (n / 76))) (sym l-bytes)
-            (subst (λ (a : Acted). a .stage .under ≤ roomFor (length zs) bs) (sym r-is) (keeps .1)));
+        live = λ h. (live .0, (omega (arith, next, live .1 .0), omega (arith, keeps .0, live .1 .1)));
+        small = omega (arith, keeps .0, inv .small);
+        within = keeps .1;
         long-items = l-items ∙ inv .long-items;
         long-bytes = l-bytes ∙ inv .long-bytes;
         text = inv .text ++ lineText (told .line) r count;
@@ -201,12 +194,8 @@ module _ (script : List ℕ) (items : List Item) (bytes out : List ℕ) where
       next : at < told .next
       next = subst (λ (p : Parsed). at < p .next) (sym told-is) (told-on script at (st .size) below)
 
-      keeps : (stepped st zs bs (told .line) .stage .size ≡ st .size) ×
-          (stepped st zs bs (told .line) .stage .under ≤ roomFor (length zs) bs)
-      keeps = step-keeps st zs bs (inv .within) (told .line)
-
-      size-is : r .stage .size ≡ st .size
-      size-is = ap (λ (a : Acted). a .stage .size) r-is ∙ keeps .0
+      keeps : (r .stage .size ≡ st .size) × (r .stage .under ≤ roomFor (length zs′) bs′)
+      keeps = step-keeps st zs bs (inv .within) (told .line) r r-is zs′ l-items bs′ l-bytes
 
       -- what the calls answered is what the definitions say
       r-said : r ≡ stepped st zs bs (toldAt script at (st .size) .line)

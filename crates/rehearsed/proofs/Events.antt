@@ -27,21 +27,13 @@ use Rattle.under_way.specs.Frames.{placeSize}
 use Rattle.stage.specs.Board.{opening}
 use Rattle.stage.specs.declared.Stage.{Stage}
 use Rattle.turns.specs.Events.{Turn, turnOf}
+use Rattle.script.proofs.Named.{isEvent}
 use Rattle.rehearsed.specs.Run.{Told, toldOf, kept, eventsOf, eventsIn, linesOf, IsRun}
 use Rattle.rehearsed.proofs.States.{Bears, fresh-bears}
 use Rattle.rehearsed.proofs.Same.{Same}
 use Rattle.rehearsed.proofs.Follows.{Follows}
 use Rattle.rehearsed.proofs.Acting.{send-follows, idle-follows, call-follows}
 use Rattle.rehearsed.proofs.Delivering.{deliver-follows}
-
--- whether a line is an event of a board of so many nodes
-abbrev pub isEvent : ℕ → Line → Bool
-isEvent size (Nodes P) = false
-isEvent size (Sends kind a b) = both (ltb a size) (ltb b size)
-isEvent size (Delivers a b) = both (ltb a size) (ltb b size)
-isEvent size (Idles a) = ltb a size
-isEvent size (Calls a) = ltb a size
-isEvent size Bad = false
 
 -- a board that a run leads to
 pub record Ran (P : ℕ) (w : Board) : Type 0 where

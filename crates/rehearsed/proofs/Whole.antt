@@ -24,7 +24,8 @@ use Rattle.rehearsal.specs.Play.{Played, Act, event, stop, actOf, ended, stoppe
 use Rattle.rehearsal.specs.Play.{play}
 use Rattle.rehearsed.specs.Run.{Told, toldOf, toldFrom, told, textOf, Closing, Rehearsal, EveryRehearsal}
 use Rattle.rehearsed.proofs.Same.{Same}
-use Rattle.rehearsed.proofs.Events.{isEvent, Ran, Prints, plays, prints-one, is-run}
+use Rattle.script.proofs.Named.{isEvent}
+use Rattle.rehearsed.proofs.Events.{Ran, Prints, plays, prints-one, is-run}
 
 -- ---- what is printed
 

@@ -1,13 +1,12 @@
 -- A replay that ends well is a run, and its events are those of the recording (rule K8).
 use mathlib.Core.Path.{_≡_, refl, sym, ap, _∙_}
-use mathlib.Core.Bool.{Bool, true, false, not}
+use mathlib.Core.Bool.{Bool, true, false}
 use mathlib.Core.List.{List, [], _∷_, map}
-use Prim.Native.Nat.{ℕ, zero, suc, _+_, _*_, _≤_, _<_}
+use Prim.Native.Nat.{ℕ, zero, suc, _+_, _≤_, _<_}
 use native.Mathlib.Numerals.{add-one}
 use native.Mathlib.Omega.{arith}
 use lib.Dec.{ltb, eqb}
-use lib.ListN.{length}
-use borrow.Author.Tests.{ltb-false, eqb-true, not-false}
+use borrow.Author.Tests.{ltb-false, eqb-true}
 use Rattle.base.specs.Choice.{choose, both, either, list}
 use Rattle.base.specs.declared.Kind.the-variants.{Job, Note}
 use Rattle.base.proofs.Laws.{clash, cases, choose-no, both-true, every-at}
@@ -17,61 +16,19 @@ use Rattle.items.specs.declared.Item.{Item}
 use Rattle.stage.specs.Board.{opening}
 use Rattle.stage.specs.declared.Stage.{Stage}
 use Rattle.turns.specs.Events.{turnOf}
-use Rattle.opening.proofs.Sizes.{size-good, size-some}
 use Rattle.rehearsed.specs.Run.{Told, toldOf}
 use Rattle.rehearsed.proofs.Same.{Same}
-use Rattle.rehearsed.proofs.Events.{isEvent, Ran, Prints, plays, prints-one, is-run}
-use Rattle.recording.specs.Recording.{Recording, eventCount, eventByte, bodies, recordingIn}
-use Rattle.recording.specs.Test.{goodEvent, goodAt, goodEvents, outside, sum, isBadBy, isBad, isBadIn}
-use Rattle.recording.proofs.Sizes.{either-false}
+use Rattle.script.proofs.Named.{isEvent}
+use Rattle.replay_parts.proofs.Good.{event-good}
+use Rattle.rehearsed.proofs.Events.{Ran, Prints, plays, prints-one, is-run}
+use Rattle.recording.specs.Recording.{Recording, eventCount, eventByte, recordingIn}
+use Rattle.recording.specs.Test.{goodEvent, goodAt, goodEvents, isBadIn}
+use Rattle.recording.proofs.Sizes.{Sized, sized}
 use Rattle.recording.proofs.Survives.{survives}
 use Rattle.replay_parts.specs.Events.{lineBy, lineOf, answerOf}
 use Rattle.replay_parts.specs.declared.Replayed.{Replayed}
 use Rattle.replays.specs.Replay.{course, replayFrom, replay, replayAnswer}
 use Rattle.replayed.specs.Run.{Recorded, EveryReplay}
-
--- ---- an event that is not refused is one of the board
-
-line-good : (nodes letter a b : ℕ) → goodEvent nodes letter a b ≡ true → isEvent nodes (lineBy letter a b) ≡ true
-line-good nodes letter a b =
-    go (eqb letter 115) (eqb letter 116) (eqb letter 100) (eqb letter 105) (eqb letter 98)
-  where
-    go : (s t d i c : Bool)
-        → both (ltb a nodes) (choose (either s (either t d)) (ltb b nodes) (both (either i c) (eqb b 0))) ≡ true
-        → isEvent nodes
-        (choose s (Sends Job a b)
-        (choose t (Sends Note a b) (choose d (Delivers a b) (choose i (Idles a) (choose c (Calls a) Bad)))))
-        ≡ true
-    go true t d i c e = e
-    go false true d i c e = e
-    go false false true i c e = e
-    go false false false true c e = both-true (ltb a nodes) _ e .0
-    go false false false false true e = both-true (ltb a nodes) _ e .0
-    go false false false false false e = clash (sym (both-true (ltb a nodes) false e .1))
-
--- what is not refused
-record Good (r : Recording) : Type 0 where
-  some : 1 ≤ r .nodes
-  few : r .nodes ≤ 16
-  events : (i : ℕ) → i < eventCount r → isEvent (r .nodes) (lineOf r i) ≡ true
-
-good : (r : Recording) → isBad r ≡ false → Good r
-unfolding isBadBy goodEvents lineOf
-good r e =
-    let n = length (r .counts) in
-    let l = length (r .events) in
-    let a = either-false (outside 16 (r .nodes)) _ e in
-    let b = either-false (outside 32 n) _ (a .1) in
-    let c = either-false (not (eqb (4 * sum (r .counts)) l)) _ (b .1) in
-    let d = either-false (ltb 60000 (bodies n + l)) _ (c .1) in
-    record {
-      some = size-some (r .nodes) (a .0);
-      few = size-good (r .nodes) (a .0);
-      events =
-          λ i h.
-          line-good (r .nodes) (eventByte (r .events) i 0) (eventByte (r .events) i 1) (eventByte (r .events) i 2)
-          (every-at 0 (eventCount r) (goodAt (r .nodes) (r .events)) (not-false _ (d .1)) i (omega arith) (omega arith));
-    }
 
 -- ---- the events, whether or not they answer as recorded
 
@@ -89,16 +46,16 @@ module _ (r : Recording) where
       let t = turnOf st items bytes (lineOf r i) in
       toldOf (lineOf r i) t ∷ toldBy more (i + 1) (t .stage) (t .items) (t .bytes)
 
-  prints : Good r → (more i : ℕ) → i + more ≤ eventCount r → (st : Stage) (items : List Item) (bytes : List ℕ)
+  prints : Sized r → (more i : ℕ) → i + more ≤ eventCount r → (st : Stage) (items : List Item) (bytes : List ℕ)
       (w : Board) → Same (r .nodes) st items bytes w → Ran (r .nodes) w
       → Prints (r .nodes) w (toldBy more i st items bytes)
   prints g zero i h st items bytes w s ran = refl
   prints g (suc more) i h st items bytes w s ran =
       let l = lineOf r i in
       let t = turnOf st items bytes l in
-      prints-one (r .nodes) (g .some) (g .few) w l t (toldBy more (i + 1) (t .stage) (t .items) (t .bytes)) ran
-      (plays (r .nodes) (g .some) (g .few) st items bytes w s ran l
-      (ap (λ size. isEvent size l) (s .size) ∙ g .events i (omega arith)))
+      prints-one (r .nodes) (g .board) (g .nodes) w l t (toldBy more (i + 1) (t .stage) (t .items) (t .bytes)) ran
+      (plays (r .nodes) (g .board) (g .nodes) st items bytes w s ran l
+      (ap (λ size. isEvent size l) (s .size) ∙ event-good r g i (omega arith)))
       (prints g more (i + 1) (omega arith) (t .stage) (t .items) (t .bytes))
 
   -- played to the end, they have answered as recorded
@@ -135,7 +92,7 @@ every-replay bs items bytes e =
     let n = eventCount r in
     let st = opening (r .nodes) in
     let z = ended (isBadIn bs) (ltb (replay bs items bytes .same) n) _ _ _ refl refl e in
-    let g = good r (survives .readGood bs (z .0)) in
+    let g = sized r (survives .readGood bs (z .0)) in
     let played = choose-no (course 0 items bytes) (replayFrom r n 0 st items bytes) (z .0) in
     record {
       told = toldBy r n 0 st items bytes;
@@ -143,6 +100,6 @@ every-replay bs items bytes e =
           answered r n 0 st items bytes
           (omega (arith, ltb-false (replay bs items bytes .same) n (z .1), ap (λ c. c .same) played));
       isRun =
-          is-run (r .nodes) (g .some) (g .few) items bytes (toldBy r n 0 st items bytes)
+          is-run (r .nodes) (g .board) (g .nodes) items bytes (toldBy r n 0 st items bytes)
           (prints r g n 0 (omega arith) st items bytes);
     }

@@ -1,5 +1,5 @@
--- What the covered functions that are called do, to a caller that keeps the slices: each contract as `Reads` or `Answers`
--- of `walks`. A caller's walk cites these at its calls.
+-- What the covered functions that are called do, to a caller that keeps the slices: each contract as `Reads` or
+-- `Answers` of `walks`. A caller's walk cites these at its calls.
 use mathlib.Core.Path.{_≡_, refl}
 use mathlib.Core.List.{List, [], _∷_}
 use Prim.Native.Nat.{ℕ, _<_, _^_}

@@ -2,7 +2,7 @@
 use mathlib.Core.Path.{_≡_, refl, sym, ap, subst, _∙_}
 use mathlib.Core.Bool.{Bool, true, false}
 use mathlib.Core.List.{List}
-use Prim.Native.Nat.{ℕ, suc, _+_, _-_, _≤_, _<_, _/_, min}
+use Prim.Native.Nat.{ℕ, suc, _+_, _-_, _≤_, _<_}
 use native.Mathlib.Nat.{sub-zero}
 use native.Mathlib.Omega.{arith}
 use lib.Dec.{ltb, eqb}
@@ -18,39 +18,17 @@ use Rattle.stage.specs.declared.Stage.{Stage}
 use Rattle.stage.specs.declared.Acted.{Acted}
 use Rattle.turns.specs.Events.{Turn, turnOf}
 use Rattle.line_step.specs.Steps.{stepped, steppedBytes, steppedItems}
-use Rattle.line_turns.proofs.Turned.{Near, turnAfter, step-turns, step-keeps}
+use Rattle.line_turns.proofs.Turned.{near, turnAfter, step-turns, step-keeps}
 use Rattle.recording.specs.Recording.{Recording, eventCount, eventByte, recordingIn}
 use Rattle.recording.specs.Test.{hasTwo, hasOne, goodEvent, goodAt, goodEvents, isBad, isBadIn}
 use Rattle.recording.proofs.Sizes.{Sized, sized}
 use Rattle.recording.proofs.Survives.{survives}
 use Rattle.replay_parts.specs.Events.{lineBy, lineOf, answerOf}
 use Rattle.replay_parts.specs.Parts.{startOf, limitOf, endOf}
+use Rattle.replay_parts.proofs.Good.{event-good}
 use Rattle.replay_parts.specs.declared.Start.{Start}
 use Rattle.replay_parts.specs.declared.Replayed.{Replayed}
 use Rattle.replays.specs.Replay.{Course, course, replayFrom, replay, replayAnswer}
-
--- ---- The lines of events
-
--- the numbers of a good event are nodes of a board of up to 16
-near-by : (nodes letter a b : ℕ) → nodes ≤ 16 → goodEvent nodes letter a b ≡ true → Near (lineBy letter a b)
-near-by nodes letter a b small e =
-    let k = both-true (ltb a nodes) (choose (hasTwo letter) (ltb b nodes) (both (hasOne letter) (eqb b 0))) e in
-    cases Near (eqb letter 115) _ _ (λ s. tt)
-    (λ s. cases Near (eqb letter 116) _ _ (λ t. tt)
-    (λ t. cases Near (eqb letter 100) _ _
-    (λ d. let below = rw (s, t, d) at (k .1) in (
-      omega (arith, ltb-true a nodes (k .0)),
-      omega (arith, ltb-true b nodes below),
-    ))
-    (λ d. cases Near (eqb letter 105) _ _ (λ i. tt) (λ i. cases Near (eqb letter 98) _ _ (λ c. tt) (λ c. tt)))))
-
-module _ (r : Recording) (good : isBad r ≡ false) (i : ℕ) (below : i < eventCount r) where
-  near : Near (lineOf r i)
-  unfolding lineOf goodEvents
-  near =
-      let s = sized r good in
-      near-by (r .nodes) (eventByte (r .events) i 0) (eventByte (r .events) i 1) (eventByte (r .events) i 2) (s .nodes)
-      (every-at 0 (eventCount r) (goodAt (r .nodes) (r .events)) (s .events) i (omega arith) (omega arith))
 
 -- ---- The loop
 
@@ -78,8 +56,8 @@ module _ (recording : List ℕ) (items : List Item) (bytes : List ℕ) where
     pub long-bytes : length bs ≡ length bytes
 
   -- none is left
-  none-left : (most i : ℕ) (st : Stage) (zs : List Item) (bs : List ℕ) → i ≤ most → replayFrom r (most - i) i st zs bs ≡ goal
-      → most ≤ i → course most zs bs ≡ goal
+  none-left : (most i : ℕ) (st : Stage) (zs : List Item) (bs : List ℕ) → i ≤ most
+      → replayFrom r (most - i) i st zs bs ≡ goal → most ≤ i → course most zs bs ≡ goal
   unfolding replayFrom
   none-left most i st zs bs h e k =
       let z : most - i ≡ 0 = omega arith in
@@ -103,9 +81,8 @@ module _ (recording : List ℕ) (items : List Item) (bytes : List ℕ) where
       sizes : Sized r
       sizes = sized r (live .good)
 
-      keeps : (stepped st zs bs line .stage .size ≡ st .size) ×
-          (stepped st zs bs line .stage .under ≤ roomFor (length zs) bs)
-      keeps = step-keeps st zs bs (live .within) line
+      keeps : (a .stage .size ≡ st .size) × (a .stage .under ≤ roomFor (length zs′) bs′)
+      keeps = step-keeps st zs bs (live .within) line a a-is zs′ l-items bs′ l-bytes
 
       -- what the calls answered is the turn of the event
       came : record { stage = a .stage; items = zs′; bytes = bs′; actor = a .actor; answer = a .answer }
@@ -121,7 +98,8 @@ module _ (recording : List ℕ) (items : List Item) (bytes : List ℕ) where
           })
           ∙ ap (turnAfter st zs bs) line-is
           ∙ step-turns st zs bs (live .within) (omega (arith, live .size, sizes .board))
-          (omega (arith, live .size, sizes .nodes)) (lineOf r i) (near r (live .good) i (omega (arith, live .all)))
+          (omega (arith, live .size, sizes .nodes)) (lineOf r i)
+          (near (r .nodes) (omega (arith, sizes .nodes)) (lineOf r i) (event-good r sizes i (omega (arith, live .all))))
 
       rests : Turn → Type 0
       rests t =
@@ -142,11 +120,8 @@ module _ (recording : List ℕ) (items : List Item) (bytes : List ℕ) where
                 record {
                   good = live .good;
                   all = m ∙ live .all;
-                  size = ap (λ (x : Acted). x .stage .size) a-is ∙ keeps .0 ∙ live .size;
-                  within =
-                      subst (λ (n : ℕ). a .stage .under ≤ min 512 (min n (length bs′ / 76))) (sym l-items)
-                      (subst (λ (n : ℕ). a .stage .under ≤ min 512 (min (length zs) (n / 76))) (sym l-bytes)
-                      (subst (λ (x : Acted). x .stage .under ≤ roomFor (length zs) bs) (sym a-is) (keeps .1)));
+                  size = keeps .0 ∙ live .size;
+                  within = keeps .1;
                   rest = rw m e;
                 };
             over = none-left most′ (i + 1) (a .stage) zs′ bs′ (omega (arith, m)) (rw m e);

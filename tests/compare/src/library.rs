@@ -1,4 +1,4 @@
-//! The library's C functions, and the model's state as the words that they take.
+//! The C functions of both libraries, and the model's state as the words that they take.
 
 use model::frame::Fields;
 use model::node::{First, Node, Second, Work};
@@ -20,6 +20,29 @@ extern "C" {
     fn ocb_barrier(state: *mut u32, words: usize, buffer: *mut u8, count: usize, details: *mut u32) -> u32;
     fn ocb_frame_write(nodes: u32, fields: *const u32, buffer: *mut u8, count: usize, length: *mut u32) -> u32;
     fn ocb_frame_read(nodes: u32, bytes: *const u8, count: usize, fields: *mut u32) -> u32;
+}
+
+extern "C" {
+    fn ocb_recording_read(
+        bytes: *const u8,
+        count: usize,
+        counts: *mut u32,
+        sections: usize,
+        events: *mut u8,
+        room: usize,
+        found: *mut u32,
+    ) -> u32;
+    fn ocb_recording_write(
+        nodes: u32,
+        counts: *const u32,
+        sections: usize,
+        events: *const u8,
+        size: usize,
+        buffer: *mut u8,
+        count: usize,
+        length: *mut u32,
+    ) -> u32;
+    fn ocb_replay(recording: *const u8, count: usize, places: *mut u8, room: usize, position: *mut u32) -> u32;
 }
 
 pub fn dimension(nodes: u32, found: &mut [u32; 1]) -> u32 {
@@ -68,6 +91,32 @@ pub fn frame_write(nodes: u32, fields: &[u32; 23], buffer: &mut [u8], length: &m
 
 pub fn frame_read(nodes: u32, bytes: &[u8], fields: &mut [u32; 23]) -> u32 {
     unsafe { ocb_frame_read(nodes, bytes.as_ptr(), bytes.len(), fields.as_mut_ptr()) }
+}
+
+// What the functions for recordings only read is handed to these as memory that may be written, so that a caller can
+// see that nothing was.
+
+pub fn recording_read(bytes: &mut [u8], counts: &mut [u32], events: &mut [u8], found: &mut [u32; 3]) -> u32 {
+    let (sections, room) = (counts.len(), events.len());
+    let (counts, events) = (counts.as_mut_ptr(), events.as_mut_ptr());
+    unsafe { ocb_recording_read(bytes.as_mut_ptr(), bytes.len(), counts, sections, events, room, found.as_mut_ptr()) }
+}
+
+pub fn recording_write(
+    nodes: u32,
+    counts: &mut [u32],
+    events: &mut [u8],
+    buffer: &mut [u8],
+    length: &mut [u32; 1],
+) -> u32 {
+    let (sections, size, count) = (counts.len(), events.len(), buffer.len());
+    let (counts, events, buffer) = (counts.as_mut_ptr(), events.as_mut_ptr(), buffer.as_mut_ptr());
+    unsafe { ocb_recording_write(nodes, counts, sections, events, size, buffer, count, length.as_mut_ptr()) }
+}
+
+pub fn replay(recording: &mut [u8], places: &mut [u8], position: &mut [u32; 1]) -> u32 {
+    let (count, room) = (recording.len(), places.len());
+    unsafe { ocb_replay(recording.as_mut_ptr(), count, places.as_mut_ptr(), room, position.as_mut_ptr()) }
 }
 
 /// Memory filled with a pattern, to lend a part of: what is written beside that part shows.

@@ -1,15 +1,18 @@
-//! Holds the library to the plain model, through the C functions: `compare [SEED [SCALE]]`, or `compare replay` with a
+//! Holds the libraries to the plain model, through the C functions: `compare [SEED [SCALE]]`, or `compare replay` with a
 //! script on standard input.
 //!
-//! It prints how many cases of each kind it compared, how often each answer came and which clauses failed at once, and
-//! ends with a failure at the first difference: for a call by itself with the call in C, for a run with a script that
-//! `compare replay` plays.
+//! It prints how many cases of each kind it compared, how often each answer came, what was wrong with recordings and
+//! which clauses failed at once, and ends with a failure at the first difference: for a call by itself with the call in
+//! C, for a run with a script that `compare replay` plays.
 
 mod calls;
 mod clauses;
 mod frames;
 mod library;
 mod orders;
+mod recording_calls;
+mod recording_limits;
+mod recordings;
 mod replay;
 mod report;
 mod runs;
@@ -21,7 +24,7 @@ use model::random::Random;
 use report::Report;
 
 /// Answers that each call must have given at least once.
-const WANTED: [(&str, &[u32]); 13] = [
+const WANTED: [(&str, &[u32]); 16] = [
     ("dimension", &[0, 1]),
     ("place", &[0, 1, 2, 10]),
     ("distance", &[0, 1, 2, 3]),
@@ -35,11 +38,14 @@ const WANTED: [(&str, &[u32]); 13] = [
     ("frame in", &[0, 2, 3, 7, 8, 9, 10, 11, 13, 24]),
     ("barrier", &[12, 13, 14, 20, 21, 22, 23]),
     ("clause", &[0, 1, 2, 3, 4, 5, 6]),
+    (recording_calls::READER, &[0, 14, 18]),
+    (recording_calls::WRITER, &[0, 14, 18]),
+    (recording_calls::REPLAY, &[0, 18, 19]),
 ];
 
 /// How many pairs of refusals of a call the cases bring due at once, the earlier being given. For frame in and the frame
 /// reader the number is what the cases reach, not one derived from rule R3; fewer means poorer cases.
-const PAIRS: [(&str, usize); 10] = [
+const PAIRS: [(&str, usize); 13] = [
     ("place", 2),
     ("distance", 3),
     ("fresh", 3),
@@ -50,6 +56,9 @@ const PAIRS: [(&str, usize); 10] = [
     ("frame in", 38),
     ("frame reader", 12),
     ("frame writer", 10),
+    (recording_calls::READER, 3),
+    (recording_calls::WRITER, 1),
+    (recording_calls::REPLAY, 1),
 ];
 
 fn main() {
@@ -72,14 +81,18 @@ fn main() {
         calls::every(&mut report, &mut random, &words, &[]);
     }
     runs::compare(&mut report, &mut random, scale);
+    recording_limits::compare(&mut report);
+    recordings::compare(&mut report, &mut Random::new(seed), scale);
     report.print();
     check_reach(&report);
     println!("seed {seed}, scale {scale}: library and model agree");
 }
 
-/// Ends the program where an answer, two refusals due at once, clauses that fail at once, or a taker of notes never came.
+/// Ends the program where an answer, two refusals due at once, clauses that fail at once, a fault of a recording, or a
+/// taker of notes never came.
 fn check_reach(report: &Report) {
     let mut missed = clauses::missed(report);
+    missed.extend(recording_calls::missed(report));
     let takers = calls::TAKERS.iter().filter(|taker| !report.counted(taker));
     missed.extend(takers.map(|taker| format!("no {taker}")));
     for (call, answers) in WANTED {

@@ -3,13 +3,14 @@
 use std::collections::BTreeMap;
 use std::fmt::Debug;
 
-/// How many cases of each kind were compared, how often each answer came, which refusals came before which, and which
-/// clauses failed at once.
+/// How many cases of each kind were compared, how often each answer came, which refusals came before which, what was
+/// wrong with recordings, and which clauses failed at once.
 #[derive(Default)]
 pub struct Report {
     kinds: BTreeMap<&'static str, u64>,
     answers: BTreeMap<(&'static str, u32), u64>,
     orders: BTreeMap<&'static str, BTreeMap<(&'static str, &'static str), u64>>,
+    faults: BTreeMap<&'static str, BTreeMap<&'static str, u64>>,
     waits: BTreeMap<Wait, [u64; Origin::TITLES.len()]>,
     origin: Origin,
 }
@@ -80,6 +81,15 @@ impl Report {
         self.orders.get(call).map_or(0, BTreeMap::len)
     }
 
+    /// What was wrong with a recording that a call refused.
+    pub fn fault(&mut self, call: &'static str, fault: &'static str) {
+        *self.faults.entry(call).or_default().entry(fault).or_default() += 1;
+    }
+
+    pub fn met(&self, call: &'static str, fault: &'static str) -> bool {
+        self.faults.get(call).is_some_and(|faults| faults.contains_key(fault))
+    }
+
     /// What an act meets is counted as of this origin.
     pub fn during<T>(&mut self, origin: Origin, act: impl FnOnce(&mut Report) -> T) -> T {
         let before = std::mem::replace(&mut self.origin, origin);
@@ -110,6 +120,10 @@ impl Report {
         for (call, pairs) in &self.orders {
             let told: Vec<String> = pairs.keys().map(|(first, later)| format!("{first} before {later}")).collect();
             println!("{call}, where two refusals are due: {}", told.join("; "));
+        }
+        for (call, faults) in &self.faults {
+            let told: Vec<String> = faults.iter().map(|(fault, count)| format!("{fault} {count}")).collect();
+            println!("{call}, refused with 18 for: {}", told.join("; "));
         }
         self.print_waits();
     }

@@ -34,11 +34,17 @@
 //! - Removal (rule S6): the places in use above the gap move down whole, and the place that was the
 //!   last in use keeps what it had. Places lent beyond 512 are not touched. The number of places is
 //!   the smallest of 512, the headers lent and the whole 76-byte parts of the buffer lent.
+//! - Recordings (rule K2): there is at least one section, and any of them may be empty; the offset of an empty
+//!   one is where its body would begin. Lengths are 2 more than a multiple of 4, so that the longest has
+//!   59,998 bytes. The test never looks at an answer.
+//! - Replay (rule K7): the headers are its own, 512 of them, so that only the bytes lent tell how many places
+//!   there are. An event answered 15 where 15 is recorded changes nothing, and the replay goes on.
 
 pub mod board;
 pub mod frame;
 pub mod node;
 pub mod random;
+pub mod recording;
 pub mod rehearsal;
 pub mod tree;
 
@@ -61,6 +67,8 @@ pub mod no {
     pub const CROWDED: u8 = 15;
     pub const NOTHING: u8 = 16;
     pub const SCRIPT: u8 = 17;
+    pub const RECORDING: u8 = 18;
+    pub const DIFFERS: u8 = 19;
 }
 
 /// How many messages a node may send in a phase, S of rule N3.

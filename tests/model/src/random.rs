@@ -2,6 +2,7 @@
 
 use crate::board::{Board, Event};
 use crate::node::Work;
+use crate::rehearsal::Line;
 use crate::LONGEST;
 
 /// Splitmix64.
@@ -93,4 +94,23 @@ fn odd_event(random: &mut Random, size: u32, at: u32) -> Event {
         3 => Event::Deliver { from: random.below(size), to: at },
         _ => Event::Barrier { at, room: random.below(LONGEST as u32 + 9) as usize },
     }
+}
+
+/// Random lines of a script, deliveries mostly of items that are under way where no place is missing. Wants
+/// habits without losses and odd events, for which a script has no lines.
+pub fn lines(random: &mut Random, size: u32, count: usize, habits: &Habits) -> Vec<Line> {
+    let mut board = Board::new(size);
+    let mut lines = vec![];
+    for _ in 0..count {
+        let event = event(random, &board, habits);
+        board.play_and_tell(event);
+        lines.push(match event {
+            Event::Send { work, at, to } => Line::Send { work, a: at, b: to },
+            Event::Deliver { from, to } => Line::Deliver { a: from, b: to },
+            Event::Idle { at } => Line::Idle { a: at },
+            Event::Barrier { at, .. } => Line::Barrier { a: at },
+            Event::Lose { .. } => unreachable!("no habit of theirs"),
+        });
+    }
+    lines
 }

@@ -30,8 +30,9 @@ pub struct Header {
     pub phase: u8,
 }
 
+/// A line after the first (rule S3).
 #[derive(Clone, Copy, Debug, PartialEq, Eq)]
-enum Line {
+pub enum Line {
     Send { work: Work, a: u32, b: u32 },
     Deliver { a: u32, b: u32 },
     Idle { a: u32 },
@@ -39,7 +40,7 @@ enum Line {
 }
 
 /// The nodes, and the lent headers and buffer, of which the first `count` places are in use.
-struct Stage<'a> {
+pub(crate) struct Stage<'a> {
     nodes: Vec<Node>,
     headers: &'a mut [Header],
     buffer: &'a mut [u8],
@@ -69,27 +70,44 @@ fn play_script(
     buffer: &mut [u8],
     output: &mut Vec<u8>,
 ) -> Result<(), (u8, usize)> {
-    if script.len() > SCRIPT_LIMIT {
-        // Too long: before any line is looked at (rule S4).
-        return Err((no::SCRIPT, 0));
-    }
-    let (first, mut rest) = cut_line(script).ok_or((no::SCRIPT, 1))?;
-    let size = board_size(first).map_err(|number| (number, 1))?;
-    let nodes = (0..size).map(|number| node::fresh(size, number).expect("a board of 1 to 16")).collect();
-    let mut stage = Stage { nodes, headers, buffer, count: 0 };
-    let mut number = 1;
-    while !rest.is_empty() {
-        number += 1;
-        let (text, after) = cut_line(rest).ok_or((no::SCRIPT, number))?;
-        let line = parse_line(text, size).ok_or((no::SCRIPT, number))?;
-        output.extend(stage.play(line).bytes());
-        rest = after;
-    }
-    Ok(())
+    let (size, rest) = open(script)?;
+    let mut stage = Stage::fresh(size, headers, buffer);
+    each_line(rest, size, |line| output.extend(stage.play(line).bytes()))
+}
+
+/// The board and the lines of a script that does not stop; an error as above.
+pub fn lines_of(script: &[u8]) -> Result<(u32, Vec<Line>), (u8, usize)> {
+    let (size, rest) = open(script)?;
+    let mut lines = vec![];
+    each_line(rest, size, |line| lines.push(line))?;
+    Ok((size, lines))
 }
 
 // ---------------------------------------------------------------------------------------------
 // The script
+
+/// The board's size, and what stands after the first line (rule S4).
+fn open(script: &[u8]) -> Result<(u32, &[u8]), (u8, usize)> {
+    if script.len() > SCRIPT_LIMIT {
+        // Too long: before any line is looked at.
+        return Err((no::SCRIPT, 0));
+    }
+    let (first, rest) = cut_line(script).ok_or((no::SCRIPT, 1))?;
+    let size = board_size(first).map_err(|number| (number, 1))?;
+    Ok((size, rest))
+}
+
+/// The lines after the first, one by one, up to one that is not of the form.
+fn each_line(mut rest: &[u8], size: u32, mut each: impl FnMut(Line)) -> Result<(), (u8, usize)> {
+    let mut number = 1;
+    while !rest.is_empty() {
+        number += 1;
+        let (text, after) = cut_line(rest).ok_or((no::SCRIPT, number))?;
+        each(parse_line(text, size).ok_or((no::SCRIPT, number))?);
+        rest = after;
+    }
+    Ok(())
+}
 
 /// The text up to the first newline, and what stands after it. None without a newline.
 fn cut_line(script: &[u8]) -> Option<(&[u8], &[u8])> {
@@ -145,18 +163,29 @@ fn parse_line(line: &[u8], size: u32) -> Option<Line> {
 // ---------------------------------------------------------------------------------------------
 // The events
 
-impl Stage<'_> {
+impl<'a> Stage<'a> {
+    /// Fresh nodes, and no item under way. Wants a board of 1 to 16.
+    pub(crate) fn fresh(size: u32, headers: &'a mut [Header], buffer: &'a mut [u8]) -> Stage<'a> {
+        let nodes = (0..size).map(|number| node::fresh(size, number).expect("a board of 1 to 16")).collect();
+        Stage { nodes, headers, buffer, count: 0 }
+    }
+
     /// Plays a line, and gives what is printed for it (rule S9).
     fn play(&mut self, line: Line) -> String {
-        let (acting, answer) = match line {
+        let (acting, answer) = self.act(line);
+        let node = &self.nodes[acting as usize];
+        let (flag, busy) = (u8::from(node.flag), u8::from(node.busy));
+        format!("{acting} {answer} {} {} {} {flag} {busy}\n", node.phase, node.pass, node.dim)
+    }
+
+    /// Plays a line, and gives the acting node and the answer.
+    pub(crate) fn act(&mut self, line: Line) -> (u32, u8) {
+        match line {
             Line::Send { work, a, b } => (a, self.send(work, a, b)),
             Line::Deliver { a, b } => (b, self.deliver(a, b)),
             Line::Idle { a } => (a, self.idle(a)),
             Line::Barrier { a } => (a, self.barrier(a)),
-        };
-        let node = &self.nodes[acting as usize];
-        let (flag, busy) = (u8::from(node.flag), u8::from(node.busy));
-        format!("{acting} {answer} {} {} {} {flag} {busy}\n", node.phase, node.pass, node.dim)
+        }
     }
 
     /// 15, where there is no place left, comes after every refusal of the call (rule S7).

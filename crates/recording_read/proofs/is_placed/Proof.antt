@@ -13,10 +13,10 @@ use Rattle.recording.proofs.Tests.{placed-start, placed-here, placed-end}
 use Rattle.recording_read.proofs.is_placed.Statement.{statement}
 use Rattle.recording_read.proofs.is_placed.Tie as tie
 
--- a body has at most 65,535 events, so the place after it is in range
+-- a body has at most 65,535 events, so each place is in range
 abbrev Inv-loop : tie.InvT-loop
 Inv-loop bytes sections at₀ i₀ at i =
-    (i ≤ sections) × (at ≤ 130 + 262140 * i)
+    (i ≤ sections) × (at ≤ 1000000 * (i + 1))
     × (placed bytes (bodies sections) 0 sections ≡ placed bytes at i (sections - i))
 
 abbrev μ-loop : tie.MeasureT-loop
