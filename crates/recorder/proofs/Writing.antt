@@ -7,19 +7,22 @@ use mathlib.Core.List.{List, [], _∷_}
 use Prim.Native.Nat.{ℕ, _+_, _/_, _≤_, _<_, min}
 use types.Run.{OneOf, miss}
 use denote.Enum.Declared.{tagOf}
+use borrow.Author.Tests.{ltb-false}
+use lib.Dec.{ltb}
 use lib.ListN.{length, take}
 use lib.Seq.{take-all, length-take-le}
-use Rattle.base.proofs.Laws.{length-list}
+use Rattle.base.specs.Refusal.{Refusal, found, when}
+use Rattle.base.proofs.Laws.{length-list, checks-known}
 use Rattle.script.specs.declared.Line.{Line}
 use Rattle.script.specs.declared.Line.the-variants.{Nodes, Sends, Delivers, Idles, Calls, Bad}
 use Rattle.script.proofs.Line as LineT
 use Rattle.script.specs.Script.{lineAt}
 use Rattle.printing.specs.Put.{put, ends}
-use Rattle.printing.proofs.Putting.{taken}
-use Rattle.recording.specs.Recording.{Recording, made, bodies}
+use Rattle.printing.proofs.Putting.{taken, length-put}
+use Rattle.recording.specs.Recording.{Recording, made, bodies, bytesOf}
 use Rattle.recording.specs.Test.{isBad}
 use Rattle.recording.proofs.Sizes.{sized}
-use Rattle.recording_write.specs.Write.{writeAnswer, writtenOn}
+use Rattle.recording_write.specs.Write.{writeAnswer, leftBy, writtenOn}
 use Rattle.recording_write.proofs.Writing.{bad}
 use Rattle.script_events.specs.Events.{eventsOf}
 use Rattle.recorder.specs.Recorded.{sectionsFor, sizeOf, countsFor, nodesBy, recordingOf}
@@ -79,3 +82,13 @@ module _ (script text : List ℕ) (nodes : ℕ) (lent buf : List ℕ) (size : le
           let r : made nodes counts events ≡ recordingOf script text =
           rw (e, k, m, q, take-all (length lent) all (omega arith)) in
           (ap (λ r. writeAnswer r (length buf)) r, ap (λ r. writtenOn r buf) r)
+
+-- what is written is within the memory
+pub inside : (r : Recording) (buf now : List ℕ) (n : ℕ) → found n ≡ writeAnswer r (length buf) → now ≡ writtenOn r buf
+    → n ≤ length now
+inside r buf now n e w =
+    let short = ltb (length buf) (length (bytesOf r)) in
+    let checks = when (isBad r) Refusal.recording ∷ when short Refusal.buffer ∷ [] in
+    let k = checks-known checks (length (bytesOf r)) n (sym e) in
+    let l : length now ≡ length buf = ap length (w ∙ ap (leftBy r buf) (sym e)) ∙ length-put buf 0 (bytesOf r) in
+    omega (arith, ltb-false (length buf) (length (bytesOf r)) (k .0 .1 .0))

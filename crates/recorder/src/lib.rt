@@ -59,7 +59,7 @@ fn nodes_by(line: Line) -> u32
 }
 
 // Writes the recording of a script with the answers that were printed. Answers its length. Refuses 18, 14.
-pub fn record(script: &[u8], text: &[u8], buf: &mut [u8]) -> Found
+pub fn put_recording(script: &[u8], text: &[u8], buf: &mut [u8]) -> Found
     ensures answer { λ r. ⌜
         foundAnswer r ≡ writeAnswer (recordingOf (now (script .entry)) (now (text .entry))) (length (now (buf .entry)))
         ⌝ }

@@ -1,4 +1,4 @@
--- `record` writes `recordingOf`, or refuses as the writer would.
+-- `put_recording` writes `recordingOf`, or refuses as the writer would.
 use borrow.Author.Needs.{needs}
 use native.Mathlib.Omega.{arith}
 use mathlib.Core.Path.{sym, ap, _∙_}
@@ -9,8 +9,8 @@ use Rattle.printing.proofs.Putting.{length-put}
 use Rattle.script.specs.declared.Parsed.{Parsed}
 use Rattle.recorder.specs.Recorded.{nodesBy}
 use Rattle.recorder.proofs.Writing.{counts-put, written}
-use Rattle.recorder.proofs.record.Statement.{statement}
-use Rattle.recorder.proofs.record.Tie as tie
+use Rattle.recorder.proofs.put_recording.Statement.{statement}
+use Rattle.recorder.proofs.put_recording.Tie as tie
 
 slice-aggregate-write : tie.Need-slice-aggregate-write
 slice-aggregate-write c =
@@ -38,8 +38,8 @@ returns c =
     (ap (take (p .put-events .result)) (p .put-events .ensures .0)) in
     (w .write .ensures .0 ∙ same .0, w .write .ensures .1 ∙ same .1)
 
-pub record-spec : {M : Type 1} → statement M
-record-spec =
+pub put-recording-spec : {M : Type 1} → statement M
+put-recording-spec =
     tie.close
     (tie.spec (λ c κs. search needs) (λ c. search needs) (λ c κs. search needs) (λ c. search needs)
     (λ c κs. search needs) (λ c κs. search needs) (λ c. search needs) slice-aggregate-write (λ c. search needs)
