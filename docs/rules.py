@@ -23,7 +23,8 @@ HEADLINE = {
         "pub anyInput : AnyInput", "pub kinds : Kinds", "pub waits : Waits", "pub tree : (P : ℕ) → 1 ≤ P → P ≤ base .nodes → Tree P",
         "pub frames : (P : ℕ) → 1 ≤ P → P ≤ base .nodes → Frames P",
         "pub runs : (P : ℕ) → 1 ≤ P → P ≤ base .nodes → Runs P", "pub links : LinkBytes", "pub starred : All table",
-        "pub rehearsals : EveryRehearsal", "pub texts : EveryTextFits", "pub recordings : Survives", "pub replays : EveryReplay",
+        "pub rehearsals : EveryRehearsal", "pub texts : EveryTextFits", "pub anyRecording : Recordings",
+        "pub recordings : Survives", "pub replays : EveryReplay",
         "pub safe : (es : List Event) → Safe base P (run base P es)",
         "pub lives : (es : List Event) → NoLoss es → Lives base P (run base P es)",
         "pub facts : (es : List Event) → Facts base P (run base P es)",
@@ -36,7 +37,7 @@ HEADLINE = {
         "pub neighbours :", "pub hermits :", "pub hermitNext :", "pub messengers :", "pub hermitBefore :",
         "pub samePlace :", "pub alones :", "pub near :", "pub nearer :", "pub below :", "pub symmetric :",
         "pub shells :", "pub aloneShells :", "pub sameShells :", "pub writtenRead :", "pub readBytes :",
-        "pub readWritten :", "pub sameBytes :"],
+        "pub readWritten :", "pub sameBytes :", "pub replays : (bs : List ℕ) (items : List Item) (bytes : List ℕ)", "pub replayStays :"],
     "crates/promises/proofs/Whole.antt": ["pub promises : Promises"],
     "crates/runs/specs/Claim.antt": [
         "pub busySend :", "pub busyIs :", "pub wakes :", "pub leavesTaken :", "pub leavesIdle :", "pub leavesReached :",
