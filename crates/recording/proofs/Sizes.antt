@@ -1,13 +1,12 @@
 -- What holds of a recording that is not refused: its sizes, so that each of its numbers has room in the bytes, and its
 -- events.
 use mathlib.Core.Path.{_≡_}
-use mathlib.Core.Bool.{Bool, true, false, not}
+use mathlib.Core.Bool.{true, false, not}
 use Prim.Native.Nat.{ℕ, _+_, _*_, _≤_, _<_}
 use native.Mathlib.Omega.{arith}
 use lib.Dec.{ltb, eqb}
 use lib.ListN.{length}
 use borrow.Author.Tests.{ltb-false, eqb-true, eqb-false, not-false}
-use Rattle.base.specs.Choice.{either}
 use Rattle.base.proofs.Laws.{either-false}
 use Rattle.recording.specs.Recording.{Recording, bodies}
 use Rattle.recording.specs.Test.{outside, goodEvents, isBadBy, isBad, sum}

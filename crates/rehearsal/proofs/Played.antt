@@ -5,14 +5,15 @@ use mathlib.Core.List.{List, [], _++_, append-assoc, append-nil}
 use Prim.Native.Nat.{ℕ, zero, suc, _+_, _≤_, _<_}
 use native.Mathlib.Omega.{arith}
 use lib.Dec.{ltb, eqb}
-use lib.ListN.{length, drop}
-use borrow.Author.Tests.{le-leb, lt-leb, ltb-true, ltb-false}
+use lib.ListN.{length}
+use borrow.Author.Tests.{le-leb, lt-leb, ltb-false}
 use Rattle.base.specs.Choice.{choose, both, either}
-use Rattle.base.proofs.Laws.{choose-yes, choose-no, cases, both-true}
-use Rattle.script.specs.Script.{before, lineAt}
+use Rattle.base.proofs.Laws.{choose-yes, choose-no, cases}
+use Rattle.script.specs.Script.{lineAt}
 use Rattle.script.specs.declared.Line.{Line}
 use Rattle.script.specs.declared.Line.the-variants.{Nodes, Sends, Delivers, Idles, Calls, Bad}
 use Rattle.script.specs.declared.Parsed.{Parsed}
+use Rattle.script.proofs.Answers.{next-on}
 use Rattle.items.specs.declared.Item.{Item}
 use Rattle.under_way.specs.Frames.{roomFor}
 use Rattle.stage.specs.Board.{nodeAt, opening}
@@ -42,13 +43,6 @@ printed-end : (t : List ℕ) (items : List Item) (bytes : List ℕ)
 printed-end t items bytes = λ i. record { text = append-nil t i; items = items; bytes = bytes }
 
 -- ---- Lines of a script
-
--- a line ends after it begins
-pub next-on : (script : List ℕ) (at : ℕ) → at < length script → at < lineAt script at .next
-unfolding lineAt
-next-on script at h =
-    cases (λ (p : Parsed). at < p .next) (ltb (before 10 (drop at script)) (length (drop at script))) _ _
-    (λ e. omega arith) (λ e. h)
 
 -- at the end nothing is left
 pub no-more : (script : List ℕ) (j at count : ℕ) (st : Stage) (items : List Item) (bytes : List ℕ) → length script ≤ at

@@ -1,7 +1,7 @@
 -- A line that names nodes of the board is an event, which its turn follows; and what prints the lines of its events is a
 -- run. Nothing here speaks of a script.
 use mathlib.Core.Path.{_≡_, refl, sym, ap, _∙_, subst}
-use mathlib.Core.Bool.{Bool, true, false}
+use mathlib.Core.Bool.{true}
 use mathlib.Core.List.{List, [], _∷_, _++_}
 use Prim.Native.Nat.{ℕ, zero, suc, _≤_, _<_}
 use native.Mathlib.Omega.{arith}

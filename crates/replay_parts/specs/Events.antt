@@ -1,5 +1,4 @@
 -- The events of a recording, as the player takes them (rule K6).
-use mathlib.Core.List.{List}
 use Prim.Native.Nat.{ℕ}
 use lib.Dec.{eqb}
 use Rattle.base.specs.Choice.{choose}

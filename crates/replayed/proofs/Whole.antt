@@ -1,15 +1,15 @@
 -- A replay that ends well is a run, and its events are those of the recording (rule K8).
-use mathlib.Core.Path.{_≡_, refl, sym, ap, _∙_}
+use mathlib.Core.Path.{_≡_, refl, ap, _∙_}
 use mathlib.Core.Bool.{Bool, true, false}
 use mathlib.Core.List.{List, [], _∷_, map}
-use Prim.Native.Nat.{ℕ, zero, suc, _+_, _≤_, _<_}
+use Prim.Native.Nat.{ℕ, zero, suc, _+_, _≤_}
 use native.Mathlib.Numerals.{add-one}
 use native.Mathlib.Omega.{arith}
 use lib.Dec.{ltb, eqb}
 use borrow.Author.Tests.{ltb-false, eqb-true}
-use Rattle.base.specs.Choice.{choose, both, either, list}
+use Rattle.base.specs.Choice.{choose, list}
 use Rattle.base.specs.declared.Kind.the-variants.{Job, Note}
-use Rattle.base.proofs.Laws.{clash, cases, choose-no, both-true, every-at}
+use Rattle.base.proofs.Laws.{cases, choose-no}
 use Rattle.events.specs.Board.{Board}
 use Rattle.script.specs.declared.Line.the-variants.{Sends, Delivers, Idles, Calls, Bad}
 use Rattle.items.specs.declared.Item.{Item}
@@ -21,11 +21,11 @@ use Rattle.rehearsed.proofs.Same.{Same}
 use Rattle.script.proofs.Named.{isEvent}
 use Rattle.replay_parts.proofs.Good.{event-good}
 use Rattle.rehearsed.proofs.Events.{Ran, Prints, plays, prints-one, is-run}
-use Rattle.recording.specs.Recording.{Recording, eventCount, eventByte, recordingIn}
-use Rattle.recording.specs.Test.{goodEvent, goodAt, goodEvents, isBadIn}
+use Rattle.recording.specs.Recording.{Recording, eventCount, recordingIn}
+use Rattle.recording.specs.Test.{isBadIn}
 use Rattle.recording.proofs.Sizes.{Sized, sized}
 use Rattle.recording.proofs.Survives.{survives}
-use Rattle.replay_parts.specs.Events.{lineBy, lineOf, answerOf}
+use Rattle.replay_parts.specs.Events.{lineOf, answerOf}
 use Rattle.replay_parts.specs.declared.Replayed.{Replayed}
 use Rattle.replays.specs.Replay.{course, replayFrom, replay, replayAnswer}
 use Rattle.replayed.specs.Run.{Recorded, EveryReplay}

@@ -7,7 +7,6 @@ use Rattle.items.specs.declared.Item.{Item}
 use Rattle.script.specs.declared.Line.{Line}
 use Rattle.recording.specs.Recording.{Recording, eventCount, recordingIn}
 use Rattle.replay_parts.specs.Events.{lineOf, answerOf}
-use Rattle.replay_parts.specs.declared.Replayed.{Replayed}
 use Rattle.replays.specs.Replay.{replayAnswer}
 use Rattle.rehearsed.specs.Run.{Told, IsRun}
 

@@ -7,9 +7,8 @@ use native.Mathlib.Nat.{sub-zero}
 use native.Mathlib.Omega.{arith}
 use lib.Dec.{ltb, eqb}
 use lib.ListN.{length}
-use borrow.Author.Tests.{ltb-true}
-use Rattle.base.specs.Choice.{choose, both}
-use Rattle.base.proofs.Laws.{choose-yes, choose-no, cases, both-true, every-at}
+use Rattle.base.specs.Choice.{choose}
+use Rattle.base.proofs.Laws.{choose-yes, choose-no, cases}
 use Rattle.script.specs.declared.Line.{Line}
 use Rattle.items.specs.declared.Item.{Item}
 use Rattle.under_way.specs.Frames.{roomFor}
@@ -19,11 +18,11 @@ use Rattle.stage.specs.declared.Acted.{Acted}
 use Rattle.turns.specs.Events.{Turn, turnOf}
 use Rattle.line_step.specs.Steps.{stepped, steppedBytes, steppedItems}
 use Rattle.line_turns.proofs.Turned.{near, turnAfter, step-turns, step-keeps}
-use Rattle.recording.specs.Recording.{Recording, eventCount, eventByte, recordingIn}
-use Rattle.recording.specs.Test.{hasTwo, hasOne, goodEvent, goodAt, goodEvents, isBad, isBadIn}
+use Rattle.recording.specs.Recording.{Recording, eventCount, recordingIn}
+use Rattle.recording.specs.Test.{isBad, isBadIn}
 use Rattle.recording.proofs.Sizes.{Sized, sized}
 use Rattle.recording.proofs.Survives.{survives}
-use Rattle.replay_parts.specs.Events.{lineBy, lineOf, answerOf}
+use Rattle.replay_parts.specs.Events.{lineOf, answerOf}
 use Rattle.replay_parts.specs.Parts.{startOf, limitOf, endOf}
 use Rattle.replay_parts.proofs.Good.{event-good}
 use Rattle.replay_parts.specs.declared.Start.{Start}

@@ -1,6 +1,5 @@
 -- `ocb_recording_write` answers `writeAnswer`, and leaves what it says in all lent memory.
 use borrow.Author.Needs.{needs}
-use denote.Ref.{now}
 use Rattle.lookup_answers.specs.Words.{numberWords}
 use Rattle.recording_c.proofs.Told.{told}
 use Rattle.recording_c.proofs.ocb_recording_write.Statement.{statement}

@@ -1,10 +1,9 @@
 -- `put_counts`: before the count of section i is put, those before it are.
 use borrow.Author.Needs.{needs}
 use native.Mathlib.Omega.{arith}
-use mathlib.Core.Path.{_≡_, sym, ap, _∙_}
-use mathlib.Core.List.{List, [], _∷_}
-use Prim.Native.Nat.{ℕ, _+_, _-_, _≤_}
-use lib.ListN.{length, set, length-set}
+use mathlib.Core.Path.{_≡_, sym}
+use Prim.Native.Nat.{_-_, _≤_}
+use lib.ListN.{length, length-set}
 use denote.Ref.{now}
 use Rattle.base.specs.Choice.{list}
 use Rattle.printing.specs.Put.{put}
