@@ -1,5 +1,5 @@
-// Reads a recording from standard input, plays it again, and writes how that ends: `ok N events`, `stop 18`, or `stop 19
-// at event K`.
+// Reads a recording from standard input, plays it again, and writes how that ends: `ok N events`, `stop 18`, or
+// `stop 19 at event K`.
 use libc::STDIN_FILENO;
 use libc::STDOUT_FILENO;
 

@@ -1,10 +1,12 @@
-// The events of a script that was played, each with the answer that was printed for it. Any script and text may be handed.
+// The events of a script that was played, each with the answer that was printed for it. Any script and text may be
+// handed.
 ghost use mathlib.Core.Path.{_≡_};
 ghost use Prim.Native.Nat.{_+_, _%_, _≤_};
 ghost use lib.ListN.{length, take, drop};
 ghost use Rattle.script.specs.Script.{before};
 ghost use Rattle.printing.specs.Put.{put, ends};
-ghost use Rattle.script_events.specs.Events.{letterOf, fourOf, eventBytes, answerOf, lineFrom, nextFrom, stopAt, eventsOf};
+ghost use Rattle.script_events.specs.Events.{letterOf, fourOf, eventBytes, answerOf, lineFrom, nextFrom, stopAt};
+ghost use Rattle.script_events.specs.Events.{eventsOf};
 use base::Kind;
 use line_parts::Number;
 use script::Line;

@@ -11,8 +11,8 @@ returns-2 : tie.Need-returns-2
 returns-2 c =
     let w = c .before .before .before .before .before in
     let x = w .before .before .before .before .before .args in
-    inside (recordingOf (x .script .now) (x .text .now)) (x .buf .now) _ _ (sym (ap foundAnswer (c .before .size .given .1)) ∙ w .put-recording .ensures .0)
-    (w .put-recording .ensures .1)
+    inside (recordingOf (x .script .now) (x .text .now)) (x .buf .now) _ _
+    (sym (ap foundAnswer (c .before .size .given .1)) ∙ w .put-recording .ensures .0) (w .put-recording .ensures .1)
 
 pub recorded-spec : {M : Type 1} → statement M
 recorded-spec =

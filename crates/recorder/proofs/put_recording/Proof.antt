@@ -29,13 +29,13 @@ returns c =
     let k = n .before .before in
     let p = k .before .before .before in
     let l = p .before .before in
-    let same =
-    written _ _ _ (replicate 60000 0) (l .before .before .before .before .args .buf .now)
-    (length-replicate {A = ℕ} 60000 0) (p .put-events .result) _ _
-    (n .nodes-by .ensures ∙ ap (λ (x : Parsed). nodesBy (x .line)) (l .line-at .ensures)) (p .put-events .ensures .1)
-    (ap (take (k .put-counts .result)) (k .put-counts .ensures .0)
-    ∙ counts-put (replicate 32 0) _ _ (k .put-counts .ensures .1) (search needs))
-    (ap (take (p .put-events .result)) (p .put-events .ensures .0)) in
+    let buf = l .before .before .before .before .args .buf .now in
+    let nodes = n .nodes-by .ensures ∙ ap (λ (x : Parsed). nodesBy (x .line)) (l .line-at .ensures) in
+    let put = counts-put (replicate 32 0) _ _ (k .put-counts .ensures .1) (search needs) in
+    let counts = ap (take (k .put-counts .result)) (k .put-counts .ensures .0) ∙ put in
+    let events = ap (take (p .put-events .result)) (p .put-events .ensures .0) in
+    let zeros = length-replicate {A = ℕ} 60000 0 in
+    let same = written _ _ _ (replicate 60000 0) buf zeros _ _ _ nodes (p .put-events .ensures .1) counts events in
     (w .write .ensures .0 ∙ same .0, w .write .ensures .1 ∙ same .1)
 
 pub put-recording-spec : {M : Type 1} → statement M

@@ -11,4 +11,7 @@ returns-2 : tie.Need-returns-2
 returns-2 c = rest-of (c .before .before .args .s .now) (c .before .before .args .at)
 
 pub from-spec : {M : Type 1} → statement M
-from-spec = tie.close (tie.spec (λ c. search needs) (λ c. search needs) (λ c. search needs) returns (λ c. search needs) (λ c. search needs) (λ c. search needs) returns-2)
+from-spec =
+    tie.close
+    (tie.spec (λ c. search needs) (λ c. search needs) (λ c. search needs) returns (λ c. search needs)
+    (λ c. search needs) (λ c. search needs) returns-2)

@@ -26,4 +26,6 @@ returns-2 c =
     next-none _ _ _ (f .before .from .ensures) _ (f .find .ensures .0) (c .if1 .left)
 
 pub next-from-spec : {M : Type 1} → statement M
-next-from-spec = tie.close (tie.spec (λ c κs. search needs) (λ c κs. search needs) add-result add-result-2 returns returns-2)
+next-from-spec =
+    tie.close
+    (tie.spec (λ c κs. search needs) (λ c κs. search needs) add-result add-result-2 returns returns-2)

@@ -51,4 +51,7 @@ returns : tie.Need-returns Inv-loop μ-loop
 returns c = let l = c .before .loop in last _ _ _ _ _ _ _ _ (c .loop-test .left) (l .inv .0) (l .inv .2)
 
 pub put-events-spec : {M : Type 1} → statement M
-put-events-spec = tie.close (tie.spec Inv-loop μ-loop (λ c κs. search needs) (λ c κs. search needs) loop-holds (λ c κs. search needs) (λ c κs. search needs) (λ c κs. search needs) (λ c κs. search needs) loop-less loop-again same-length returns)
+put-events-spec =
+    tie.close
+    (tie.spec Inv-loop μ-loop (λ c κs. search needs) (λ c κs. search needs) loop-holds (λ c κs. search needs)
+    (λ c κs. search needs) (λ c κs. search needs) (λ c κs. search needs) loop-less loop-again same-length returns)

@@ -16,4 +16,7 @@ returns c =
     (then _ _ _ (_ ∷ _ ∷ []) (_ ∷ _ ∷ []) _ _ _ (first .put-two .ensures) (second .put-two2 .ensures))
 
 pub put-four-spec : {M : Type 1} → statement M
-put-four-spec = tie.close (tie.spec (λ c κs. search needs) (λ c κs. search needs) (λ c κs. search needs) (λ c κs. search needs) (λ c κs. search needs) (λ c. search needs) returns)
+put-four-spec =
+    tie.close
+    (tie.spec (λ c κs. search needs) (λ c κs. search needs) (λ c κs. search needs) (λ c κs. search needs)
+    (λ c κs. search needs) (λ c. search needs) returns)
