@@ -1,14 +1,19 @@
 /*
  * How fast recordings are read and replayed on this machine: for boards of some sizes a recording as long as one can be is
- * made, read and replayed, and a line printed: nodes, bytes, events, seconds to read, seconds to replay. Each is the best of
- * several.
+ * made, read and replayed, and a line printed: nodes, bytes, events, seconds to read, seconds to replay, each the best of
+ * several, and how many bytes of stack the replay takes.
  */
-#define _POSIX_C_SOURCE 199309L
+#define _XOPEN_SOURCE 700
 #include "../recordings/board.h"
 
 #include <stdio.h>
 #include <stdlib.h>
+#include <string.h>
 #include <time.h>
+#include <ucontext.h>
+
+#define STACK (1024 * 1024)
+#define PATTERN 0xa5
 
 enum { MOST = (OCB_RECORDING_LONGEST - OCB_RECORDING_BYTES(1, 0)) / OCB_EVENT_BYTES, TIMES = 5 };
 
@@ -37,9 +42,33 @@ static void expect(uint32_t answer)
     exit(1);
 }
 
+static uint8_t stack[STACK];
+static ucontext_t outside, inside;
+static uint32_t length, position;
+
+static void on_stack(void)
+{
+    expect(ocb_replay(bytes, length, places, sizeof places, &position));
+}
+
+/* Replays on a stack filled with a pattern; how many bytes from its top are written. */
+static size_t depth(void)
+{
+    size_t clean = 0;
+    memset(stack, PATTERN, sizeof stack);
+    getcontext(&inside);
+    inside.uc_stack.ss_sp = stack;
+    inside.uc_stack.ss_size = sizeof stack;
+    inside.uc_link = &outside;
+    makecontext(&inside, on_stack, 0);
+    swapcontext(&outside, &inside);
+    while (clean < sizeof stack && stack[clean] == PATTERN) clean++;
+    return sizeof stack - clean;
+}
+
 static void measure(uint32_t nodes)
 {
-    uint32_t length, position, counts[1] = {MOST}, found[OCB_HEAD_WORDS];
+    uint32_t counts[1] = {MOST}, found[OCB_HEAD_WORDS];
     board_start(nodes);
     for (kept = 0; kept < MOST;) board_step(2, false);
     expect(ocb_recording_write(nodes, counts, 1, events, sizeof events, bytes, sizeof bytes, &length));
@@ -53,7 +82,7 @@ static void measure(uint32_t nodes)
         if (done - began < read) read = done - began;
         if (ended - done < replay) replay = ended - done;
     }
-    printf("%u %u %u %.6f %.6f\n", nodes, length, position, read, replay);
+    printf("%u %u %u %.6f %.6f %zu\n", nodes, length, position, read, replay, depth());
 }
 
 int main(void)

@@ -150,6 +150,18 @@ def print_depths(path):
                 ["", *sheet.NAMES, "library copies, average", "most"], rows)
 
 
+def print_replays(path):
+    """How fast recordings are read and replayed: measured by the clock, so that the numbers move with the machine."""
+    rows = []
+    for line in open(path, encoding="utf-8"):
+        nodes, length, events, read, replay, stack = line.split()
+        fast = int(events) / (float(read) + float(replay))
+        rows.append([nodes, f"{int(length):,}", f"{int(events):,}", f"{1e3 * float(read):.2f}", f"{1e3 * float(replay):.2f}",
+                     f"{fast:,.0f}", f"{int(stack):,}"])
+    sheet.table("x86-replays", "x86-64: the longest recordings, read and replayed", ["P", "bytes", "events", "read, ms",
+                "replayed, ms", "events per second", "stack of a replay, bytes"], rows)
+
+
 def size(path):
     lines = subprocess.run(["size", path], check=True, capture_output=True, text=True).stdout.splitlines()[1:]
     return sum(int(line.split()[0]) for line in lines)
@@ -186,6 +198,7 @@ def main():
     print_shares(costs["O2"])
     print_depths(sheet.OUT / "depths")
     print_code()
+    print_replays(sheet.OUT / "replayed")
     print_aims(costs["O2"])
 
 
