@@ -17,7 +17,7 @@ use Rattle.recording_write.specs.Write.{writeAnswer, leftBy}
 use Rattle.recording_read.specs.Read.{isShort, headOf, readAnswer, filled}
 use Rattle.replay_parts.specs.declared.Replayed.{Replayed}
 use Rattle.replays.specs.Replay.{Course, replay, replayAnswer}
-use Rattle.recording_c.specs.Exports.{headWords, positionWords}
+use Rattle.recording_answers.specs.Words.{headWords, positionWords}
 use Rattle.barrier_c.specs.Exports.{lookupNumber}
 use Rattle.promises.specs.Promises.{OneOf, Recordings}
 use Rattle.promises.proofs.AnyInput.{looked-up, refused-stays, number-stays}

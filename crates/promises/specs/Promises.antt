@@ -45,7 +45,7 @@ use Rattle.recording_write.specs.Write.{writeAnswer, writtenOn as recordingOn}
 use Rattle.recording_read.specs.Read.{readAnswer, filled}
 use Rattle.replays.specs.Replay.{replay, replayAnswer}
 use Rattle.replayed.specs.Run.{EveryReplay}
-use Rattle.recording_c.specs.Exports.{headWords, positionWords}
+use Rattle.recording_answers.specs.Words.{headWords, positionWords}
 
 abbrev pub among : List ℕ → ℕ → Bool
 among [] x = false

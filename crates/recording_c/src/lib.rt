@@ -3,40 +3,11 @@ ghost use mathlib.Core.Path.{_≡_};
 ghost use lib.ListN.{length};
 ghost use Rattle.lookup_answers.specs.Words.{lookupNumber, numberWords};
 ghost use Rattle.recording.specs.Recording.{made, recordingIn};
-ghost use Rattle.recording_read.specs.Read.{readAnswer, heldAnswer, filled};
+ghost use Rattle.recording_read.specs.Read.{readAnswer, filled};
 ghost use Rattle.recording_write.specs.Write.{writeAnswer, writtenOn};
 ghost use Rattle.rehearsal_headers.specs.Headers.{noItems};
 ghost use Rattle.replays.specs.Replay.{replay, replayAnswer};
-ghost use Rattle.recording_c.specs.Exports.{headWords, positionWords};
-use recording_read::Held;
-use replay_parts::Replayed;
-
-// The number of the reader's answer, and what a recording has.
-fn answer_held(answer: Held, found: &mut [u32; 3]) -> u32
-    ensures answer { λ r. ⌜ r ≡ lookupNumber (heldAnswer answer) ⌝ }
-    ensures memory { λ r. ⌜ now (found .exit) ≡ headWords (heldAnswer answer) (now (found .entry)) ⌝ }
-{
-    match answer {
-        Held::Is(h) => {
-            *found = [h.nodes, h.sections, h.events];
-            0
-        }
-        Held::Refused(no) => no as u32,
-    }
-}
-
-// The number of a replay's answer, and how far it came.
-fn answer_end(end: Replayed, position: &mut [u32; 1]) -> u32
-    ensures answer { λ r. ⌜ r ≡ end .why ⌝ }
-    ensures memory { λ r. ⌜ now (position .exit) ≡ positionWords end (now (position .entry)) ⌝ }
-{
-    if end.why != 18 {
-        *position = [end.at];
-    }
-    end.why
-}
-
-// ---- Exported
+ghost use Rattle.recording_answers.specs.Words.{headWords, positionWords};
 
 // Reads a recording. Refuses 18, 14.
 #[no_mangle]
@@ -67,7 +38,7 @@ pub extern "C" fn ocb_recording_read(
         (now (found .entry))
         ⌝ }
 {
-    answer_held(recording_read::read(bytes, counts, events), found)
+    recording_answers::answer_held(recording_read::read(bytes, counts, events), found)
 }
 
 // Writes a recording. Refuses 18, 14.
@@ -108,5 +79,5 @@ pub extern "C" fn ocb_replay(recording: &[u8], places: &mut [u8], position: &mut
         ≡ positionWords (replayAnswer (now (recording .entry)) noItems (now (places .entry))) (now (position .entry))
         ⌝ }
 {
-    answer_end(replay_headers::replay_own(places, recording), position)
+    recording_answers::answer_end(replay_headers::replay_own(places, recording), position)
 }

@@ -1,6 +1,6 @@
 -- `ocb_recording_read` answers `readAnswer`, and leaves what it says in all lent memory.
 use borrow.Author.Needs.{needs}
-use Rattle.recording_c.specs.Exports.{headWords}
+use Rattle.recording_answers.specs.Words.{headWords}
 use Rattle.recording_c.proofs.Told.{told}
 use Rattle.recording_c.proofs.ocb_recording_read.Statement.{statement}
 use Rattle.recording_c.proofs.ocb_recording_read.Tie as tie

@@ -1,8 +1,8 @@
 -- `answer_end` tells how a replay ends, and leaves how far it came.
 use mathlib.Core.Path.{refl}
 use borrow.Author.Tests.{eq-eqb, ne-eqb}
-use Rattle.recording_c.proofs.answer_end.Statement.{statement}
-use Rattle.recording_c.proofs.answer_end.Tie as tie
+use Rattle.recording_answers.proofs.answer_end.Statement.{statement}
+use Rattle.recording_answers.proofs.answer_end.Tie as tie
 
 returns : tie.Need-returns
 returns c = rw (ne-eqb _ _ (c .before .if1 .taken)) (refl, refl)

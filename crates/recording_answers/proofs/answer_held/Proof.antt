@@ -1,8 +1,8 @@
 -- `answer_held` answers as the reader does, by the case of its answer.
 use borrow.Author.Needs.{needs}
 use mathlib.Core.Path.{refl}
-use Rattle.recording_c.proofs.answer_held.Statement.{statement}
-use Rattle.recording_c.proofs.answer_held.Tie as tie
+use Rattle.recording_answers.proofs.answer_held.Statement.{statement}
+use Rattle.recording_answers.proofs.answer_held.Tie as tie
 
 returns : tie.Need-returns
 returns c = rw (c .before .before .answer .given .1) (refl, refl)

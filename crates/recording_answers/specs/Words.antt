@@ -1,4 +1,4 @@
--- What the exported functions for recordings leave in lent words.
+-- What is told of a recording that was read, and of a replay, in lent words.
 use mathlib.Core.List.{List, [], _∷_}
 use Prim.Native.Nat.{ℕ}
 use lib.Dec.{eqb}
