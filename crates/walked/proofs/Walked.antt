@@ -1,28 +1,26 @@
 -- The walk: what it holds is the node's numbers and those of the frames that it has read.
 use mathlib.Core.Path.{_≡_, refl, sym, ap, _∙_}
 use mathlib.Core.Bool.{Bool, true, false}
-use mathlib.Core.Logic.{_≢_}
-use mathlib.Core.List.{append-assoc}
-use Prim.Native.Nat.{ℕ, zero, suc, _+_, _-_, _≤_, _<_, min}
+use mathlib.Core.List.{List}
+use Prim.Native.Nat.{ℕ, suc, _+_, _≤_, _<_, min}
 use native.Mathlib.Omega.{arith}
 use lib.Dec.{eqb, ltb}
-use lib.ListN.{length, set}
-use lib.Seq.{getD-set-same, getD-set-other}
+use lib.ListN.{set}
 use borrow.Author.Tests.{ltb-true, eqb-true}
-use Rattle.base.specs.Choice.{choose, both, either, list}
+use Rattle.base.specs.Choice.{choose, both, either}
 use Rattle.base.proofs.Laws.{both-true, cases}
-use Rattle.node.specs.Sums.{dims, firstAt, secondAt, Field, sentIn, takenIn, allSent, allTaken, tally, number, total}
+use Rattle.node.specs.Sums.{dims, firstAt, secondAt, Field, sentIn, takenIn, allSent, allTaken, tally, total}
 use Rattle.node.specs.Sums.{own, ownIssued}
 use Rattle.node.specs.State.{positionOk}
+use Rattle.node.specs.Change.{withFirst, withSecond}
 use Rattle.node.specs.declared.Stored.{Stored}
 use Rattle.node.specs.declared.Confirm.{Confirm}
 use Rattle.node.specs.declared.Node.{Node}
 use Rattle.node.proofs.Totals.{total-same}
-use Rattle.layout.specs.Places.{firstWords, secondWords, atFirst}
-use Rattle.layout.proofs.Offsets.{first-above}
-use Rattle.walked.specs.Walk.{reach, confirmReach, firstAdds, secondAdds, walked, placesRead}
-use Rattle.walked.specs.Laws.{firstPut, secondPut, Alike, OneWalk}
-use Rattle.walked.proofs.Rows.{grows, total-before, total-other, list-join}
+use Rattle.walked.specs.Walk.{reach, confirmReach, firstAdds, secondAdds, walked}
+use Rattle.walked.specs.Laws.{firstPut, secondPut, OneWalk}
+use Rattle.walked.proofs.Rows.{grows, total-before, counted-once}
+use Rattle.walked.proofs.Words.{in-order}
 
 -- ---- the position
 
@@ -94,45 +92,52 @@ module _ (n m : Node) (k : ℕ) where
   sums-same : (f : Field) → tally m f ≡ tally n f → reach m ≡ reach n
       → ((j : ℕ) → j < k → firstAt m j ≡ firstAt n j) → walked m k .sums f ≡ walked n k .sums f
   sums-same f t r e =
-      sums-total m k f
-      ∙ (λ i. t i + total-same _ _ k (λ j l i. choose (ltb j (r i)) (choose (e j l i .present) (number (e j l i) f) 0) 0) i)
-      ∙ sym (sums-total n k f)
-
-  issued-same : tally m allSent ≡ tally n allSent → confirmReach m ≡ confirmReach n
-      → ((j : ℕ) → j < k → secondAt m j ≡ secondAt n j) → walked m k .issued ≡ walked n k .issued
-  issued-same t r e =
-      issued-total m k
-      ∙ (λ i. t i + total-same _ _ k (λ j l i. choose (ltb j (r i)) (choose (e j l i .present) (e j l i .issued .0) 0) 0) i)
-      ∙ sym (issued-total n k)
-
--- stored frames are in no tally
-module _ (n : Node) where
-  first-tally : (j : ℕ) (x : Stored) (f : Field) → tally (firstPut n j x) f ≡ tally n f
-  first-tally j x (sentIn m) = refl
-  first-tally j x (takenIn m) = refl
-  first-tally j x allSent = refl
-  first-tally j x allTaken = refl
-
-  second-tally : (j : ℕ) (y : Confirm) (f : Field) → tally (secondPut n j y) f ≡ tally n f
-  second-tally j y (sentIn m) = refl
-  second-tally j y (takenIn m) = refl
-  second-tally j y allSent = refl
-  second-tally j y allTaken = refl
-
--- ---- one frame in the place of another
-
-module _ (n : Node) (j k : ℕ) where
-  sums-once : (x : Stored) → j < length (n .first) → j < k → (f : Field)
-      → walked (firstPut n j x) k .sums f + firstAdds n j (firstAt n j) f ≡ walked n k .sums f + firstAdds n j x f
-  sums-once x l r f =
-      let m = firstPut n j x in
-      let same : firstAt m j ≡ x = getD-set-same (n .first) j x _ l in
-      let h : firstAdds m j (firstAt m j) f ≡ firstAdds n j x f = ap (λ y. firstAdds n j y f) same in
       omega (
         arith,
         sums-total m k f,
         sums-total n k f,
-        first-tally n j x f,
-        total-other (λ i. firstAdds n i (firstAt n i) f) (λ i. firstAdds m i (firstAt m i) f) j k r
-        (λ i d. ap (λ y. firstAdds n i y f) (getD-set-other (n .first) j i x _ d)),
+        total-same (λ j. firstAdds m j (firstAt m j) f) (λ j. firstAdds n j (firstAt n j) f) k (λ j l. rw (r, e j l)),
       )
+
+  issued-same : tally m allSent ≡ tally n allSent → confirmReach m ≡ confirmReach n
+      → ((j : ℕ) → j < k → secondAt m j ≡ secondAt n j) → walked m k .issued ≡ walked n k .issued
+  issued-same t r e =
+      omega (
+        arith,
+        issued-total m k,
+        issued-total n k,
+        total-same (λ j. secondAdds m j (secondAt m j)) (λ j. secondAdds n j (secondAt n j)) k (λ j l. rw (r, e j l)),
+      )
+
+-- stored frames are in no tally
+tally-kept : (n : Node) (l : List Stored) (q : List Confirm) (f : Field) → tally (withFirst (withSecond n q) l) f ≡ tally n f
+tally-kept n l q (sentIn m) = refl
+tally-kept n l q (takenIn m) = refl
+tally-kept n l q allSent = refl
+tally-kept n l q allTaken = refl
+
+-- ---- the laws
+
+pub one-walk : OneWalk
+one-walk =
+    record {
+      sums = sums-total;
+      issued = issued-total;
+      sumsOwn = walked-sums;
+      issuedOwn = walked-issued;
+      sumsAll = λ n ok f. walked-sums n (dims n) f ∙ ap (λ k. own n k f) (omega (arith, reach-low n ok));
+      issuedAll = λ n ok. walked-issued n (dims n) ∙ ap (ownIssued n) (omega (arith, confirm-reach-low n ok));
+      sumsUnread = λ n m k a f. sums-same n m k f (a .tallies f) (a .firsts) (a .first);
+      issuedUnread = λ n m k a. issued-same n m k (a .tallies allSent) (a .seconds) (a .second);
+      sumsOnce = λ n j k x a b f.
+          counted-once (λ i y. firstAdds n i y f) (n .first) _ j k x (tally n f) _ _ a b
+          (omega (arith, sums-total (firstPut n j x) k f, tally-kept n (set (n .first) j x) (n .second) f))
+          (sums-total n k f);
+      issuedOnce = λ n j k y a b.
+          counted-once (secondAdds n) (n .second) _ j k y (tally n allSent) _ _ a b (issued-total (secondPut n j y) k)
+          (issued-total n k);
+      sumsApart = λ n j k y f.
+          sums-same n (secondPut n j y) k f (tally-kept n (n .first) (set (n .second) j y) f) refl (λ i l. refl);
+      issuedApart = λ n j k x. issued-same n (firstPut n j x) k refl refl (λ i l. refl);
+      inOrder = in-order;
+    }

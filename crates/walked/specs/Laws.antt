@@ -1,7 +1,7 @@
 -- What is shown of the walk: it holds the numbers of the node and of exactly the frames that it has read, each once.
 use mathlib.Core.Path.{_≡_}
 use mathlib.Core.Bool.{true}
-use Prim.Native.Nat.{ℕ, _+_, _-_, _≤_, _<_, min}
+use Prim.Native.Nat.{ℕ, _+_, _-_, _<_, min}
 use lib.ListN.{length, set}
 use Rattle.base.specs.Choice.{list}
 use Rattle.node.specs.Sums.{dims, firstAt, secondAt, Field, allSent, tally, total, own, ownIssued}
