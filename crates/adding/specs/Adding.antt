@@ -7,15 +7,14 @@ use lib.ListN.{length}
 use Rattle.base.specs.Limits.{width}
 use Rattle.node.specs.Sums.{Field, Has, number}
 use Rattle.node.specs.declared.Stored.{Stored}
-use Rattle.layout.specs.Places.{firstWords, mostWords, sumWords}
+use Rattle.layout.specs.Places.{firstWords, sumWords}
 use Rattle.layout.specs.Held.{firstFrom, sumOf}
 
--- a stored pass 1 frame of dimension k stands in the words at a place, and there are sums
-pub record FirstAt (ws sums : List ℕ) (p k at : ℕ) : Type 0 where
+-- the words are those of a stored pass 1 frame of dimension k, and there are sums
+pub record Framed (ws sums : List ℕ) (p k : ℕ) : Type 0 where
   pub low : k < p
   pub few : p ≤ width
-  pub near : at ≤ mostWords
-  pub long : at + firstWords p k ≤ length ws
+  pub long : length ws ≡ firstWords p k
   pub wide : sumWords p ≤ length sums
 
 -- no sum that the next dimension has comes above the limit
@@ -27,9 +26,9 @@ abbrev pub Added : ℕ → ℕ → Stored → List ℕ → List ℕ → Type 0
 Added p k x before after = (f : Field) → Has p (suc k) f → sumOf p after f ≡ sumOf p before f + number x f
 
 -- what adding a frame answers, and the sums after it
-pub record AddedBy (limit : ℕ) (ws : List ℕ) (p k at : ℕ) (before after : List ℕ) (r : Bool) : Type 0 where
-  pub there : r ≡ true → FirstAt ws before p k at
-  pub within : r ≡ true → Within limit p k (firstFrom ws p k at) before
-  pub over : r ≡ false → FirstAt ws before p k at → Within limit p k (firstFrom ws p k at) before → ⊥
-  pub added : r ≡ true → Added p k (firstFrom ws p k at) before after
+pub record AddedBy (limit : ℕ) (ws : List ℕ) (p k : ℕ) (before after : List ℕ) (r : Bool) : Type 0 where
+  pub there : r ≡ true → Framed ws before p k
+  pub within : r ≡ true → Within limit p k (firstFrom ws p k 0) before
+  pub over : r ≡ false → Framed ws before p k → Within limit p k (firstFrom ws p k 0) before → ⊥
+  pub added : r ≡ true → Added p k (firstFrom ws p k 0) before after
   pub length : length after ≡ length before

@@ -4,7 +4,7 @@ ghost use Prim.Native.Nat.{_+_, _≤_, _<_};
 ghost use lib.ListN.{length};
 ghost use Rattle.layout.specs.Places.{mostWords};
 ghost use Rattle.layout.specs.Held.{firstFrom};
-ghost use Rattle.adding.specs.Adding.{FirstAt, AddedBy};
+ghost use Rattle.adding.specs.Adding.{Framed, AddedBy};
 ghost use Rattle.adding.specs.Pieces.{AddedAt, AddedRun, AddedTotals};
 use frame::Sent;
 use frame::Taken;
@@ -70,12 +70,12 @@ fn add_all_taken(sums: &mut [u32], to: u32, s: &[u32], from: u32, count: u32, li
 }
 
 // Adds the totals. Whether neither comes above the limit.
-fn add_totals(sums: &mut [u32], s: &[u32], p: u32, k: u32, at: u32, limit: u32) -> bool
-    requires { ⌜ FirstAt (now s) (now sums) p k at ⌝ }
+fn add_totals(sums: &mut [u32], s: &[u32], p: u32, k: u32, limit: u32) -> bool
+    requires { ⌜ Framed (now s) (now sums) p k ⌝ }
     ensures { λ r.
-        ⌜ AddedTotals p (firstFrom (now (s .entry)) p k at) limit (now (sums .entry)) (now (sums .exit)) r ⌝ }
+        ⌜ AddedTotals p (firstFrom (now (s .entry)) p k 0) limit (now (sums .entry)) (now (sums .exit)) r ⌝ }
 {
-    let totals = at + layout::MARK + 2 * (p - k);
+    let totals = layout::MARK + 2 * (p - k);
     if !add_sent(&mut *sums, 2 * p, s, totals, limit) {
         return false;
     }
@@ -88,19 +88,19 @@ fn add_totals(sums: &mut [u32], s: &[u32], p: u32, k: u32, at: u32, limit: u32) 
     )
 }
 
-// Adds the numbers of dimension k above its own shell, where no sum comes above the limit. Whether that is so: not where
-// there are too few words. Sums may be changed where it is not.
-pub fn add_frame(limit: u32, s: &[u32], sums: &mut [u32], p: u32, k: u32, at: u32) -> bool
-    ensures { λ r. ⌜ AddedBy limit (now (s .entry)) p k at (now (sums .entry)) (now (sums .exit)) r ⌝ }
+// Adds the numbers of a frame of dimension k above its own shell, where no sum comes above the limit. Whether that is so: not
+// where the words are no such frame's. Sums may be changed where it is not.
+pub fn add_frame(limit: u32, s: &[u32], sums: &mut [u32], p: u32, k: u32) -> bool
+    ensures { λ r. ⌜ AddedBy limit (now (s .entry)) p k (now (sums .entry)) (now (sums .exit)) r ⌝ }
 {
-    if !walk_tests::first_fits(p, k, at, s.len(), sums.len()) {
+    if !walk_tests::first_fits(p, k, s.len(), sums.len()) {
         return false;
     }
-    if !add_totals(&mut *sums, s, p, k, at, limit) {
+    if !add_totals(&mut *sums, s, p, k, limit) {
         return false;
     }
     let above = p - (k + 1);
-    let sent = at + layout::MARK + 1;
+    let sent = layout::MARK + 1;
     if !add_all_sent(&mut *sums, k + 1, s, sent, above, limit) {
         return false;
     }

@@ -3,22 +3,13 @@ use mathlib.Core.Path.{_≡_}
 use mathlib.Core.Bool.{Bool, true}
 use mathlib.Core.List.{List}
 use Prim.Native.Nat.{ℕ}
-use lib.Dec.{eqb}
 use lib.ListN.{length}
-use Rattle.base.specs.Choice.{choose}
 use Rattle.base.specs.Limits.{Limits}
 use Rattle.node.specs.Sums.{Field, sentIn, takenIn, number}
-use Rattle.node.specs.Agree.{firstClauses}
+use Rattle.node.specs.Agree.{firstClauses, allHold}
 use Rattle.node.specs.declared.Stored.{Stored}
-use Rattle.survey.specs.Verdict.{verdictOf}
-use Rattle.survey.specs.declared.Verdict.{Verdict}
-use Rattle.survey.specs.declared.Verdict.the-variants.{Agrees, Fails}
 use Rattle.layout.specs.Held.{sumOf}
 use Rattle.adding.specs.Adding.{Added}
-
--- clause 4
-abbrev pub lastVerdict : Bool → ℕ → ℕ → Verdict
-lastVerdict last issued received = choose (choose last (eqb issued received) true) Agrees (Fails 4)
 
 -- clauses 0, 1 and 2 hold
 pub record Opened (p k : ℕ) (own : Field → ℕ) (x : Stored) : Type 0 where
@@ -26,8 +17,8 @@ pub record Opened (p k : ℕ) (own : Field → ℕ) (x : Stored) : Type 0 where
   pub sent : own (sentIn k) ≡ number x (takenIn k)
   pub taken : own (takenIn k) ≡ number x (sentIn k)
 
--- a verdict on the clauses, and the sums with the frame added where these hold
-pub record Judged (L : Limits) (p k : ℕ) (x : Stored) (before after : List ℕ) (r : Verdict) : Type 0 where
-  pub verdict : r ≡ verdictOf (firstClauses L p k (sumOf p before) x)
-  pub sums : r ≡ Agrees → Added p k x before after
+-- whether all clauses hold, and the sums with the frame added where they do
+pub record Agreed (L : Limits) (p k : ℕ) (x : Stored) (before after : List ℕ) (r : Bool) : Type 0 where
+  pub ok : r ≡ allHold (firstClauses L p k (sumOf p before) x)
+  pub sums : r ≡ true → Added p k x before after
   pub length : length after ≡ length before

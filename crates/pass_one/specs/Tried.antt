@@ -11,13 +11,13 @@ use Rattle.layout.specs.Held.{firstFrom, sumOf}
 use Rattle.walk_tests.specs.Tests.{firstFits}
 use Rattle.adding.specs.Adding.{Added}
 
--- where the words have no such frame, none is stored
-abbrev pub firstTried : Limits → List ℕ → List ℕ → ℕ → ℕ → ℕ → List Bool
-firstTried L ws sums p k at =
-    choose (firstFits p k at (length ws) (length sums)) (firstClauses L p k (sumOf p sums) (firstFrom ws p k at)) (false ∷ [])
+-- where the words are no such frame's, none is stored
+abbrev pub firstTried : Limits → List ℕ → List ℕ → ℕ → ℕ → List Bool
+firstTried L ws sums p k =
+    choose (firstFits p k (length ws) (length sums)) (firstClauses L p k (sumOf p sums) (firstFrom ws p k 0)) (false ∷ [])
 
 -- a step that agrees is passed, and the numbers of its frame are then in the sums
-pub record PassedBy (L : Limits) (ws : List ℕ) (p k at : ℕ) (before after : List ℕ) (r : Bool) : Type 0 where
-  pub ok : r ≡ allHold (firstTried L ws before p k at)
-  pub sums : r ≡ true → Added p k (firstFrom ws p k at) before after
+pub record PassedBy (L : Limits) (ws : List ℕ) (p k : ℕ) (before after : List ℕ) (r : Bool) : Type 0 where
+  pub ok : r ≡ allHold (firstTried L ws before p k)
+  pub sums : r ≡ true → Added p k (firstFrom ws p k 0) before after
   pub length : length after ≡ length before

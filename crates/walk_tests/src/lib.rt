@@ -2,21 +2,9 @@
 ghost use mathlib.Core.Path.{_≡_};
 ghost use Prim.Native.Nat.{_+_};
 ghost use lib.Dec.{leb};
-ghost use Rattle.survey.specs.Verdict.{isAgreed};
 ghost use Rattle.walk_tests.specs.Tests.{firstFits};
 use frame::Sent;
 use frame::Taken;
-use survey::Verdict;
-
-// The step that a verdict is on agrees.
-pub fn is_agreed(v: Verdict) -> bool
-    ensures { λ r. ⌜ r ≡ isAgreed v ⌝ }
-{
-    match v {
-        Verdict::Agrees => true,
-        Verdict::Fails(clause) => false,
-    }
-}
 
 // A sum of numbers sent is within a limit.
 pub fn sent_fits(sent: Sent, more: Sent, limit: u32) -> bool
@@ -38,9 +26,9 @@ pub fn taken_fits(taken: Taken, more: Taken, limit: u32) -> bool
     more.0 <= limit - taken.0
 }
 
-// So many words have a pass 1 frame of dimension k on a board of p dimensions at a place, and so many its sums.
-pub fn first_fits(p: u32, k: u32, at: u32, words: usize, room: usize) -> bool
-    ensures { λ r. ⌜ r ≡ firstFits p k at words room ⌝ }
+// So many words are those of a pass 1 frame of dimension k on a board of p dimensions, and so many have its sums.
+pub fn first_fits(p: u32, k: u32, words: usize, room: usize) -> bool
+    ensures { λ r. ⌜ r ≡ firstFits p k words room ⌝ }
 {
     if p <= k {
         return false;
@@ -48,10 +36,7 @@ pub fn first_fits(p: u32, k: u32, at: u32, words: usize, room: usize) -> bool
     if layout::SHELLS < p {
         return false;
     }
-    if layout::MOST < at {
-        return false;
-    }
-    if words < (at + layout::MARK + (2 * (p - k) + layout::TOTALS)) as usize {
+    if words != (2 * (p - k) + layout::FIRST) as usize {
         return false;
     }
     (2 * p + layout::TOTALS) as usize <= room

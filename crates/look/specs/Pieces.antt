@@ -1,0 +1,56 @@
+-- Definitions that only the contracts of private functions cite: numbers beside their sums, and the clauses in their order.
+use mathlib.Core.Path.{_≡_}
+use mathlib.Core.Bool.{Bool, true, false}
+use mathlib.Core.List.{List}
+use Prim.Native.Nat.{ℕ, suc, _+_, _-_}
+use lib.Dec.{ltb, leb, eqb}
+use lib.ListN.{length}
+use Rattle.base.specs.Choice.{choose, both, every}
+use Rattle.base.specs.Limits.{Limits, fieldLimit}
+use Rattle.frame.specs.Frame.{takenNumber}
+use Rattle.node.specs.Sums.{Field, sentIn, takenIn, allSent, allTaken, number}
+use Rattle.node.specs.Agree.{firstClauses, firstFailing}
+use Rattle.node.specs.declared.Stored.{Stored}
+use Rattle.layout.specs.Held.{firstFrom, sumOf}
+use Rattle.stored.specs.Held.{lowAfter}
+use Rattle.look.specs.declared.Look.{Look}
+use Rattle.look.specs.declared.Totals.{Totals}
+
+-- 0 where the sum with a number is within the limit, 1 where the number alone is, else 2
+abbrev pub excess : ℕ → ℕ → ℕ → ℕ
+excess limit own more = choose (ltb limit more) 2 (choose (ltb limit (own + more)) 1 0)
+
+abbrev pub larger : ℕ → ℕ → ℕ
+larger a b = choose (ltb a b) b a
+
+-- of both numbers of shell m
+abbrev pub shellExcess : ℕ → (Field → ℕ) → Stored → ℕ → ℕ
+shellExcess limit own x m =
+    larger (excess limit (own (sentIn m)) (number x (sentIn m))) (excess limit (own (takenIn m)) (number x (takenIn m)))
+
+-- the largest of the shells above k: at most a number where each is
+abbrev pub Weighed : ℕ → ℕ → ℕ → (Field → ℕ) → Stored → ℕ → Type 0
+Weighed limit p k own x r =
+    (most : ℕ) → leb r most ≡ every (suc k) (p - suc k) (λ m. leb (shellExcess limit own x m) most)
+
+-- of both totals, and their sums where it is 0
+pub record TotalsAdded (limit : ℕ) (own : Field → ℕ) (x : Stored) (r : Totals) : Type 0 where
+  pub excess : r .excess ≡ larger (excess limit (own allSent) (number x allSent)) (excess limit (own allTaken) (number x allTaken))
+  pub issued : r .excess ≡ 0 → r .issued .0 ≡ own allSent + number x allSent
+  pub received : r .excess ≡ 0 → r .received .0 ≡ own allTaken + number x allTaken
+
+-- the first clause that fails, 7 where none does
+abbrev pub clauseBy : ℕ → ℕ → ℕ → ℕ → ℕ → Bool → ℕ → ℕ → ℕ
+clauseBy ownSent taken ownTaken sent excess last issued received =
+    choose (eqb ownSent taken)
+    (choose (eqb ownTaken sent)
+    (choose (eqb excess 0) (choose (choose last (eqb issued received) true) 7 4) 3) 2) 1
+
+abbrev pub noLook : Look
+noLook = record { ok = false; clause = 0; received = takenNumber 0 }
+
+-- a frame that is stored
+pub record Judged (L : Limits) (ws sums : List ℕ) (p k : ℕ) (r : Look) : Type 0 where
+  pub ok : r .ok ≡ lowAfter (fieldLimit L) ws 0 (length ws)
+  pub clause : r .clause ≡ firstFailing (firstClauses L p k (sumOf p sums) (firstFrom ws p k 0))
+  pub total : r .clause ≡ 7 → r .received .0 ≡ sumOf p sums allTaken + number (firstFrom ws p k 0) allTaken
