@@ -180,7 +180,7 @@ fn judge(b: Bounds, s: &[u32], sums: &[u32], p: u32, k: u32) -> Look
 
 // The look at a frame that is stored for dimension k on a board of p dimensions, its words being lent. Where they are no such
 // frame's, none is stored.
-pub fn look(b: Bounds, s: &[u32], sums: &[u32], p: u32, k: u32) -> Look
+pub fn look_at(b: Bounds, s: &[u32], sums: &[u32], p: u32, k: u32) -> Look
     ensures { λ r. ⌜ Looked (limitsOf b) (now (s .entry)) (now (sums .entry)) p k r ⌝ }
 {
     if !walk_tests::first_fits(p, k, s.len(), sums.len()) {
