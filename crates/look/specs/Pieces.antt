@@ -41,9 +41,9 @@ pub record TotalsAdded (limit : ℕ) (own : Field → ℕ) (x : Stored) (r : Tot
 
 -- the first clause that fails, 7 where none does
 abbrev pub clauseBy : ℕ → ℕ → ℕ → ℕ → ℕ → Bool → ℕ → ℕ → ℕ
-clauseBy ownSent taken ownTaken sent excess last issued received =
-    choose (eqb ownSent taken)
-    (choose (eqb ownTaken sent)
+clauseBy sent got taken gave excess last issued received =
+    choose (eqb sent got)
+    (choose (eqb taken gave)
     (choose (eqb excess 0) (choose (choose last (eqb issued received) true) 7 4) 3) 2) 1
 
 abbrev pub noLook : Look

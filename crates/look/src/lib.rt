@@ -117,10 +117,10 @@ fn add_totals(limit: u32, s: &[u32], sums: &[u32], p: u32, k: u32) -> Totals
 // The first clause that fails, 7 where none does, by the sums and numbers of shell k, the excess of the other sums and the
 // totals.
 fn clause_by(
-    own_sent: Sent,
-    taken: Taken,
-    own_taken: Taken,
     sent: Sent,
+    got: Taken,
+    taken: Taken,
+    gave: Sent,
     excess: u32,
     last: bool,
     issued: Sent,
@@ -128,14 +128,14 @@ fn clause_by(
 ) -> u32
     ensures { λ r.
         ⌜ r
-        ≡ clauseBy (own_sent .0) (taken .0) (own_taken .0) (sent .0) excess last (issued .0) (received .0) ⌝ }
+        ≡ clauseBy (sent .0) (got .0) (taken .0) (gave .0) excess last (issued .0) (received .0) ⌝ }
 {
     // what this side sent the other has taken
-    if own_sent.0 != taken.0 {
+    if sent.0 != got.0 {
         return 1;
     }
     // and the other way
-    if own_taken.0 != sent.0 {
+    if taken.0 != gave.0 {
         return 2;
     }
     // the sums with the frame's numbers are within the limit
