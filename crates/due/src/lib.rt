@@ -17,20 +17,10 @@ use node::Extra;
 use node::Receivers;
 use tree::Placed;
 
-// What comes of the frame due.
-pub enum Sending {
-    // There is nobody to send to; whether nobody is awaited.
-    Nobody(bool),
-    // There is no room for the frame.
-    Short,
-    // To these receivers, a frame of this length.
-    To(Receivers, u32),
-}
-
 // ---- To whom
 
 // The receivers of a frame, if any.
-enum Whom {
+pub enum Whom {
     Nobody,
     To(Receivers),
 }
@@ -63,43 +53,34 @@ fn whom_of(placed: Placed) -> Whom
     }
 }
 
-// Those to whom a frame is due: nobody with flag 0.
-fn whom_due(flag: bool, placed: Placed) -> Whom
-    requires { ⌜ ((b : ℕ) → List·Memᴰ b (toWhom (placedAnswer placed)) → b < 256) ⌝ }
-    ensures { λ r. ⌜ whomList r ≡ choose flag (toWhom (placedAnswer placed)) [] ⌝ }
+// Those to whom a frame is due: nobody with flag 0, or where the words have no head.
+pub fn to_whom(b: Bounds, s: &[u32]) -> Whom
+    ensures { λ r. ⌜ whomList r ≡ dueTo (limitsOf b) (now (s .entry)) ⌝ }
 {
-    if flag { whom_of(placed) } else { Whom::Nobody }
-}
-
-// Whether nobody is awaited at a place.
-fn lone_at(placed: Placed) -> bool
-    ensures { λ r. ⌜ r ≡ isLone (placedAnswer placed) ⌝ }
-{
-    match placed {
-        Placed::Hermit(_) => false,
-        Placed::Neighbour(_) => false,
-        Placed::Messenger(_, _) => false,
-        Placed::Alone => true,
-        Placed::Refused(_) => true,
+    if s.len() < layout::HEAD as usize {
+        return Whom::Nobody;
     }
+    if s[layout::FLAG] != 1 {
+        return Whom::Nobody;
+    }
+    whom_of(place_of(b, s))
 }
 
-// What comes of a frame of a length, 0 where none was written.
-fn sent(to: Receivers, length: u32) -> Sending
-    ensures { λ r. ⌜ r ≡ choose (eqb length 0) Sending.Short (Sending.To to length) ⌝ }
+// Whether a frame is due to nobody.
+pub fn is_nobody(whom: Whom) -> bool
+    ensures { λ r. ⌜ r ≡ isEmpty (whomList whom) ⌝ }
 {
-    if length == 0 {
-        Sending::Short
-    } else {
-        Sending::To(to, length)
+    match whom {
+        Whom::Nobody => true,
+        Whom::To(_) => false,
     }
 }
 
 // ---- The bytes
 
-// Puts the frame of the position. Its length; 0 where there is no room, or its numbers are not there.
-fn put_due(s: &[u32], sums: &[u32], p: u8, issued: Sent, buf: &mut [u8]) -> u32
-    requires { ⌜ headWords ≤ length (now s) ⌝ }
+// Puts the frame of the position on a board of p dimensions, by the words of a state, its sums of pass 1 and its own sum of
+// total sent. Its length; 0 where there is no room, or its numbers are not there.
+pub fn put(s: &[u32], sums: &[u32], p: u8, issued: Sent, buf: &mut [u8]) -> u32
     ensures answer { λ r.
         ⌜ r
         ≡ choose (canSend (now (s .entry)) p (length (now (sums .entry))))
@@ -110,6 +91,9 @@ fn put_due(s: &[u32], sums: &[u32], p: u8, issued: Sent, buf: &mut [u8]) -> u32
         (putBytes (dueBytes (now (s .entry)) (now (sums .entry)) p (issued .0)) (now (buf .entry)))
         (now (buf .entry)) ⌝ }
 {
+    if s.len() < layout::HEAD as usize {
+        return 0;
+    }
     let sender = (s[layout::NUMBER] % 256) as u8;
     let phase = (s[layout::PHASE] % 256) as u8;
     let dim = s[layout::DIM];
@@ -118,25 +102,4 @@ fn put_due(s: &[u32], sums: &[u32], p: u8, issued: Sent, buf: &mut [u8]) -> u32
         return due_frame::put_second(phase, k, sender, issued, s[layout::AGREED], &mut *buf);
     }
     due_frame::put_first(phase, dim, sender, p, sums, &mut *buf)
-}
-
-// Writes the frame due on a board of p dimensions, by the words of a state, its sums of pass 1 and its own sum of total
-// sent. Where nobody is to get one, none is written.
-pub fn send(b: Bounds, s: &[u32], sums: &[u32], p: u8, issued: Sent, buf: &mut [u8]) -> Sending
-    ensures answer { λ r.
-        ⌜ dueOf r
-        ≡ dueOn (limitsOf b) (now (s .entry)) (now (sums .entry)) p (issued .0) (length (now (buf .entry))) ⌝ }
-    ensures memory { λ r.
-        ⌜ now (buf .exit)
-        ≡ dueLent (dueOf r) (dueBytes (now (s .entry)) (now (sums .entry)) p (issued .0)) (now (buf .entry)) ⌝ }
-{
-    if s.len() < layout::HEAD as usize {
-        return Sending::Short;
-    }
-    let placed = place_of(b, s);
-    let whom = whom_due(s[layout::FLAG] == 1, placed);
-    if let Whom::To(to) = whom {
-        return sent(to, put_due(s, sums, p, issued, &mut *buf));
-    }
-    Sending::Nobody(lone_at(placed))
 }

@@ -18,7 +18,8 @@ pub fn step(b: Bounds, state: &mut [u32], sums: &mut [u32], buf: &mut [u8]) -> B
     ensures buffer { λ r.
         ⌜ now (buf .exit) ≡ barrierLent (limitsOf b) (length (now (sums .entry))) (now (state .entry)) (now (buf .entry)) ⌝ }
 {
-    let known = scan::scan_of(b, &*state, &mut *sums);
+    let whom = due::to_whom(b, &*state);
+    let known = scan::scan_of(b, &*state, &mut *sums, due::is_nobody(whom));
     if !known.ok {
         return BarrierAnswer::Refused(13);
     }
@@ -26,6 +27,15 @@ pub fn step(b: Bounds, state: &mut [u32], sums: &mut [u32], buf: &mut [u8]) -> B
         return BarrierAnswer::Refused(12);
     }
     let p = known.dims as u8;
-    let t = node_decide::decide(b, &*state, &mut *sums, p, known.issued, &mut *buf);
+    let t = node_decide::decide(
+        &*state,
+        &*sums,
+        p,
+        whom,
+        known.issued,
+        known.clause,
+        known.received,
+        &mut *buf,
+    );
     node_act::act(&mut *state, p, t)
 }

@@ -41,7 +41,7 @@ pub fn send_to(b: Bounds, state: &mut [u32], sums: &mut [u32], to: u32) -> Answe
         ⌜ now (state .exit)
         ≡ wordsOn (limitsOf b) (length (now (sums .entry))) (λ n. send (limitsOf b) n to) (now (state .entry)) ⌝ }
 {
-    let known = scan::scan_of(b, &*state, sums);
+    let known = scan::scan_of(b, &*state, sums, false);
     if !known.ok {
         return Answer::Refused(13);
     }
@@ -57,7 +57,7 @@ pub fn go_idle(b: Bounds, state: &mut [u32], sums: &mut [u32]) -> Answer
         ⌜ now (state .exit)
         ≡ wordsOn (limitsOf b) (length (now (sums .entry))) (λ n. idle (limitsOf b) n) (now (state .entry)) ⌝ }
 {
-    let known = scan::scan_of(b, &*state, sums);
+    let known = scan::scan_of(b, &*state, sums, false);
     if !known.ok {
         return Answer::Refused(13);
     }

@@ -113,7 +113,7 @@ pub fn frame_in(b: Bounds, state: &mut [u32], sums: &mut [u32], bytes: &[u8]) ->
         ≡ wordsOn (limitsOf b) (length (now (sums .entry))) (λ n. frameIn (limitsOf b) n (now (bytes .entry)))
         (now (state .entry)) ⌝ }
 {
-    let known = scan::scan_of(b, &*state, sums);
+    let known = scan::scan_of(b, &*state, sums, false);
     if !known.ok {
         return Answer::Refused(13);
     }

@@ -98,7 +98,7 @@ pub fn take_from(
         ⌜ now (state .exit)
         ≡ wordsOn (limitsOf b) (length (now (sums .entry))) (λ n. take (limitsOf b) n kind from phase) (now (state .entry)) ⌝ }
 {
-    let known = scan::scan_of(b, &*state, sums);
+    let known = scan::scan_of(b, &*state, sums, false);
     if !known.ok {
         return Answer::Refused(13);
     }

@@ -6,9 +6,6 @@ ghost use Rattle.node_turn.specs.Turn.{onwardTurn};
 use frame::Taken;
 use node::Receivers;
 
-// Total taken among the totals of the sums.
-const RECEIVED: usize = layout::RECEIVED as usize;
-
 pub enum Turn {
     Refuses(u8),
     // to these receivers, a frame of this length
@@ -30,13 +27,11 @@ fn word_at(s: &[u32], at: usize) -> u32
     s[at]
 }
 
-// The turn of a node whose step in dimension k of p agrees: on, or out after the last step. The frame of that step is in the
-// sums.
-pub fn onward(s: &[u32], sums: &[u32], p: u8, k: u8) -> Turn
+// The turn of a node whose step in dimension k of p agrees: on, or out after the last step. Total taken, with the frame of that
+// step, becomes T.
+pub fn onward(s: &[u32], received: Taken, p: u8, k: u8) -> Turn
     ensures { λ r.
-        ⌜ r
-        ≡ onwardTurn p (word (now (s .entry)) atPass) k (word (now (s .entry)) atAgreed)
-        (word (now (sums .entry)) (sumReceived p)) ⌝ }
+        ⌜ r ≡ onwardTurn p (word (now (s .entry)) atPass) k (word (now (s .entry)) atAgreed) (received .0) ⌝ }
 {
     if p <= k {
         return Turn::Leaves;
@@ -46,7 +41,6 @@ pub fn onward(s: &[u32], sums: &[u32], p: u8, k: u8) -> Turn
         return Turn::Moves(pass, k as u32 + 1, word_at(s, layout::AGREED));
     }
     if pass == 1 {
-        let received = Taken(word_at(sums, 2 * p as usize + RECEIVED));
         return Turn::Moves(2, 0, received.0);
     }
     Turn::Leaves

@@ -1,23 +1,25 @@
-// The state test, and the sums of a state that passes it, in one walk over the words that the caller lends.
+// The state test, the sums of a state that passes it and the look at its position, in one walk over the words that the caller
+// lends.
 ghost use mathlib.Core.Path.{_≡_};
-ghost use mathlib.Core.Bool.{true, not};
-ghost use Prim.Native.Nat.{ℕ, _-_, _≤_, _<_};
-ghost use lib.Dec.{leb};
+ghost use mathlib.Core.Bool.{true};
+ghost use Prim.Native.Nat.{_+_, _≤_, _<_};
 ghost use lib.ListN.{length};
-ghost use Rattle.base.specs.Choice.{every};
-ghost use Rattle.base.specs.Limits.{limitsOf, fieldLimit};
-ghost use Rattle.layout.specs.Places.{atFirst, atSecond};
+ghost use Rattle.base.specs.Limits.{limitsOf};
+ghost use Rattle.layout.specs.Places.{secondWords, mostWords};
 ghost use Rattle.layout.specs.Held.{unpacked};
-ghost use Rattle.stored.specs.Held.{isLow, heldTest};
-ghost use Rattle.scanned.specs.Scan.{noScan, scanned, passes, reach, Gathered};
-ghost use Rattle.scanned.specs.Pieces.{Standing, Summed, FirstStep, SecondStep, Steps, Stepped};
-ghost use Rattle.scanned.specs.Pieces.{Walking, WalkedAll, Ready, Scanned};
+ghost use Rattle.stored.specs.Held.{lowAfter, heldTest};
+ghost use Rattle.adding.specs.Adding.{Framed};
+ghost use Rattle.walked.specs.Walk.{reach};
+ghost use Rattle.scanned.specs.Scan.{noScan, Scanned, passes, Gathered};
+ghost use Rattle.scanned.specs.Pieces.{pastOf, FirstStep, SecondStep, Confirms, Steps, Stepped, Walking};
+ghost use Rattle.scanned.specs.Pieces.{WalkedAll, Ready, ScannedOn};
 use base::Bounds;
 use frame::Sent;
 use frame::Taken;
-use pass_two::Passed;
+use pass_two::Confirmed;
 use scanned::Past;
 use scanned::Scan;
+use scanned::Walked;
 use survey::Spot;
 
 fn no_scan() -> Scan
@@ -29,142 +31,219 @@ fn no_scan() -> Scan
         sends: Sent(0),
         takes: Taken(0),
         issued: Sent(0),
+        clause: 0,
+        received: Taken(0),
     }
 }
 
 // ---- What is stored for a step
 
-// The largest of the words from a place to an end, 0 for none.
-fn largest(s: &[u32], from: u32, end: u32) -> u32
-    requires { ⌜ end ≤ length (now s) ⌝ }
-    ensures { λ r. ⌜ ((limit : ℕ) → leb r limit ≡ every from (end - from) (isLow limit (now (s .entry)))) ⌝ }
+// The numbers after the mark are within a bound.
+fn are_within(s: &[u32], bound: u32) -> bool
+    requires { ⌜ length (now s) ≤ mostWords ⌝ }
+    ensures { λ r. ⌜ r ≡ lowAfter bound (now (s .entry)) 0 (length (now (s .entry))) ⌝ }
 {
-    let mut most: u32 = 0;
-    for i in from..end {
-        most = scan_tests::larger(most, s[i as usize]);
+    for i in layout::MARK..s.len() as u32 {
+        if bound < s[i as usize] {
+            return false;
+        }
     }
-    most
+    true
 }
 
-// A frame whose words are those from a place to an end, the mark first.
-fn stored_ok(s: &[u32], limit: u32, awaits: bool, at: u32, end: u32) -> bool
-    requires { ⌜ (at < end) × (end ≤ length (now s)) ⌝ }
-    ensures { λ r. ⌜ r ≡ heldTest limit (now (s .entry)) awaits at end ⌝ }
+// The words of a frame of pass 1, the mark first, may be stored.
+fn first_ok(s: &[u32], limit: u32, awaits: bool) -> bool
+    requires { ⌜ (0 < length (now s)) × (length (now s) ≤ mostWords) ⌝ }
+    ensures { λ r. ⌜ r ≡ heldTest limit (now (s .entry)) awaits 0 (length (now (s .entry))) ⌝ }
 {
-    let most = largest(s, at + layout::MARK, end);
-    scan_tests::may_stand(s[at as usize], most, awaits, limit)
+    if !scan_tests::may_mark(s[0], awaits) {
+        return false;
+    }
+    are_within(s, scan_tests::bound_for(s[0], limit))
 }
 
 // ---- A step
 
-// Dimension k of pass 1, whose words begin at a place. Before the position its verdict decides, since a frame that agrees
+// What the walk has, with a test.
+fn tested(walked: Walked, ok: bool) -> Walked
+    ensures { λ r. ⌜ r ≡ record { ok = ok; issued = walked .issued; clause = walked .clause; received = walked .received } ⌝ }
+{
+    Walked {
+        ok: ok,
+        issued: walked.issued,
+        clause: walked.clause,
+        received: walked.received,
+    }
+}
+
+// The frame of pass 1 in dimension k, its words being lent. Before the position its clauses decide, since a frame that agrees
 // with sums within the limit is within it.
 fn first_step(
     b: Bounds,
     s: &[u32],
     sums: &mut [u32],
-    limit: u32,
     p: u32,
     k: u32,
-    at: u32,
     awaits: bool,
-    tried: bool,
-) -> bool
-    requires { ⌜ Standing p k (now s)
-        × (tried ≡ true → Summed (limitsOf b) p k (now sums))
-        × (at ≡ atFirst p k)
-        × (limit ≡ fieldLimit (limitsOf b)) ⌝ }
+    past: Past,
+    walked: Walked,
+) -> Walked
+    requires { ⌜ Framed (now s) (now sums) p k ⌝ }
     ensures { λ r.
-        ⌜ FirstStep (limitsOf b) (now (s .entry)) p k awaits tried (now (sums .entry)) (now (sums .exit)) r ⌝ }
+        ⌜ FirstStep (limitsOf b) (now (s .entry)) p k awaits past walked (now (sums .entry)) (now (sums .exit)) r ⌝ }
 {
-    if tried {
-        return pass_one::pass_step(b, s, sums, p, k, at);
+    if scan_tests::is_tried(awaits, k, past.firsts) {
+        return tested(walked, pass_one::pass_step(b, s, sums, p, k));
     }
-    let end = at + (2 * (p - k) + layout::FIRST);
-    stored_ok(s, limit, awaits, at, end)
+    let here = scan_tests::is_here(awaits, k, past.look);
+    if here && s[0] == 1 {
+        let look = look::look_at(b, s, &*sums, p, k);
+        return Walked {
+            ok: look.ok,
+            issued: walked.issued,
+            clause: look.clause,
+            received: look.received,
+        };
+    }
+    Walked {
+        ok: first_ok(s, base::field_limit(b), awaits),
+        issued: walked.issued,
+        // where no frame is stored, clause 0 fails
+        clause: if here { 0 } else { walked.clause },
+        received: walked.received,
+    }
 }
 
-// Dimension k of pass 2, whose words begin at a place.
+// A step of pass 2 before the position, by the first of its clauses that fails: the frame's total sent is added.
+fn confirmed(walked: Walked, more: Sent, clause: u32) -> Walked
+    requires { ⌜ (clause ≡ 7 → walked .issued .0 + more .0 < 4294967296) ⌝ }
+    ensures { λ r. ⌜ Confirms walked (more .0) clause r ⌝ }
+{
+    if clause != 7 {
+        return tested(walked, false);
+    }
+    Walked {
+        ok: true,
+        issued: Sent(walked.issued.0 + more.0),
+        clause: walked.clause,
+        received: walked.received,
+    }
+}
+
+// The frame of pass 2 in dimension k, its words being lent.
 fn second_step(
     b: Bounds,
     s: &[u32],
-    limit: u32,
     p: u32,
     k: u32,
-    at: u32,
     awaits: bool,
-    tried: bool,
-    issued: Sent,
+    past: Past,
+    walked: Walked,
     agreed: u32,
-) -> Passed
-    requires { ⌜ Standing p k (now s)
-        × (at ≡ atSecond p k)
-        × (issued .0 ≤ fieldLimit (limitsOf b))
-        × (agreed ≤ fieldLimit (limitsOf b))
-        × (limit ≡ fieldLimit (limitsOf b)) ⌝ }
-    ensures { λ r. ⌜ SecondStep (limitsOf b) (now (s .entry)) p k awaits tried (issued .0) agreed r ⌝ }
+) -> Walked
+    requires { ⌜ (length (now s) ≡ secondWords) × (k < p) ⌝ }
+    ensures { λ r. ⌜ SecondStep (limitsOf b) (now (s .entry)) p k awaits past walked agreed r ⌝ }
 {
-    if tried {
-        return pass_two::pass_step(b, s, p, k, at, issued, agreed);
+    let frame = Confirmed {
+        mark: s[0],
+        agreed: s[layout::SECOND_AGREED as usize],
+        issued: Sent(s[layout::SECOND_ISSUED as usize]),
+    };
+    let last = k + 1 == p;
+    if scan_tests::is_tried(awaits, k, past.seconds) {
+        return confirmed(
+            walked,
+            frame.issued,
+            pass_two::clause(b, frame, last, walked.issued, agreed),
+        );
     }
-    Passed {
-        ok: stored_ok(s, limit, awaits, at, at + layout::SECOND),
-        issued: issued,
+    let limit = base::field_limit(b);
+    let ok = scan_tests::may_confirm(frame.mark, frame.agreed, frame.issued, awaits, limit);
+    if !scan_tests::is_here(awaits, k, past.confirm) {
+        return tested(walked, ok);
+    }
+    Walked {
+        ok: ok,
+        issued: walked.issued,
+        clause: pass_two::clause(b, frame, last, walked.issued, agreed),
+        received: walked.received,
     }
 }
 
-// Dimension k in both passes, whose words begin at a place, with the own sum of total sent in pass 2.
+// Dimension k in both passes, the words of each frame being lent by themselves: a step reads these and no others.
 fn step(
     b: Bounds,
-    s: &[u32],
+    first: &[u32],
+    second: &[u32],
     sums: &mut [u32],
     spot: Spot,
     past: Past,
     k: u32,
-    at: u32,
-    issued: Sent,
-) -> Passed
-    requires { ⌜ Steps (limitsOf b) (now s) (now sums) spot past k at (issued .0) ⌝ }
-    ensures { λ r. ⌜ Stepped (limitsOf b) (now (s .entry)) spot k (issued .0) (now (sums .entry)) (now (sums .exit)) r ⌝ }
+    walked: Walked,
+) -> Walked
+    requires { ⌜ Steps (limitsOf b) (now first) (now second) (now sums) spot past k ⌝ }
+    ensures { λ r.
+        ⌜ Stepped (limitsOf b) (now (first .entry)) (now (second .entry)) spot past k walked (now (sums .entry))
+        (now (sums .exit)) r ⌝ }
 {
     let p = spot.dims;
-    let limit = base::field_limit(b);
     let awaits = scan_tests::awaits_at(spot.alone, k);
-    let one = scan_tests::is_tried(awaits, k, past.firsts);
-    if !first_step(b, s, sums, limit, p, k, at, awaits, one) {
-        return Passed {
-            ok: false,
-            issued: issued,
-        };
+    let one = first_step(b, first, &mut *sums, p, k, awaits, past, walked);
+    if !one.ok {
+        return one;
     }
-    let after = at + (2 * (p - k) + layout::FIRST);
-    let two = scan_tests::is_tried(awaits, k, past.seconds);
-    second_step(b, s, limit, p, k, after, awaits, two, issued, spot.agreed)
+    second_step(b, second, p, k, awaits, past, one, spot.agreed)
 }
 
 // ---- The walk over the stored frames
 
-// Tests all dimensions and gathers the sums, which are those before any frame is added.
-fn walk(b: Bounds, s: &[u32], sums: &mut [u32], spot: Spot, sends: Sent) -> Passed
-    requires { ⌜ Walking (limitsOf b) (now s) (now sums) spot (sends .0) ⌝ }
-    ensures { λ r. ⌜ WalkedAll (limitsOf b) (now (s .entry)) (now (sums .entry)) (now (sums .exit)) r ⌝ }
+// The steps that are before the position, and the one that is looked at, if any is.
+fn past_of(spot: Spot, looks: bool) -> Past
+    ensures { λ r. ⌜ r ≡ pastOf spot looks ⌝ }
 {
     let p = spot.dims;
-    let past = Past {
+    let here = if looks { spot.dim } else { p };
+    Past {
         firsts: scan_tests::before_position(spot.pass, spot.dim, p),
         seconds: scan_tests::before_position(spot.pass, 0, spot.dim),
-    };
-    let mut walked = Passed {
+        look: scan_tests::before_position(spot.pass, here, p),
+        confirm: scan_tests::before_position(spot.pass, p, here),
+    }
+}
+
+// Tests all dimensions and gathers the sums, which are those before any frame is added. Each step is lent the words of its
+// frames, and the place from which they are lent only rises, so that no word is read in two steps.
+fn walk(b: Bounds, s: &[u32], sums: &mut [u32], spot: Spot, looks: bool, sends: Sent) -> Walked
+    requires { ⌜ Walking (limitsOf b) (now s) (now sums) spot (sends .0) ⌝ }
+    ensures { λ r. ⌜ WalkedAll (limitsOf b) (now (s .entry)) looks (now (sums .entry)) (now (sums .exit)) r ⌝ }
+{
+    let p = spot.dims;
+    let past = past_of(spot, looks);
+    let mut walked = Walked {
         ok: true,
         issued: sends,
+        clause: 7,
+        received: Taken(0),
     };
     let mut at = layout::HEAD + 2 * p;
     for k in 0..p {
-        walked = step(b, s, &mut *sums, spot, past, k, at, walked.issued);
+        let middle = at + (2 * (p - k) + layout::FIRST);
+        let end = middle + layout::SECOND;
+        let first = &s[at as usize..middle as usize];
+        walked = step(
+            b,
+            first,
+            &s[middle as usize..end as usize],
+            &mut *sums,
+            spot,
+            past,
+            k,
+            walked,
+        );
         if !walked.ok {
             return walked;
         }
-        at = at + (2 * (p - k) + layout::FIRST) + layout::SECOND;
+        at = end;
     }
     walked
 }
@@ -172,28 +251,38 @@ fn walk(b: Bounds, s: &[u32], sums: &mut [u32], spot: Spot, sends: Sent) -> Pass
 // ---- The scan
 
 // The scan of words whose head passes, with sums that hold the tallies and the totals of these.
-fn scan_steps(b: Bounds, s: &[u32], sums: &mut [u32], spot: Spot, sends: Sent, takes: Taken) -> Scan
+fn scan_steps(
+    b: Bounds,
+    s: &[u32],
+    sums: &mut [u32],
+    spot: Spot,
+    looks: bool,
+    sends: Sent,
+    takes: Taken,
+) -> Scan
     requires { ⌜ Ready (limitsOf b) (now s) (now sums) spot (sends .0) (takes .0) ⌝ }
-    ensures { λ r. ⌜ Scanned (limitsOf b) (now (s .entry)) (now (sums .entry)) (now (sums .exit)) r ⌝ }
+    ensures { λ r. ⌜ ScannedOn (limitsOf b) looks (now (s .entry)) (now (sums .entry)) (now (sums .exit)) r ⌝ }
 {
-    let walked = walk(b, s, &mut *sums, spot, sends);
+    let walked = walk(b, s, &mut *sums, spot, looks, sends);
     let received = Taken(sums[(2 * spot.dims + layout::RECEIVED) as usize]);
     if !scan_tests::total_ok(walked.ok, spot.pass, spot.agreed, received) {
         return no_scan();
     }
-    let issued = walked.issued;
     Scan {
         ok: true,
         dims: spot.dims,
         sends: sends,
         takes: takes,
-        issued: issued,
+        issued: walked.issued,
+        clause: walked.clause,
+        received: walked.received,
     }
 }
 
-// Tests the state and gathers its sums for pass 1: for the node's dimension, in pass 2 for all dimensions.
-pub fn scan_of(b: Bounds, s: &[u32], sums: &mut [u32]) -> Scan
-    ensures answer { λ r. ⌜ r ≡ scanned (limitsOf b) (length (now (sums .entry))) (now (s .entry)) ⌝ }
+// Tests the state and gathers its sums for pass 1: for the node's dimension, in pass 2 for all dimensions. Looks at the step of
+// the position where that is asked for.
+pub fn scan_of(b: Bounds, s: &[u32], sums: &mut [u32], looks: bool) -> Scan
+    ensures answer { λ r. ⌜ Scanned (limitsOf b) (length (now (sums .entry))) looks (now (s .entry)) r ⌝ }
     ensures sums { λ r.
         ⌜ (passes (limitsOf b) (length (now (sums .entry))) (now (s .entry)) ≡ true
         → Gathered (unpacked (now (s .entry))) (reach (unpacked (now (s .entry)))) (now (sums .exit)))
@@ -207,5 +296,5 @@ pub fn scan_of(b: Bounds, s: &[u32], sums: &mut [u32]) -> Scan
     if !own.ok {
         return no_scan();
     }
-    scan_steps(b, s, sums, head.spot, own.sends, own.takes)
+    scan_steps(b, s, sums, head.spot, looks, own.sends, own.takes)
 }

@@ -4,7 +4,8 @@ ghost use mathlib.Core.Bool.{not};
 ghost use Prim.Native.Nat.{ℕ};
 ghost use lib.Dec.{ltb, leb, eqb};
 ghost use Rattle.base.specs.Choice.{choose, both};
-ghost use Rattle.scan_tests.specs.Tests.{mayStand, totalTested};
+ghost use Rattle.scan_tests.specs.Tests.{mayMark, boundFor, mayConfirm, totalTested};
+use frame::Sent;
 use frame::Taken;
 
 // ---- What is stored for a step
@@ -19,20 +20,37 @@ pub fn larger(a: u32, b: u32) -> u32
     a
 }
 
-// What is stored may be there, by its mark and the largest of its numbers: nothing but 0, or a frame that is awaited.
-pub fn may_stand(mark: u32, most: u32, awaited: bool, limit: u32) -> bool
-    ensures { λ r. ⌜ r ≡ mayStand mark most awaited limit ⌝ }
+// A mark may stand: 0, or 1 where a frame is awaited.
+pub fn may_mark(mark: u32, awaited: bool) -> bool
+    ensures { λ r. ⌜ r ≡ mayMark mark awaited ⌝ }
 {
     if mark == 0 {
-        return most == 0;
+        return true;
     }
     if mark != 1 {
         return false;
     }
-    if !awaited {
+    awaited
+}
+
+// What a number after a mark may come to: 0 where no frame is stored.
+pub fn bound_for(mark: u32, limit: u32) -> u32
+    ensures { λ r. ⌜ r ≡ boundFor mark limit ⌝ }
+{
+    if mark == 0 {
+        return 0;
+    }
+    limit
+}
+
+// The words of a frame of pass 2 may be stored: its mark, T and total sent.
+pub fn may_confirm(mark: u32, agreed: u32, issued: Sent, awaited: bool, limit: u32) -> bool
+    ensures { λ r. ⌜ r ≡ mayConfirm mark agreed (issued .0) awaited limit ⌝ }
+{
+    if !may_mark(mark, awaited) {
         return false;
     }
-    most <= limit
+    larger(agreed, issued.0) <= bound_for(mark, limit)
 }
 
 // ---- Which steps are tried
@@ -65,6 +83,16 @@ pub fn is_tried(awaits: bool, k: u32, steps: u32) -> bool
         return false;
     }
     k < steps
+}
+
+// A frame is awaited, and its step is the one that is looked at.
+pub fn is_here(awaits: bool, k: u32, here: u32) -> bool
+    ensures { λ r. ⌜ r ≡ both awaits (eqb k here) ⌝ }
+{
+    if !awaits {
+        return false;
+    }
+    k == here
 }
 
 // ---- T
