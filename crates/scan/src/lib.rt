@@ -92,24 +92,29 @@ fn first_step(
     ensures { λ r.
         ⌜ FirstStep (limitsOf b) (now (s .entry)) p k awaits past walked (now (sums .entry)) (now (sums .exit)) r ⌝ }
 {
-    if scan_tests::is_tried(awaits, k, past.firsts) {
-        return tested(walked, pass_one::pass_step(b, s, sums, p, k));
-    }
-    let here = scan_tests::is_here(awaits, k, past.look);
-    if here && s[0] == 1 {
-        let look = look::look_at(b, s, &*sums, p, k);
-        return Walked {
-            ok: look.ok,
-            issued: walked.issued,
-            clause: look.clause,
-            received: look.received,
-        };
+    let mut clause = walked.clause;
+    if awaits {
+        if k < past.firsts {
+            return tested(walked, pass_one::pass_step(b, s, sums, p, k));
+        }
+        if k == past.look {
+            if s[0] == 1 {
+                let look = look::look_at(b, s, &*sums, p, k);
+                return Walked {
+                    ok: look.ok,
+                    issued: walked.issued,
+                    clause: look.clause,
+                    received: look.received,
+                };
+            }
+            // no frame is stored
+            clause = 0;
+        }
     }
     Walked {
         ok: first_ok(s, base::field_limit(b), awaits),
         issued: walked.issued,
-        // where no frame is stored, clause 0 fails
-        clause: if here { 0 } else { walked.clause },
+        clause: clause,
         received: walked.received,
     }
 }
@@ -149,23 +154,29 @@ fn second_step(
         agreed: s[layout::SECOND_AGREED as usize],
         issued: Sent(s[layout::SECOND_ISSUED as usize]),
     };
-    let last = k + 1 == p;
-    if scan_tests::is_tried(awaits, k, past.seconds) {
-        return confirmed(
-            walked,
-            frame.issued,
-            pass_two::clause(b, frame, last, walked.issued, agreed),
-        );
-    }
-    let limit = base::field_limit(b);
-    let ok = scan_tests::may_confirm(frame.mark, frame.agreed, frame.issued, awaits, limit);
-    if !scan_tests::is_here(awaits, k, past.confirm) {
-        return tested(walked, ok);
+    let mut clause = walked.clause;
+    if awaits {
+        if k < past.seconds {
+            return confirmed(
+                walked,
+                frame.issued,
+                pass_two::clause(b, frame, k + 1 == p, walked.issued, agreed),
+            );
+        }
+        if k == past.confirm {
+            clause = pass_two::clause(b, frame, k + 1 == p, walked.issued, agreed);
+        }
     }
     Walked {
-        ok: ok,
+        ok: scan_tests::may_confirm(
+            frame.mark,
+            frame.agreed,
+            frame.issued,
+            awaits,
+            base::field_limit(b),
+        ),
         issued: walked.issued,
-        clause: pass_two::clause(b, frame, last, walked.issued, agreed),
+        clause: clause,
         received: walked.received,
     }
 }

@@ -2,7 +2,7 @@
 ghost use mathlib.Core.Path.{_≡_};
 ghost use mathlib.Core.Bool.{not};
 ghost use Prim.Native.Nat.{ℕ};
-ghost use lib.Dec.{ltb, leb, eqb};
+ghost use lib.Dec.{leb, eqb};
 ghost use Rattle.base.specs.Choice.{choose, both};
 ghost use Rattle.scan_tests.specs.Tests.{mayMark, boundFor, mayConfirm, totalTested};
 use frame::Sent;
@@ -47,10 +47,16 @@ pub fn bound_for(mark: u32, limit: u32) -> u32
 pub fn may_confirm(mark: u32, agreed: u32, issued: Sent, awaited: bool, limit: u32) -> bool
     ensures { λ r. ⌜ r ≡ mayConfirm mark agreed (issued .0) awaited limit ⌝ }
 {
-    if !may_mark(mark, awaited) {
+    if mark == 0 {
+        return agreed == 0 && issued.0 == 0;
+    }
+    if mark != 1 {
         return false;
     }
-    larger(agreed, issued.0) <= bound_for(mark, limit)
+    if !awaited {
+        return false;
+    }
+    agreed <= limit && issued.0 <= limit
 }
 
 // ---- Which steps are tried
@@ -73,26 +79,6 @@ pub fn before_position(pass: u8, first: u32, second: u32) -> u32
         return first;
     }
     second
-}
-
-// A frame is awaited, and its step is before the position.
-pub fn is_tried(awaits: bool, k: u32, steps: u32) -> bool
-    ensures { λ r. ⌜ r ≡ both awaits (ltb k steps) ⌝ }
-{
-    if !awaits {
-        return false;
-    }
-    k < steps
-}
-
-// A frame is awaited, and its step is the one that is looked at.
-pub fn is_here(awaits: bool, k: u32, here: u32) -> bool
-    ensures { λ r. ⌜ r ≡ both awaits (eqb k here) ⌝ }
-{
-    if !awaits {
-        return false;
-    }
-    k == here
 }
 
 // ---- T
