@@ -25,13 +25,13 @@ pub record Known (L : Limits) (room : ℕ) (looks : Bool) (ws : List ℕ) (s : S
   pub ok : not (valid L (unpacked ws)) ≡ false
   pub valid : valid L (unpacked ws) ≡ true
   pub state : Valid L (unpacked ws)
-  pub dims : s .dims ≡ dims (unpacked ws)
   pub sends : s .sends .0 ≡ tally (unpacked ws) allSent
   pub takes : s .takes .0 ≡ tally (unpacked ws) allTaken
   pub issued : s .issued .0 ≡ ownIssued (unpacked ws) (confirmReach (unpacked ws))
   pub clause : looks ≡ true → unpacked ws .dim < dims (unpacked ws) → s .clause ≡ clauseHere L (unpacked ws)
   pub received : looks ≡ true → unpacked ws .dim < dims (unpacked ws) → isAlone (unpacked ws) (unpacked ws .dim) ≡ false
       → unpacked ws .pass ≡ 1 → s .clause ≡ 7 → s .received .0 ≡ own (unpacked ws) (suc (unpacked ws .dim)) allTaken
+  pub dims : s .dims ≡ dims (unpacked ws)
 
 module _ (L : Limits) (room : ℕ) (looks : Bool) (ws : List ℕ) (s : Scan) (r : Scanned L room looks ws s) where
   -- the words hold no state, or one that does not pass

@@ -44,7 +44,7 @@ pastOf s looks =
 -- what a step is handed is what a spot says of dimension k
 pub record Told (spot : Spot) (p k : ℕ) (awaits : Bool) (past : Past) : Type 0 where
   pub dims : spot .dims ≡ p
-  pub awaits : awaitsAt spot k ≡ awaits
+  pub awaited : awaitsAt spot k ≡ awaits
   pub firsts : firstPast spot k ≡ ltb k (past .firsts)
   pub seconds : secondPast spot k ≡ ltb k (past .seconds)
   -- no step that is looked at is before the position
@@ -117,8 +117,8 @@ SecondStep L ss p k awaits past w agreed r =
     → SecondDone L ss spot past k w r
 
 -- a step of pass 2 before the position, by the first clause that fails: the frame's total sent is added
-pub record Confirms (w : Walked) (more clause : ℕ) (r : Walked) : Type 0 where
-  pub ok : r .ok ≡ eqb clause 7
+pub record Confirms (w : Walked) (more c : ℕ) (r : Walked) : Type 0 where
+  pub ok : r .ok ≡ eqb c 7
   pub issued : r .ok ≡ true → r .issued .0 ≡ w .issued .0 + more
   pub clause : r .clause ≡ w .clause
   pub received : r .received ≡ w .received
@@ -131,7 +131,7 @@ pub record Steps (L : Limits) (fs ss sums : List ℕ) (spot : Spot) (past : Past
   pub agreed : spot .agreed ≤ fieldLimit L
   pub dim : spot .dim ≤ spot .dims
   pub looks : Bool
-  pub past : past ≡ pastOf spot looks
+  pub tries : past ≡ pastOf spot looks
 
 -- and what it does: pass 1, and pass 2 where that passes
 pub record Stepped (L : Limits) (fs ss : List ℕ) (spot : Spot) (past : Past) (k : ℕ) (w : Walked) (before after : List ℕ)

@@ -39,7 +39,6 @@ clauseHere L n = choose (isAlone n (n .dim)) 7 (firstFailing (clauses L n (n .pa
 pub record Scanned (L : Limits) (room : ℕ) (looks : Bool) (ws : List ℕ) (r : Scan) : Type 0 where
   pub ok : r .ok ≡ passes L room ws
   pub none : r .ok ≡ false → r ≡ noScan
-  pub dims : r .ok ≡ true → r .dims ≡ dims (unpacked ws)
   pub sends : r .ok ≡ true → r .sends .0 ≡ tally (unpacked ws) allSent
   pub takes : r .ok ≡ true → r .takes .0 ≡ tally (unpacked ws) allTaken
   pub issued : r .ok ≡ true → r .issued .0 ≡ ownIssued (unpacked ws) (confirmReach (unpacked ws))
@@ -49,6 +48,7 @@ pub record Scanned (L : Limits) (room : ℕ) (looks : Bool) (ws : List ℕ) (r :
   pub received : r .ok ≡ true → looks ≡ true → unpacked ws .dim < dims (unpacked ws)
       → isAlone (unpacked ws) (unpacked ws .dim) ≡ false → unpacked ws .pass ≡ 1 → r .clause ≡ 7
       → r .received .0 ≡ own (unpacked ws) (suc (unpacked ws .dim)) allTaken
+  pub dims : r .ok ≡ true → r .dims ≡ dims (unpacked ws)
 
 -- the words lent for the sums hold the own sums for pass 1, dimension k
 abbrev pub Gathered : Node → ℕ → List ℕ → Type 0
