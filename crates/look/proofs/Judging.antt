@@ -54,6 +54,11 @@ third-holds true false c d e = absurd (omega arith)
 third-holds true true false d e = absurd (omega arith)
 third-holds true true true d e = refl
 
+-- the excess of both totals and of the shells above k is at most so much
+abbrev pub allAtMost : ℕ → ℕ → ℕ → (Field → ℕ) → Stored → ℕ → Bool
+allAtMost limit p k own x most =
+    both (totalsAtMost limit own x most) (every (suc k) (p - suc k) (shellAtMost limit own x most))
+
 -- ---- The words of a frame that is stored
 
 module _ (L : Limits) (ws sums : List ℕ) (p k : ℕ) (h : Framed ws sums p k) (mark : word ws 0 ≡ 1) where
@@ -107,10 +112,7 @@ module _ (L : Limits) (ws sums : List ℕ) (p k : ℕ) (h : Framed ws sums p k) 
 
   -- ---- By the largest excess
 
-  abbrev allAtMost : ℕ → Bool
-  allAtMost n = both (totalsAtMost limit own x n) (every (suc k) (p - suc k) (shellAtMost limit own x n))
-
-  module _ (most : ℕ) (w : (n : ℕ) → leb most n ≡ allAtMost n) where
+  module _ (most : ℕ) (w : (n : ℕ) → leb most n ≡ allAtMost limit p k own x n) where
     -- at most 1, and shell k by itself
     abbrev isJudged : Bool
     isJudged = both (ltb most 2) (both (leb (number x (sentIn k)) limit) (leb (number x (takenIn k)) limit))
