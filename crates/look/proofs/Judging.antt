@@ -12,7 +12,7 @@ use lib.ListN.{length}
 use borrow.Author.Tests.{le-leb, leb-true, eq-eqb, eqb-true}
 use Rattle.base.specs.Choice.{choose, both, every}
 use Rattle.base.specs.Limits.{Limits, fieldLimit}
-use Rattle.base.proofs.Laws.{clash, both-true, both-make, every-at, every-make, every-same}
+use Rattle.base.proofs.Laws.{both-true, both-make, every-at, every-make, every-same}
 use Rattle.node.specs.Sums.{Field, Has, sentIn, takenIn, allSent, allTaken, number}
 use Rattle.node.specs.Agree.{firstClauses, firstFailing}
 use Rattle.node.specs.declared.Stored.{Stored}

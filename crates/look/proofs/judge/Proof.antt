@@ -13,7 +13,7 @@ use lib.ListN.{length}
 use Rattle.base.specs.Choice.{both}
 use Rattle.base.specs.Limits.{Limits, limitsOf, fieldLimit}
 use Rattle.base.proofs.Laws.{both-true}
-use Rattle.node.specs.Sums.{Field, sentIn, takenIn, number}
+use Rattle.node.specs.Sums.{Field, sentIn, takenIn}
 use Rattle.node.specs.declared.Stored.{Stored}
 use Rattle.layout.specs.Held.{word, firstFrom, sumOf}
 use Rattle.stored.specs.Held.{lowAfter}
@@ -138,11 +138,11 @@ returns c =
     (issued l) (received l)) in
     record {
       ok = all-three j
-      ∙ ap (λ t. both t (takenLow l)) (first-two (j .before))
-      ∙ grouped (ltb (most l) 2) (sentLow l) (takenLow l)
-      ∙ judged l;
+          ∙ ap (λ t. both t (takenLow l)) (first-two (j .before))
+          ∙ grouped (ltb (most l) 2) (sentLow l) (takenLow l)
+          ∙ judged l;
       clause = named
-      ∙ clause-is (L s) (ws s) (sums s) (p s) (k s) (h .0) (h .1) (most l) (weighed l) (issued l) (received l) i r;
+          ∙ clause-is (L s) (ws s) (sums s) (p s) (k s) (h .0) (h .1) (most l) (weighed l) (issued l) (received l) i r;
       total = λ e.
           total-is (L s) (ws s) (sums s) (p s) (k s) (h .0) (h .1) (most l) (weighed l) (issued l) (received l) i r (sym named ∙ e);
     }

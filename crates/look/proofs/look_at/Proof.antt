@@ -2,20 +2,18 @@
 use borrow.Author.Needs.{needs}
 use borrow.Author.Tests.{not-true, not-false, ltb-true, leb-true, eqb-true, eq-eqb, ne-eqb}
 use denote.Ref.{now}
-use mathlib.Core.Path.{_≡_, refl, sym, ap, _∙_}
+use mathlib.Core.Path.{_≡_, sym, ap, _∙_}
 use mathlib.Core.Bool.{true, false}
-use mathlib.Core.List.{List, [], _∷_}
+use mathlib.Core.List.{List}
 use native.Mathlib.Omega.{arith}
 use Prim.Native.Nat.{ℕ}
 use lib.Dec.{ltb, leb, eqb}
 use lib.ListN.{length}
-use Rattle.base.specs.Choice.{choose, both}
 use Rattle.base.specs.Limits.{Limits, limitsOf, width}
-use Rattle.base.proofs.Laws.{choose-yes, choose-no, both-true}
+use Rattle.base.proofs.Laws.{choose-yes, both-true}
 use Rattle.node.specs.Agree.{firstClauses, firstFailing}
 use Rattle.layout.specs.Places.{firstWords, sumWords}
-use Rattle.layout.specs.Held.{word, firstFrom, sumOf}
-use Rattle.stored.specs.Held.{lowAfter}
+use Rattle.layout.specs.Held.{word}
 use Rattle.walk_tests.specs.Tests.{firstFits}
 use Rattle.adding.specs.Adding.{Framed}
 use Rattle.look.specs.Look.{Looked}

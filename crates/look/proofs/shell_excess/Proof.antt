@@ -1,15 +1,9 @@
 -- `shell_excess`: the words are the numbers of the shell.
 use borrow.Author.Needs.{needs}
 use denote.Ref.{now}
-use mathlib.Core.Path.{_≡_, sym, ap, _∙_}
+use mathlib.Core.Path.{_∙_}
 use native.Mathlib.Omega.{arith}
-use lib.Dec.{leb}
-use Prim.Native.Nat.{ℕ}
-use Rattle.base.specs.Choice.{both}
-use Rattle.node.specs.Sums.{sentIn, takenIn, number}
-use Rattle.layout.specs.Held.{firstFrom, sumOf}
 use Rattle.layout.proofs.Reading.{number-sent, number-taken}
-use Rattle.look.specs.Pieces.{excess}
 use Rattle.look.proofs.shell_excess.Statement.{statement}
 use Rattle.look.proofs.shell_excess.Tie as tie
 

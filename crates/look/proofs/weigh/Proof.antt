@@ -33,22 +33,24 @@ alone true = refl
 alone false = refl
 
 loop-holds : tie.Need-loop-holds Inv-loop μ-loop
-loop-holds c = (omega arith, λ n. rw (le-leb 0 n (omega arith), add-one))
+loop-holds c = (omega arith, λ n. rw (le-leb 0 n (omega arith), add-one (c .before .before .args .k)))
 
 loop-again : tie.Need-loop-again Inv-loop μ-loop
 loop-again c =
     let i = c .before .before in
     let l = i .before in
     let a = l .before .before .before .args in
-    let m = l .loop .m in
-    (omega arith, λ n.
-    let f = shellAtMost (a .limit) (sumOf (a .p) (now (a .sums))) (firstFrom (now (a .s)) (a .p) (a .k) 0) n in
-    let rest = every (m + 1) (a .p - (m + 1)) f in
-    ap (λ t. both t rest) (c .larger .ensures n)
-    ∙ grouped (leb (l .loop .most) n) (leb (c .before .shell-excess .result) n) rest
-    ∙ ap (λ t. both (leb (l .loop .most) n) (both t rest)) (c .before .shell-excess .ensures n)
-    ∙ ap (both (leb (l .loop .most) n)) (sym (every-here m (a .p) f (i .loop-test .taken)))
-    ∙ l .loop .inv .1 n)
+    let m = l .loop .m in (
+      omega arith,
+      λ n.
+          let f = shellAtMost (a .limit) (sumOf (a .p) (now (a .sums))) (firstFrom (now (a .s)) (a .p) (a .k) 0) n in
+          let rest = every (m + 1) (a .p - (m + 1)) f in
+          ap (λ t. both t rest) (c .larger .ensures n)
+          ∙ grouped (leb (l .loop .most) n) (leb (c .before .shell-excess .result) n) rest
+          ∙ ap (λ t. both (leb (l .loop .most) n) (both t rest)) (c .before .shell-excess .ensures n)
+          ∙ ap (both (leb (l .loop .most) n)) (sym (every-here m (a .p) f (i .loop-test .taken)))
+          ∙ l .loop .inv .1 n,
+    )
 
 returns : tie.Need-returns Inv-loop μ-loop
 returns c =
