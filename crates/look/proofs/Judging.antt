@@ -71,10 +71,10 @@ module _ (L : Limits) (ws sums : List ℕ) (p k : ℕ) (h : Framed ws sums p k) 
   abbrev own : Field → ℕ
   own = sumOf p sums
 
-  pub sent-k : number x (sentIn k) ≡ word ws markWords
+  sent-k : number x (sentIn k) ≡ word ws markWords
   sent-k = number-sent ws p k 0 k (omega arith) (h .low) (omega arith) ∙ ap (word ws) (omega arith)
 
-  pub taken-k : number x (takenIn k) ≡ word ws (markWords + (p - k))
+  taken-k : number x (takenIn k) ≡ word ws (markWords + (p - k))
   taken-k = number-taken ws p k 0 k (omega arith) (h .low) (omega arith) ∙ ap (word ws) (omega arith)
 
   abbrev isStill : Bool
@@ -169,8 +169,10 @@ module _ (L : Limits) (ws sums : List ℕ) (p k : ℕ) (h : Framed ws sums p k) 
             every-make (suc k) (p - suc k) (shellAtMost limit own x 1)
             (λ m a b. both-make (at (sentIn m) (omega arith, omega arith)) (at (takenIn m) (omega arith, omega arith)))
 
-    pub ok-is : isJudged ≡ isStill
-    ok-is = same-test isJudged isStill ok-to ok-from
+    pub ok-is : both (ltb most 2) (both (leb (word ws markWords) limit) (leb (word ws (markWords + (p - k))) limit)) ≡ isStill
+    ok-is =
+        (λ i. both (ltb most 2) (both (leb (sym sent-k i) limit) (leb (sym taken-k i) limit)))
+        ∙ same-test isJudged isStill ok-to ok-from
 
     -- clause 3
     abbrev fits : Field → Bool
@@ -205,17 +207,25 @@ module _ (L : Limits) (ws sums : List ℕ) (p k : ℕ) (h : Framed ws sums p k) 
 
       abbrev named : ℕ
       named =
-          clauseBy (own (sentIn k)) (number x (takenIn k)) (own (takenIn k)) (number x (sentIn k)) most (eqb (k + 1) p) issued
-          received
+          clauseBy (own (sentIn k)) (word ws (markWords + (p - k))) (own (takenIn k)) (word ws markWords) most (eqb (k + 1) p)
+          issued received
+
+      read : named
+          ≡ choose first (choose second (choose (eqb most 0) (choose (fourth (k + 1) issued received) 7 4) 3) 2) 1
+      read j =
+          clauseBy (own (sentIn k)) (sym taken-k j) (own (takenIn k)) (sym sent-k j) most (eqb (k + 1) p) issued received
 
       pub clause-is : named ≡ firstFailing (firstClauses L p k own x)
       unfolding firstClauses
       clause-is =
           let last = fourth (suc k) (own allSent + number x allSent) (own allTaken + number x allTaken) in
-          in-order first second (eqb most 0) (fourth (k + 1) issued received) last
+          read
+          ∙ in-order first second (eqb most 0) (fourth (k + 1) issued received) last
           (λ e j. fourth (add-one k j) (issued-is (eqb-true most 0 e) j) (received-is (eqb-true most 0 e) j))
           ∙ (λ j.
           firstFailing (sym (eq-eqb (word ws 0) 1 mark) j ∷ first ∷ second ∷ third j ∷ last ∷ true ∷ true ∷ []))
 
       pub total-is : named ≡ 7 → received ≡ own allTaken + number x allTaken
-      total-is e = received-is (eqb-true most 0 (third-holds first second (eqb most 0) (fourth (k + 1) issued received) e))
+      total-is e =
+          received-is
+          (eqb-true most 0 (third-holds first second (eqb most 0) (fourth (k + 1) issued received) (sym read ∙ e)))

@@ -8,17 +8,17 @@ use mathlib.Core.Bool.{Bool, true, false}
 use mathlib.Core.List.{List}
 use native.Mathlib.Omega.{arith}
 use Prim.Native.Nat.{ℕ, _+_, _-_}
-use lib.Dec.{ltb, leb, eqb}
+use lib.Dec.{ltb, leb}
 use lib.ListN.{length}
 use Rattle.base.specs.Choice.{both}
 use Rattle.base.specs.Limits.{Limits, limitsOf, fieldLimit}
 use Rattle.base.proofs.Laws.{both-true}
-use Rattle.node.specs.Sums.{Field, sentIn, takenIn}
+use Rattle.node.specs.Sums.{Field}
 use Rattle.node.specs.declared.Stored.{Stored}
 use Rattle.layout.specs.Held.{word, firstFrom, sumOf}
 use Rattle.stored.specs.Held.{lowAfter}
-use Rattle.look.specs.Pieces.{Weighed, TotalsAdded, clauseBy}
-use Rattle.look.proofs.Judging.{sent-k, taken-k, allAtMost, ok-is, clause-is, total-is}
+use Rattle.look.specs.Pieces.{Weighed, TotalsAdded}
+use Rattle.look.proofs.Judging.{allAtMost, ok-is, clause-is, total-is}
 use Rattle.look.proofs.judge.Statement.{statement}
 use Rattle.look.proofs.judge.Tie as tie
 
@@ -101,9 +101,9 @@ module _ (l : tie.After-larger) where
 
   judged : both (ltb most 2) (both sentLow takenLow) ≡ lowAfter (fieldLimit (L start)) (ws start) 0 (length (ws start))
   judged =
-      let s = sent-k (L start) (ws start) (sums start) (p start) (k start) (start .pre .0) (start .pre .1) in
-      let t = taken-k (L start) (ws start) (sums start) (p start) (k start) (start .pre .0) (start .pre .1) in
-      (λ i. both (ltb most 2) (both (leb (sym s i) (limit-is i)) (leb (sym t i) (limit-is i))))
+      (λ i.
+      both (ltb most 2)
+      (both (leb (word (ws start) 1) (limit-is i)) (leb (word (ws start) (1 + (p start - k start))) (limit-is i))))
       ∙ ok-is (L start) (ws start) (sums start) (p start) (k start) (start .pre .0) (start .pre .1) most weighed
 
 -- the joins of the tests
@@ -126,25 +126,19 @@ returns c =
     let j = c .before .before .before .before in
     let l = j .before .before .before .before in
     let s = start l in
-    let h = s .pre in
-    let sent = sent-k (L s) (ws s) (sums s) (p s) (k s) (h .0) (h .1) in
-    let taken = taken-k (L s) (ws s) (sums s) (p s) (k s) (h .0) (h .1) in
+    let named = c .before .clause-by .ensures in
     let i : most l ≡ 0 → issued l ≡ _ = λ e. totals l .issued (none l e) in
     let r : most l ≡ 0 → received l ≡ _ = λ e. totals l .received (none l e) in
-    let named =
-    c .before .clause-by .ensures
-    ∙ (λ n.
-    clauseBy (own s (sentIn (k s))) (sym taken n) (own s (takenIn (k s))) (sym sent n) (most l) (eqb (k s + 1) (p s))
-    (issued l) (received l)) in
     record {
       ok = all-three j
           ∙ ap (λ t. both t (takenLow l)) (first-two (j .before))
           ∙ grouped (ltb (most l) 2) (sentLow l) (takenLow l)
           ∙ judged l;
       clause = named
-          ∙ clause-is (L s) (ws s) (sums s) (p s) (k s) (h .0) (h .1) (most l) (weighed l) (issued l) (received l) i r;
+          ∙ clause-is (L s) (ws s) (sums s) (p s) (k s) (s .pre .0) (s .pre .1) (most l) (weighed l) (issued l) (received l) i r;
       total = λ e.
-          total-is (L s) (ws s) (sums s) (p s) (k s) (h .0) (h .1) (most l) (weighed l) (issued l) (received l) i r (sym named ∙ e);
+          total-is (L s) (ws s) (sums s) (p s) (k s) (s .pre .0) (s .pre .1) (most l) (weighed l) (issued l) (received l) i r
+          (sym named ∙ e);
     }
 
 pub judge-spec : {M : Type 1} → statement M

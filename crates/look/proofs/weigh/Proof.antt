@@ -45,9 +45,10 @@ loop-again c =
       λ n.
           let f = shellAtMost (a .limit) (sumOf (a .p) (now (a .sums))) (firstFrom (now (a .s)) (a .p) (a .k) 0) n in
           let rest = every (m + 1) (a .p - (m + 1)) f in
-          ap (λ t. both t rest) (c .larger .ensures n)
-          ∙ grouped (leb (l .loop .most) n) (leb (c .before .shell-excess .result) n) rest
-          ∙ ap (λ t. both (leb (l .loop .most) n) (both t rest)) (c .before .shell-excess .ensures n)
+          let more : leb (c .larger .result) n ≡ both (leb (l .loop .most) n) (f m) =
+          c .larger .ensures n ∙ (λ t. both (leb (l .loop .most) n) (c .before .shell-excess .ensures n t)) in
+          (λ t. both (more t) rest)
+          ∙ grouped (leb (l .loop .most) n) (f m) rest
           ∙ ap (both (leb (l .loop .most) n)) (sym (every-here m (a .p) f (i .loop-test .taken)))
           ∙ l .loop .inv .1 n,
     )
