@@ -3,10 +3,9 @@
 use mathlib.Core.Path.{_≡_, refl, sym, ap, _∙_}
 use mathlib.Core.Bool.{Bool, true, false}
 use mathlib.Core.List.{List}
-use Prim.Native.Nat.{ℕ, suc, _+_, _-_, _*_, _≤_, _<_}
+use Prim.Native.Nat.{ℕ, _+_, _-_, _≤_, _<_}
 use native.Mathlib.Decide.{ℕ-discrete}
 use native.Mathlib.Omega.{arith}
-use lib.Dec.{leb}
 use lib.ListN.{length, length-set, set}
 use lib.Seq.{getD-set-same, getD-set-other}
 use borrow.Author.Tests.{le-leb, leb-true}
@@ -16,7 +15,7 @@ use Rattle.node.specs.declared.Stored.{Stored}
 use Rattle.layout.specs.Places.{markWords, sentPlace, takenPlace, issuedPlace, receivedPlace, sumIssued, sumReceived}
 use Rattle.layout.specs.Held.{word, firstFrom, sumOf}
 use Rattle.layout.proofs.Reading.{number-sent, number-taken}
-use Rattle.adding.specs.Adding.{FirstAt, Within, Added}
+use Rattle.adding.specs.Adding.{Framed, Within, Added}
 use Rattle.adding.specs.Pieces.{Apart, AddedAt, AddedRun, IsTotal, AddedTotals}
 
 -- the tallies of the shells above k and below m
@@ -131,9 +130,9 @@ module _ (before : List ℕ) (to : ℕ) (ws : List ℕ) (from limit : ℕ) where
         length = v .long;
       }
 
-module _ (ws before : List ℕ) (p k at limit : ℕ) where
+module _ (ws before : List ℕ) (p k limit : ℕ) where
   abbrev x : Stored
-  x = firstFrom ws p k at
+  x = firstFrom ws p k 0
 
   -- the sum of a number with the frame's is within the limit, or is among the sums
   abbrev Fine : Field → Type 0
@@ -144,23 +143,23 @@ module _ (ws before : List ℕ) (p k at limit : ℕ) where
 
   -- ---- The shells
 
-  module _ (here : FirstAt ws before p k at) where
+  module _ (here : Framed ws before p k) where
     -- a number of the frame by its index in a run
     abbrev sentRun : ℕ
-    sentRun = at + markWords + 1
+    sentRun = markWords + 1
 
     abbrev takenRun : ℕ
-    takenRun = at + markWords + 1 + (p - k)
+    takenRun = markWords + 1 + (p - k)
 
     sent-at : (i : ℕ) → i < p - (k + 1) → number x (sentIn (k + 1 + i)) ≡ word ws (sentRun + i)
     sent-at i h =
-        let z : sentPlace at k (k + 1 + i) ≡ sentRun + i = omega arith in
-        number-sent ws p k at (k + 1 + i) (omega arith) (omega arith) (omega (arith, here .few)) ∙ ap (word ws) z
+        let z : sentPlace 0 k (k + 1 + i) ≡ sentRun + i = omega arith in
+        number-sent ws p k 0 (k + 1 + i) (omega arith) (omega arith) (omega (arith, here .few)) ∙ ap (word ws) z
 
     taken-at : (i : ℕ) → i < p - (k + 1) → number x (takenIn (k + 1 + i)) ≡ word ws (takenRun + i)
     taken-at i h =
-        let z : takenPlace p at k (k + 1 + i) ≡ takenRun + i = omega (arith, here .low) in
-        number-taken ws p k at (k + 1 + i) (omega arith) (omega arith) (omega (arith, here .few)) ∙ ap (word ws) z
+        let z : takenPlace p 0 k (k + 1 + i) ≡ takenRun + i = omega (arith, here .low) in
+        number-taken ws p k 0 (k + 1 + i) (omega arith) (omega arith) (omega (arith, here .few)) ∙ ap (word ws) z
 
     module _ (mid : List ℕ) (r : Bool) (one : AddedRun before (k + 1) ws sentRun (p - (k + 1)) limit mid r) where
       pub sent-over : r ≡ false → ((f : Field) → InShells k p f → Fine f) → ⊥
@@ -226,18 +225,18 @@ module _ (ws before : List ℕ) (p k at limit : ℕ) where
           length = l;
         }
 
-    module _ (one : List ℕ) (r : Bool) (a : AddedAt before (sumIssued p) ws (issuedPlace p at k) limit one r) where
+    module _ (one : List ℕ) (r : Bool) (a : AddedAt before (sumIssued p) ws (issuedPlace p 0 k) limit one r) where
       pub issued-over : r ≡ false → AddedTotals p x limit before one false
       issued-over e =
           totals-stopped one (kept-length before _ ws _ limit one r a)
           (λ w. not-added before _ ws _ limit one r a e .0 (w allSent tt))
 
       module _ (e : r ≡ true) (two : List ℕ) (t : Bool)
-          (b : AddedAt one (sumReceived p) ws (issuedPlace p at k + 1) limit two t) where
-        received-sum : word one (sumReceived p) + word ws (issuedPlace p at k + 1)
+          (b : AddedAt one (sumReceived p) ws (issuedPlace p 0 k + 1) limit two t) where
+        received-sum : word one (sumReceived p) + word ws (issuedPlace p 0 k + 1)
             ≡ sumOf p before allTaken + number x allTaken
         received-sum =
-            let z : issuedPlace p at k + 1 ≡ receivedPlace p at k = omega arith in
+            let z : issuedPlace p 0 k + 1 ≡ receivedPlace p 0 k = omega arith in
             λ i. other-kept before _ ws _ limit one r a e (sumReceived p) (λ q. omega arith) i + ap (word ws) z i
 
         long : length two ≡ length before

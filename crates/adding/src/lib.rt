@@ -1,5 +1,4 @@
 // The numbers of a stored pass 1 frame added to the own sums, both in words that a caller lends.
-ghost use mathlib.Core.Path.{_≡_};
 ghost use Prim.Native.Nat.{_+_, _≤_, _<_};
 ghost use lib.ListN.{length};
 ghost use Rattle.layout.specs.Places.{mostWords};
@@ -42,7 +41,7 @@ fn add_all_sent(sums: &mut [u32], to: u32, s: &[u32], from: u32, count: u32, lim
     requires { ⌜ (to + count ≤ length (now sums))
         × (from + count ≤ length (now s))
         × (to + count ≤ mostWords)
-        × (from + count ≤ mostWords + mostWords) ⌝ }
+        × (from + count ≤ mostWords) ⌝ }
     ensures { λ r. ⌜ AddedRun (now (sums .entry)) to (now (s .entry)) from count limit (now (sums .exit)) r ⌝ }
 {
     for i in 0..count {
@@ -58,7 +57,7 @@ fn add_all_taken(sums: &mut [u32], to: u32, s: &[u32], from: u32, count: u32, li
     requires { ⌜ (to + count ≤ length (now sums))
         × (from + count ≤ length (now s))
         × (to + count ≤ mostWords)
-        × (from + count ≤ mostWords + mostWords) ⌝ }
+        × (from + count ≤ mostWords) ⌝ }
     ensures { λ r. ⌜ AddedRun (now (sums .entry)) to (now (s .entry)) from count limit (now (sums .exit)) r ⌝ }
 {
     for i in 0..count {

@@ -1,1 +1,1 @@
-pub mod Judging
+mod Agreeing

@@ -12,7 +12,7 @@ use Rattle.layout.specs.Held.{sumOf}
 use Rattle.adding.specs.Adding.{Added}
 
 -- clauses 0, 1 and 2 hold
-pub record Opened (p k : ℕ) (own : Field → ℕ) (x : Stored) : Type 0 where
+pub record Opened (k : ℕ) (own : Field → ℕ) (x : Stored) : Type 0 where
   pub stored : x .present ≡ true
   pub sent : own (sentIn k) ≡ number x (takenIn k)
   pub taken : own (takenIn k) ≡ number x (sentIn k)

@@ -25,7 +25,7 @@ fn last_holds(last: bool, issued: Sent, received: Taken) -> bool
 
 // Clauses 3 and 4, where those before them hold.
 fn last_agree(b: Bounds, s: &[u32], sums: &mut [u32], p: u32, k: u32) -> bool
-    requires { ⌜ Framed (now s) (now sums) p k × Opened p k (sumOf p (now sums)) (firstFrom (now s) p k 0) ⌝ }
+    requires { ⌜ Framed (now s) (now sums) p k × Opened k (sumOf p (now sums)) (firstFrom (now s) p k 0) ⌝ }
     ensures { λ r.
         ⌜ Agreed (limitsOf b) p k (firstFrom (now (s .entry)) p k 0) (now (sums .entry)) (now (sums .exit)) r ⌝ }
 {

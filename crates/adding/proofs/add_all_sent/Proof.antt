@@ -42,7 +42,7 @@ module _ (l : tie.In-loop Inv-loop μ-loop) where
       × (a .to + a .count ≤ length (l .before .loop .sums))
       × (a .from + a .count ≤ length (ws s))
       × (a .to + a .count ≤ mostWords)
-      × (a .from + a .count ≤ mostWords + mostWords)
+      × (a .from + a .count ≤ mostWords)
   inside = let h = s .pre in (l .loop-test .taken, omega (arith, h .0, up .long), h .1, h .2, h .3)
 
 module _ (a : tie.After-add-sent Inv-loop μ-loop) where

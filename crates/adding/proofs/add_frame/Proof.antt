@@ -12,9 +12,8 @@ use Rattle.base.proofs.Laws.{clash}
 use Rattle.base.specs.Limits.{width}
 use Rattle.node.specs.Sums.{Field, number}
 use Rattle.node.specs.declared.Stored.{Stored}
-use Rattle.layout.specs.Places.{mostWords}
 use Rattle.layout.specs.Held.{firstFrom, sumOf}
-use Rattle.adding.specs.Adding.{FirstAt, Within, AddedBy}
+use Rattle.adding.specs.Adding.{Framed, Within, AddedBy}
 use Rattle.adding.specs.Pieces.{AddedTotals}
 use Rattle.adding.proofs.Adding.{InShells, AddedShells, sent-over, taken-over, shells-added, totals-over, shells-fine, within, added}
 use Rattle.adding.proofs.Fitting.{fitting-known, fitting-made}
@@ -22,9 +21,9 @@ use Rattle.adding.proofs.add_frame.Statement.{statement}
 use Rattle.adding.proofs.add_frame.Tie as tie
 
 -- nothing is added
-left : {limit : ℕ} {ws : List ℕ} {p k at : ℕ} {before : List ℕ} (after : List ℕ) → length after ≡ length before
-    → (FirstAt ws before p k at → Within limit p k (firstFrom ws p k at) before → ⊥)
-    → AddedBy limit ws p k at before after false
+left : {limit : ℕ} {ws : List ℕ} {p k : ℕ} {before : List ℕ} (after : List ℕ) → length after ≡ length before
+    → (Framed ws before p k → Within limit p k (firstFrom ws p k 0) before → ⊥)
+    → AddedBy limit ws p k before after false
 left after l none =
     record {
       there = λ q. clash (sym q);
@@ -41,7 +40,7 @@ returns c =
     left _ refl
     (λ h.
     clash
-    (sym (fitting-made (x .p) (x .k) (x .at) (now (x .s)) (now (x .sums)) h)
+    (sym (fitting-made (x .p) (x .k) (now (x .s)) (now (x .sums)) h)
     ∙ sym (f .ensures)
     ∙ not-true (f .result) (c .if1 .taken)))
 
@@ -62,21 +61,18 @@ module _ (e : tie.Else1) where
   abbrev k : ℕ
   k = s .args .k
 
-  abbrev at : ℕ
-  at = s .args .at
-
   abbrev limit : ℕ
   limit = s .args .limit
 
   abbrev x : Stored
-  x = firstFrom ws p k at
+  x = firstFrom ws p k 0
 
-  here : FirstAt ws before p k at
-  here = let f = e .before .first-fits in fitting-known p k at ws before (sym (f .ensures) ∙ not-false (f .result) (e .if1 .left))
+  here : Framed ws before p k
+  here = let f = e .before .first-fits in fitting-known p k ws before (sym (f .ensures) ∙ not-false (f .result) (e .if1 .left))
 
   -- the places are small
-  small : (k < p) × (p ≤ width) × (at ≤ mostWords)
-  small = (here .low, here .few, here .near)
+  small : (k < p) × (p ≤ width)
+  small = (here .low, here .few)
 
 -- the totals
 module _ (a : tie.After-add-totals) where
@@ -93,10 +89,10 @@ module _ (a : tie.After-add-totals) where
   mid-long = a .add-totals .ensures .length
 
   -- the sums have still room
-  still : FirstAt (ws one) mid (p one) (k one) (at one)
+  still : Framed (ws one) mid (p one) (k one)
   still =
       let h = here one in
-      record { low = h .low; few = h .few; near = h .near; long = h .long; wide = omega (arith, h .wide, mid-long) }
+      record { low = h .low; few = h .few; long = h .long; wide = omega (arith, h .wide, mid-long) }
 
 returns-2 : tie.Need-returns-2
 returns-2 c =
@@ -104,7 +100,7 @@ returns-2 c =
     let e = one a in
     left _ (mid-long a)
     (λ h.
-    totals-over (ws e) (before e) (p e) (k e) (at e) (limit e) (mid a)
+    totals-over (ws e) (before e) (p e) (k e) (limit e) (mid a)
     (totals a false (not-true (a .add-totals .result) (c .if2 .taken))))
 
 -- the numbers sent
@@ -120,7 +116,7 @@ module _ (d : tie.After-add-all-sent) where
 
   fine : Within (limit two) (p two) (k two) (x two) (before two) → (f : Field) → InShells (k two) (p two) f
       → sumOf (p two) (mid first) f + number (x two) f ≤ limit two
-  fine = shells-fine (ws two) (before two) (p two) (k two) (at two) (limit two) (mid first) summed
+  fine = shells-fine (ws two) (before two) (p two) (k two) (limit two) (mid first) summed
 
 returns-3 : tie.Need-returns-3
 returns-3 c =
@@ -128,7 +124,7 @@ returns-3 c =
     let e = two d in
     left _ (d .add-all-sent .ensures .length ∙ mid-long (first d))
     (λ h w.
-    sent-over (ws e) (mid (first d)) (p e) (k e) (at e) (limit e) (still (first d)) _ _ (d .add-all-sent .ensures)
+    sent-over (ws e) (mid (first d)) (p e) (k e) (limit e) (still (first d)) _ _ (d .add-all-sent .ensures)
     (not-true (d .add-all-sent .result) (c .if3 .taken)) (fine d w))
 
 -- and those taken
@@ -140,15 +136,15 @@ returns-4 c =
     let f = g .add-all-taken in
     let good = not-false (d .add-all-sent .result) (g .before .before .if3 .left) in
     let shells : f .result ≡ true → AddedShells (p e) (k e) (x e) (limit e) (mid (first d)) (f .last .0) true = λ q.
-    shells-added (ws e) (mid (first d)) (p e) (k e) (at e) (limit e) (still (first d)) _ _ (d .add-all-sent .ensures) good _ _
+    shells-added (ws e) (mid (first d)) (p e) (k e) (limit e) (still (first d)) _ _ (d .add-all-sent .ensures) good _ _
     (f .ensures) q in
     record {
       there = λ q. here e;
-      within = λ q. within (ws e) (before e) (p e) (k e) (at e) (limit e) (mid (first d)) (summed d) _ (shells q);
+      within = λ q. within (ws e) (before e) (p e) (k e) (limit e) (mid (first d)) (summed d) _ (shells q);
       over = λ q h w.
-          taken-over (ws e) (mid (first d)) (p e) (k e) (at e) (limit e) (still (first d)) _ _ (d .add-all-sent .ensures) good _ _
+          taken-over (ws e) (mid (first d)) (p e) (k e) (limit e) (still (first d)) _ _ (d .add-all-sent .ensures) good _ _
           (f .ensures) q (fine d w);
-      added = λ q. added (ws e) (before e) (p e) (k e) (at e) (limit e) (mid (first d)) (summed d) _ (shells q);
+      added = λ q. added (ws e) (before e) (p e) (k e) (limit e) (mid (first d)) (summed d) _ (shells q);
       length = f .ensures .length ∙ d .add-all-sent .ensures .length ∙ mid-long (first d);
     }
 
@@ -176,7 +172,7 @@ add-frame-spec =
     tie.close
     (tie.spec (λ c κs. search needs) returns (λ c κs. here (c .before)) (λ c. search needs) returns-2
     (λ c. record { fits = omega (arith, small (one (c .before .before .before))) }) (λ c. omega (arith, small (one (c .before .before .before))))
-    (λ c. record { fits = omega (arith, small (one (c .before .before .before))) }) (λ c. record { fits = omega (arith, small (one (c .before .before .before))) })
+    (λ c. record { fits = omega (arith, small (one (c .before .before .before))) })
     (λ c. record { fits = omega (arith, small (one (c .before .before .before .before))) }) sent-run (λ c. search needs) returns-3
     (λ c. record { fits = omega (arith, small (two (c .before .before .before .before))) }) (λ c. record { fits = omega (arith, small (two (c .before .before .before .before))) })
     (λ c. omega (arith, small (two (c .before .before .before .before)))) (λ c. record { fits = omega (arith, small (two (c .before .before .before .before))) }) taken-run

@@ -2,8 +2,6 @@
 use borrow.Author.Needs.{needs}
 use borrow.Author.Tests.{not-true, not-false}
 use denote.Ref.{now}
-use mathlib.Core.Path.{subst}
-use Rattle.layout.specs.Held.{firstFrom}
 use Rattle.adding.proofs.Adding.{issued-over, totals-added}
 use Rattle.adding.proofs.add_totals.Statement.{statement}
 use Rattle.adding.proofs.add_totals.Tie as tie
@@ -12,7 +10,7 @@ returns : tie.Need-returns
 returns c =
     let a = c .before .before .before in
     let x = a .before .before .before .before .args in
-    issued-over (now (x .s)) (now (x .sums)) (x .p) (x .k) (x .at) (x .limit) (a .before .before .before .before .pre) _ _ (a .add-sent .ensures)
+    issued-over (now (x .s)) (now (x .sums)) (x .p) (x .k) (x .limit) (a .before .before .before .before .pre) _ _ (a .add-sent .ensures)
     (not-true (a .add-sent .result) (c .if1 .taken))
 
 returns-2 : tie.Need-returns-2
@@ -20,12 +18,12 @@ returns-2 c =
     let d = c .before .before in
     let a = d .before .before .before .before .before in
     let x = a .before .before .before .before .args in
-    totals-added (now (x .s)) (now (x .sums)) (x .p) (x .k) (x .at) (x .limit) (a .before .before .before .before .pre) _ _ (a .add-sent .ensures)
+    totals-added (now (x .s)) (now (x .sums)) (x .p) (x .k) (x .limit) (a .before .before .before .before .pre) _ _ (a .add-sent .ensures)
     (not-false (a .add-sent .result) (d .before .before .if1 .left)) _ _ (d .add-taken .ensures)
 
 pub add-totals-spec : {M : Type 1} → statement M
 add-totals-spec =
     tie.close
-    (tie.spec (λ c. search needs) (λ c. search needs) (λ c. search needs) (λ c. search needs) (λ c. search needs)
+    (tie.spec (λ c. search needs) (λ c. search needs) (λ c. search needs) (λ c. search needs)
     (λ c κs. search needs) (λ c. search needs) returns (λ c. search needs) (λ c. search needs) (λ c. search needs)
     (λ c κs. search needs) (λ c. search needs) returns-2)

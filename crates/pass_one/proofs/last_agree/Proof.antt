@@ -1,4 +1,4 @@
--- `last_clauses`: clause 3 by the numbers added, then clause 4.
+-- `last_agree`: clause 3 by the numbers added, then clause 4.
 use borrow.Author.Needs.{needs}
 use borrow.Author.Tests.{not-true, not-false}
 use denote.Ref.{now}
@@ -6,11 +6,12 @@ use mathlib.Core.Path.{_≡_, sym, subst}
 use mathlib.Core.List.{List}
 use Prim.Native.Nat.{ℕ}
 use Rattle.base.specs.Limits.{Limits, limitsOf, fieldLimit}
+use Rattle.node.specs.declared.Stored.{Stored}
 use Rattle.layout.specs.Held.{firstFrom}
-use Rattle.pass_one.specs.Pieces.{Judged}
-use Rattle.pass_one.proofs.Judging.{over, ended}
-use Rattle.pass_one.proofs.last_clauses.Statement.{statement}
-use Rattle.pass_one.proofs.last_clauses.Tie as tie
+use Rattle.pass_one.specs.Pieces.{Agreed}
+use Rattle.pass_one.proofs.Agreeing.{over, ended}
+use Rattle.pass_one.proofs.last_agree.Statement.{statement}
+use Rattle.pass_one.proofs.last_agree.Tie as tie
 
 -- what is handed
 module _ (a : tie.After-add-frame) where
@@ -19,9 +20,6 @@ module _ (a : tie.After-add-frame) where
 
   abbrev L : Limits
   L = limitsOf (s .args .b)
-
-  abbrev ws : List ℕ
-  ws = now (s .args .s)
 
   abbrev before : List ℕ
   before = now (s .args .sums)
@@ -32,8 +30,8 @@ module _ (a : tie.After-add-frame) where
   abbrev k : ℕ
   k = s .args .k
 
-  abbrev at : ℕ
-  at = s .args .at
+  abbrev x : Stored
+  x = firstFrom (now (s .args .s)) p k 0
 
   abbrev after : List ℕ
   after = a .add-frame .last .1 .1 .0
@@ -48,7 +46,7 @@ returns : tie.Need-returns
 returns c =
     let a = c .before .before .before in
     let f = a .add-frame in
-    over (L a) (ws a) (before a) (p a) (k a) (at a) (limit a) (s a .pre .0) (s a .pre .1) (limit-is a)
+    over (L a) (p a) (k a) (x a) (before a) (limit a) (limit-is a)
     (f .ensures .over (not-true (f .result) (c .if1 .taken)) (s a .pre .0)) _ (f .ensures .length)
 
 returns-2 : tie.Need-returns-2
@@ -57,12 +55,12 @@ returns-2 c =
     let a = g .before .before .before in
     let f = a .add-frame in
     let good = not-false (f .result) (g .if1 .left) in
-    subst (Judged (L a) (p a) (k a) (firstFrom (ws a) (p a) (k a) (at a)) (before a) (after a)) (sym (c .last-clause .ensures))
-    (ended (L a) (ws a) (before a) (p a) (k a) (at a) (limit a) (s a .pre .0) (s a .pre .1) (limit-is a)
-    (f .ensures .within good) (after a) (f .ensures .added good) (f .ensures .length))
+    subst (Agreed (L a) (p a) (k a) (x a) (before a) (after a)) (sym (c .last-holds .ensures))
+    (ended (L a) (p a) (k a) (x a) (before a) (limit a) (limit-is a) (s a .pre .1) (f .ensures .within good) (after a)
+    (f .ensures .added good) (f .ensures .length))
 
-pub last-clauses-spec : {M : Type 1} → statement M
-last-clauses-spec =
+pub last-agree-spec : {M : Type 1} → statement M
+last-agree-spec =
     tie.close
     (tie.spec (λ c κs. search needs) (λ c κs. search needs) (λ c. search needs) returns (λ c. search needs)
     (λ c. search needs) (λ c. search needs) (λ c. search needs) (λ c. search needs) (λ c. search needs)
