@@ -20,22 +20,28 @@ use Rattle.look.specs.declared.Totals.{Totals}
 abbrev pub excess : ℕ → ℕ → ℕ → ℕ
 excess limit own more = choose (ltb limit more) 2 (choose (ltb limit (own + more)) 1 0)
 
-abbrev pub larger : ℕ → ℕ → ℕ
-larger a b = choose (ltb a b) b a
+-- the excess of a number of a frame beside the own sum is at most so much
+abbrev pub atMost : ℕ → (Field → ℕ) → Stored → ℕ → Field → Bool
+atMost limit own x most f = leb (excess limit (own f) (number x f)) most
 
--- of both numbers of shell m
-abbrev pub shellExcess : ℕ → (Field → ℕ) → Stored → ℕ → ℕ
-shellExcess limit own x m =
-    larger (excess limit (own (sentIn m)) (number x (sentIn m))) (excess limit (own (takenIn m)) (number x (takenIn m)))
+-- that of both numbers of shell m, and that of both totals
+abbrev pub shellAtMost : ℕ → (Field → ℕ) → Stored → ℕ → ℕ → Bool
+shellAtMost limit own x most m = both (atMost limit own x most (sentIn m)) (atMost limit own x most (takenIn m))
 
--- the largest of the shells above k: at most a number where each is
+abbrev pub totalsAtMost : ℕ → (Field → ℕ) → Stored → ℕ → Bool
+totalsAtMost limit own x most = both (atMost limit own x most allSent) (atMost limit own x most allTaken)
+
+-- the larger of both numbers of shell m: at most a number where both are
+abbrev pub ShellWeighed : ℕ → ℕ → (Field → ℕ) → Stored → ℕ → Type 0
+ShellWeighed limit m own x r = (most : ℕ) → leb r most ≡ shellAtMost limit own x most m
+
+-- the largest of the shells above k, likewise
 abbrev pub Weighed : ℕ → ℕ → ℕ → (Field → ℕ) → Stored → ℕ → Type 0
-Weighed limit p k own x r =
-    (most : ℕ) → leb r most ≡ every (suc k) (p - suc k) (λ m. leb (shellExcess limit own x m) most)
+Weighed limit p k own x r = (most : ℕ) → leb r most ≡ every (suc k) (p - suc k) (shellAtMost limit own x most)
 
--- of both totals, and their sums where it is 0
+-- the larger of both totals, likewise, and their sums where it is 0
 pub record TotalsAdded (limit : ℕ) (own : Field → ℕ) (x : Stored) (r : Totals) : Type 0 where
-  pub excess : r .excess ≡ larger (excess limit (own allSent) (number x allSent)) (excess limit (own allTaken) (number x allTaken))
+  pub excess : (most : ℕ) → leb (r .excess) most ≡ totalsAtMost limit own x most
   pub issued : r .excess ≡ 0 → r .issued .0 ≡ own allSent + number x allSent
   pub received : r .excess ≡ 0 → r .received .0 ≡ own allTaken + number x allTaken
 

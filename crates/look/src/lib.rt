@@ -6,7 +6,7 @@ ghost use Rattle.base.specs.Limits.{limitsOf};
 ghost use Rattle.layout.specs.Held.{word, firstFrom, sumOf};
 ghost use Rattle.adding.specs.Adding.{Framed};
 ghost use Rattle.look.specs.Look.{Looked};
-ghost use Rattle.look.specs.Pieces.{excess, shellExcess, Weighed, TotalsAdded, clauseBy, noLook, Judged};
+ghost use Rattle.look.specs.Pieces.{excess, ShellWeighed, Weighed, TotalsAdded, clauseBy, noLook, Judged};
 use base::Bounds;
 use frame::Sent;
 use frame::Taken;
@@ -59,7 +59,7 @@ fn taken_excess(own: Taken, more: Taken, limit: u32) -> u32
 // Both numbers of shell m: the larger excess.
 fn shell_excess(limit: u32, s: &[u32], sums: &[u32], p: u32, k: u32, m: u32) -> u32
     requires { ⌜ Framed (now s) (now sums) p k × (k ≤ m) × (m < p) ⌝ }
-    ensures { λ r. ⌜ r ≡ shellExcess limit (sumOf p (now (sums .entry))) (firstFrom (now (s .entry)) p k 0) m ⌝ }
+    ensures { λ r. ⌜ ShellWeighed limit m (sumOf p (now (sums .entry))) (firstFrom (now (s .entry)) p k 0) r ⌝ }
 {
     let sent = Sent(s[(layout::MARK + (m - k)) as usize]);
     let taken = Taken(s[(layout::MARK + (p - k) + (m - k)) as usize]);

@@ -1,0 +1,78 @@
+-- `add_totals`: the sums are within the limit before they are made.
+use borrow.Author.Needs.{needs}
+use denote.Ref.{now}
+use mathlib.Core.Path.{_≡_, refl, sym, ap, _∙_}
+use native.Mathlib.Omega.{arith}
+use Prim.Native.Nat.{ℕ, _+_, _-_, _*_, _≤_}
+use lib.Dec.{leb}
+use Rattle.base.specs.Choice.{both}
+use Rattle.node.specs.Sums.{Field, allSent, allTaken, number}
+use Rattle.node.specs.declared.Stored.{Stored}
+use Rattle.layout.specs.Held.{word, firstFrom, sumOf}
+use Rattle.look.specs.Pieces.{excess, atMost, totalsAtMost}
+use Rattle.look.proofs.Excess.{sums-within}
+use Rattle.look.proofs.add_totals.Statement.{statement}
+use Rattle.look.proofs.add_totals.Tie as tie
+
+module _ (l : tie.After-larger) where
+  abbrev start : tie.Start
+  start = l .before .before .before .before .before .before .before .before .before
+
+  abbrev limit : ℕ
+  limit = start .args .limit
+
+  abbrev x : Stored
+  x = firstFrom (now (start .args .s)) (start .args .p) (start .args .k) 0
+
+  abbrev own : Field → ℕ
+  own = sumOf (start .args .p) (now (start .args .sums))
+
+  received : word (now (start .args .s)) (1 + 2 * (start .args .p - start .args .k) + 1) ≡ number x allTaken
+  received = ap (word (now (start .args .s))) (omega arith)
+
+  weighed : (most : ℕ) → leb (l .larger .result) most ≡ totalsAtMost limit own x most
+  weighed most =
+      l .larger .ensures most
+      ∙ (λ i. both (leb (l .before .before .sent-excess .ensures i) most) (leb (l .before .taken-excess .ensures i) most))
+      ∙ ap (λ n. both (atMost limit own x most allSent) (leb (excess limit (own allTaken) n) most)) received
+
+  within : l .larger .result ≡ 0 → (own allSent + number x allSent ≤ limit) × (own allTaken + number x allTaken ≤ limit)
+  within = sums-within limit (own allSent) (number x allSent) (own allTaken) (number x allTaken) (l .larger .result) weighed
+
+returns : tie.Need-returns
+returns c =
+    record {
+      excess = weighed (c .before);
+      issued = λ q. absurd (c .if1 .taken q);
+      received = λ q. absurd (c .if1 .taken q);
+    }
+
+add-issued : tie.Need-add-t21
+add-issued c =
+    let e = c .before .before in
+    let l = e .before in
+    record { fits = omega (arith, within l (e .if1 .left) .0, start l .fits) }
+
+add-received : tie.Need-add-t13-2
+add-received c =
+    let e = c .before .before .before .before in
+    let l = e .before in
+    record { fits = omega (arith, received l, within l (e .if1 .left) .1, start l .fits) }
+
+returns-2 : tie.Need-returns-2
+returns-2 c =
+    let e = c .before .before .before .before in
+    record {
+      excess = λ most. ap (λ n. leb n most) (sym (e .if1 .left)) ∙ weighed (e .before) most;
+      issued = λ q. refl;
+      received = λ q. ap (_+_ (own (e .before) allTaken)) (received (e .before));
+    }
+
+pub add-totals-spec : {M : Type 1} → statement M
+add-totals-spec =
+    tie.close
+    (tie.spec (λ c. search needs) (λ c. search needs) (λ c. search needs) (λ c. search needs) (λ c. search needs)
+    (λ c. search needs) (λ c. search needs) (λ c. search needs) (λ c. search needs) (λ c. search needs) (λ c. search needs)
+    (λ c. search needs) (λ c. search needs) (λ c. search needs) (λ c. search needs) (λ c. search needs) (λ c. search needs)
+    (λ c. search needs) (λ c. search needs) (λ c κs. search needs) (λ c κs. search needs) (λ c κs. search needs) returns
+    add-issued add-received returns-2)
