@@ -513,7 +513,7 @@ module _ (L : Limits) (fit : Fits L) (ws start : List ℕ) (here : Spot) (sends 
                   let past-it : looksAt spot (past .look) k ≡ false =
                       ap (λ d. looksAt spot d k) look-is ∙ away (awaitsAt spot k) (ne-eqb k (n .dim) q) in
                   ap (λ (z : Taken). z .0) (done .kept past-it)
-                  ∙ c .received (both-make looked (lt-ltb (n .dim) k (omega arith))) f one-pass
+                  ∙ c .received (both-make looked (lt-ltb (n .dim) k (omega (arith, below)))) f one-pass
                   (sym (done .clause one ∙ choose-no _ _ past-it) ∙ m-agreed)
 
           carries-more : Carries L ws start looks (k + 1) (at + firstWords (here .dims) k + secondWords) after r
