@@ -32,25 +32,25 @@ fn no_look() -> Look
 
 // ---- The excess of a number beside its sum: 0 where the sum with it is within the limit, 1 where it alone is, else 2
 
-fn sent_excess(own: Sent, more: Sent, limit: u32) -> u32
-    ensures { λ r. ⌜ r ≡ excess limit (own .0) (more .0) ⌝ }
+fn sent_excess(own: Sent, sent: Sent, limit: u32) -> u32
+    ensures { λ r. ⌜ r ≡ excess limit (own .0) (sent .0) ⌝ }
 {
-    if limit < more.0 {
+    if limit < sent.0 {
         return 2;
     }
-    if limit - more.0 < own.0 {
+    if limit - sent.0 < own.0 {
         return 1;
     }
     0
 }
 
-fn taken_excess(own: Taken, more: Taken, limit: u32) -> u32
-    ensures { λ r. ⌜ r ≡ excess limit (own .0) (more .0) ⌝ }
+fn taken_excess(own: Taken, taken: Taken, limit: u32) -> u32
+    ensures { λ r. ⌜ r ≡ excess limit (own .0) (taken .0) ⌝ }
 {
-    if limit < more.0 {
+    if limit < taken.0 {
         return 2;
     }
-    if limit - more.0 < own.0 {
+    if limit - taken.0 < own.0 {
         return 1;
     }
     0
