@@ -105,10 +105,12 @@ fn add_totals(limit: u32, s: &[u32], sums: &[u32], p: u32, k: u32) -> Totals
             received: Taken(0),
         };
     }
+    let all_issued = Sent(own_issued.0 + issued.0);
+    let all_received = Taken(own_received.0 + received.0);
     Totals {
         excess: 0,
-        issued: Sent(own_issued.0 + issued.0),
-        received: Taken(own_received.0 + received.0),
+        issued: all_issued,
+        received: all_received,
     }
 }
 
@@ -162,8 +164,11 @@ fn judge(b: Bounds, s: &[u32], sums: &[u32], p: u32, k: u32) -> Look
     let own_sent = Sent(sums[k as usize]);
     let own_taken = Taken(sums[(p + k) as usize]);
     let last = k + 1 == p;
+    let ok = most < 2 && sent.0 <= limit && taken.0 <= limit;
+    let issued = totals.issued;
+    let received = totals.received;
     Look {
-        ok: most < 2 && sent.0 <= limit && taken.0 <= limit,
+        ok: ok,
         clause: clause_by(
             own_sent,
             taken,
@@ -171,10 +176,10 @@ fn judge(b: Bounds, s: &[u32], sums: &[u32], p: u32, k: u32) -> Look
             sent,
             most,
             last,
-            totals.issued,
-            totals.received,
+            issued,
+            received,
         ),
-        received: totals.received,
+        received: received,
     }
 }
 

@@ -78,9 +78,6 @@ module _ (e : tie.Else1) where
   here : Framed ws sums (start .args .p) (start .args .k)
   here = framed ws sums (start .args .p) (start .args .k) fits
 
-read-mark : tie.Need-shared-slice-read-if2
-read-mark c = omega (arith, here (c .before) .long)
-
 returns-2 : tie.Need-returns-2
 returns-2 c =
     let e = c .before .before .before in
@@ -101,5 +98,5 @@ returns-3 c =
 pub look-at-spec : {M : Type 1} → statement M
 look-at-spec =
     tie.close
-    (tie.spec (λ c κs. search needs) (λ c κs. search needs) returns read-mark (λ c κs. search needs) returns-2 judge-requires
+    (tie.spec (λ c κs. search needs) (λ c κs. search needs) returns (λ c. omega (arith, here (c .before) .long)) (λ c κs. search needs) returns-2 judge-requires
     returns-3)
