@@ -31,15 +31,15 @@ shellAtMost limit own x most m = both (atMost limit own x most (sentIn m)) (atMo
 abbrev pub totalsAtMost : ℕ → (Field → ℕ) → Stored → ℕ → Bool
 totalsAtMost limit own x most = both (atMost limit own x most allSent) (atMost limit own x most allTaken)
 
--- the larger of both numbers of shell m: at most a number where both are
+-- the larger excess of shell m: at most a number where both are
 abbrev pub ShellWeighed : ℕ → ℕ → (Field → ℕ) → Stored → ℕ → Type 0
 ShellWeighed limit m own x r = (most : ℕ) → leb r most ≡ shellAtMost limit own x most m
 
--- the largest of the shells above k, likewise
+-- the largest excess of the shells above k, likewise
 abbrev pub Weighed : ℕ → ℕ → ℕ → (Field → ℕ) → Stored → ℕ → Type 0
 Weighed limit p k own x r = (most : ℕ) → leb r most ≡ every (suc k) (p - suc k) (shellAtMost limit own x most)
 
--- the larger of both totals, likewise, and their sums where it is 0
+-- the larger excess of the totals, likewise, and their sums where it is 0
 pub record TotalsAdded (limit : ℕ) (own : Field → ℕ) (x : Stored) (r : Totals) : Type 0 where
   pub excess : (most : ℕ) → leb (r .excess) most ≡ totalsAtMost limit own x most
   pub issued : r .excess ≡ 0 → r .issued .0 ≡ own allSent + number x allSent

@@ -32,25 +32,25 @@ fn no_look() -> Look
 
 // ---- The excess of a number beside its sum: 0 where the sum with it is within the limit, 1 where it alone is, else 2
 
-fn sent_excess(own: Sent, more: Sent, limit: u32) -> u32
-    ensures { λ r. ⌜ r ≡ excess limit (own .0) (more .0) ⌝ }
+fn sent_excess(own: Sent, sent: Sent, limit: u32) -> u32
+    ensures { λ r. ⌜ r ≡ excess limit (own .0) (sent .0) ⌝ }
 {
-    if limit < more.0 {
+    if limit < sent.0 {
         return 2;
     }
-    if limit - more.0 < own.0 {
+    if limit - sent.0 < own.0 {
         return 1;
     }
     0
 }
 
-fn taken_excess(own: Taken, more: Taken, limit: u32) -> u32
-    ensures { λ r. ⌜ r ≡ excess limit (own .0) (more .0) ⌝ }
+fn taken_excess(own: Taken, taken: Taken, limit: u32) -> u32
+    ensures { λ r. ⌜ r ≡ excess limit (own .0) (taken .0) ⌝ }
 {
-    if limit < more.0 {
+    if limit < taken.0 {
         return 2;
     }
-    if limit - more.0 < own.0 {
+    if limit - taken.0 < own.0 {
         return 1;
     }
     0
@@ -105,10 +105,12 @@ fn add_totals(limit: u32, s: &[u32], sums: &[u32], p: u32, k: u32) -> Totals
             received: Taken(0),
         };
     }
+    let all_issued = Sent(own_issued.0 + issued.0);
+    let all_received = Taken(own_received.0 + received.0);
     Totals {
         excess: 0,
-        issued: Sent(own_issued.0 + issued.0),
-        received: Taken(own_received.0 + received.0),
+        issued: all_issued,
+        received: all_received,
     }
 }
 
@@ -162,8 +164,11 @@ fn judge(b: Bounds, s: &[u32], sums: &[u32], p: u32, k: u32) -> Look
     let own_sent = Sent(sums[k as usize]);
     let own_taken = Taken(sums[(p + k) as usize]);
     let last = k + 1 == p;
+    let ok = most < 2 && sent.0 <= limit && taken.0 <= limit;
+    let issued = totals.issued;
+    let received = totals.received;
     Look {
-        ok: most < 2 && sent.0 <= limit && taken.0 <= limit,
+        ok: ok,
         clause: clause_by(
             own_sent,
             taken,
@@ -171,10 +176,10 @@ fn judge(b: Bounds, s: &[u32], sums: &[u32], p: u32, k: u32) -> Look
             sent,
             most,
             last,
-            totals.issued,
-            totals.received,
+            issued,
+            received,
         ),
-        received: totals.received,
+        received: received,
     }
 }
 

@@ -68,11 +68,13 @@ fn first_ok(s: &[u32], limit: u32, awaits: bool) -> bool
 fn tested(walked: Walked, ok: bool) -> Walked
     ensures { λ r. ⌜ r ≡ record { ok = ok; issued = walked .issued; clause = walked .clause; received = walked .received } ⌝ }
 {
+    let issued = walked.issued;
+    let received = walked.received;
     Walked {
         ok: ok,
-        issued: walked.issued,
+        issued: issued,
         clause: walked.clause,
-        received: walked.received,
+        received: received,
     }
 }
 
@@ -93,6 +95,7 @@ fn first_step(
         ⌜ FirstStep (limitsOf b) (now (s .entry)) p k awaits past walked (now (sums .entry)) (now (sums .exit)) r ⌝ }
 {
     let mut clause = walked.clause;
+    let issued = walked.issued;
     if awaits {
         if k < past.firsts {
             return tested(walked, pass_one::pass_step(b, s, sums, p, k));
@@ -100,22 +103,24 @@ fn first_step(
         if k == past.look {
             if s[0] == 1 {
                 let look = look::look_at(b, s, &*sums, p, k);
+                let total = look.received;
                 return Walked {
                     ok: look.ok,
-                    issued: walked.issued,
+                    issued: issued,
                     clause: look.clause,
-                    received: look.received,
+                    received: total,
                 };
             }
             // no frame is stored
             clause = 0;
         }
     }
+    let received = walked.received;
     Walked {
         ok: first_ok(s, base::field_limit(b), awaits),
-        issued: walked.issued,
+        issued: issued,
         clause: clause,
-        received: walked.received,
+        received: received,
     }
 }
 
@@ -127,11 +132,12 @@ fn confirmed(walked: Walked, more: Sent, clause: u32) -> Walked
     if clause != 7 {
         return tested(walked, false);
     }
+    let received = walked.received;
     Walked {
         ok: true,
         issued: Sent(walked.issued.0 + more.0),
         clause: walked.clause,
-        received: walked.received,
+        received: received,
     }
 }
 
@@ -149,35 +155,33 @@ fn second_step(
     requires { ⌜ (length (now s) ≡ secondWords) × (k < p) ⌝ }
     ensures { λ r. ⌜ SecondStep (limitsOf b) (now (s .entry)) p k awaits past walked agreed r ⌝ }
 {
+    let more = Sent(s[layout::SECOND_ISSUED as usize]);
     let frame = Confirmed {
         mark: s[0],
         agreed: s[layout::SECOND_AGREED as usize],
-        issued: Sent(s[layout::SECOND_ISSUED as usize]),
+        issued: more,
     };
+    let issued = walked.issued;
     let mut clause = walked.clause;
     if awaits {
         if k < past.seconds {
             return confirmed(
                 walked,
-                frame.issued,
-                pass_two::clause(b, frame, k + 1 == p, walked.issued, agreed),
+                more,
+                pass_two::clause(b, frame, k + 1 == p, issued, agreed),
             );
         }
         if k == past.confirm {
-            clause = pass_two::clause(b, frame, k + 1 == p, walked.issued, agreed);
+            clause = pass_two::clause(b, frame, k + 1 == p, issued, agreed);
         }
     }
+    let limit = base::field_limit(b);
+    let received = walked.received;
     Walked {
-        ok: scan_tests::may_confirm(
-            frame.mark,
-            frame.agreed,
-            frame.issued,
-            awaits,
-            base::field_limit(b),
-        ),
-        issued: walked.issued,
+        ok: scan_tests::may_confirm(frame.mark, frame.agreed, more, awaits, limit),
+        issued: issued,
         clause: clause,
-        received: walked.received,
+        received: received,
     }
 }
 
@@ -275,18 +279,20 @@ fn scan_steps(
     ensures { λ r. ⌜ ScannedOn (limitsOf b) looks (now (s .entry)) (now (sums .entry)) (now (sums .exit)) r ⌝ }
 {
     let walked = walk(b, s, &mut *sums, spot, looks, sends);
-    let received = Taken(sums[(2 * spot.dims + layout::RECEIVED) as usize]);
-    if !scan_tests::total_ok(walked.ok, spot.pass, spot.agreed, received) {
+    let taken = Taken(sums[(2 * spot.dims + layout::RECEIVED) as usize]);
+    if !scan_tests::total_ok(walked.ok, spot.pass, spot.agreed, taken) {
         return no_scan();
     }
+    let issued = walked.issued;
+    let received = walked.received;
     Scan {
         ok: true,
         dims: spot.dims,
         sends: sends,
         takes: takes,
-        issued: walked.issued,
+        issued: issued,
         clause: walked.clause,
-        received: walked.received,
+        received: received,
     }
 }
 

@@ -1,3 +1,4 @@
+pub mod Lent
 pub mod Settled
 pub mod Stepping
 pub mod Walking

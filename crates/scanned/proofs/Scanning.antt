@@ -11,11 +11,12 @@ use lib.ListN.{length}
 use borrow.Author.Tests.{lt-ltb, le-ltb, le-leb, eq-eqb, ltb-true, leb-true}
 use Rattle.base.specs.Choice.{choose, both}
 use Rattle.base.specs.Limits.{Limits, fieldLimit, takenLimit, Fits, width}
-use Rattle.base.proofs.Laws.{choose-yes, choose-no, both-true, both-make, every-at, every-make}
+use Rattle.base.proofs.Laws.{clash, choose-yes, choose-no, both-true, both-make, every-at, every-make}
 use Rattle.frame.specs.Frame.{sentNumber, takenNumber, sentAt, takenAt}
 use Rattle.node.specs.Sums.{dims, Field, Has, sentIn, takenIn, allSent, allTaken, tally, total, own, ownIssued}
 use Rattle.node.specs.State.{talliesOk, valid}
 use Rattle.node.specs.declared.Node.{Node}
+use Rattle.node.proofs.Totals.{total-same}
 use Rattle.node.proofs.Valid.{valid-known}
 use Rattle.survey.specs.declared.Spot.{Spot}
 use Rattle.survey.specs.Pieces.{totalTest}
@@ -33,21 +34,28 @@ use Rattle.head.specs.Head.{spotIn}
 use Rattle.head.proofs.Heads.{dims-is, Passing}
 use Rattle.gather.specs.Gather.{sentTotal, takenTotal, Started}
 use Rattle.gather.proofs.Room.{Tallied}
-use Rattle.scanned.specs.Scan.{passes, noScan, scanned, Gathered}
+use Rattle.scanned.specs.Scan.{passes, noScan, Gathered}
 use Rattle.scan_tests.specs.Tests.{totalTested}
-use Rattle.scanned.specs.Pieces.{stepIn, Walking, WalkedAll, Scanned}
+use Rattle.scanned.specs.Pieces.{stepIn, Walking, WalkedAll, ScannedOn}
 use Rattle.scanned.specs.declared.Scan.{Scan}
-use Rattle.pass_two.specs.declared.Passed.{Passed}
+use Rattle.scanned.specs.declared.Walked.{Walked}
 
-pub missed : (L : Limits) (ws before after : List ℕ) (r : Scan) → passes L (length before) ws ≡ false → r ≡ noScan
-    → length after ≡ length before → Scanned L ws before after r
-unfolding scanned
-missed L ws before after r e a b = (a ∙ sym (choose-no _ _ e), ((λ q. not-both q e), b))
-
--- totals of equal summands
-total-same : (f g : ℕ → ℕ) (p : ℕ) → ((m : ℕ) → m < p → f m ≡ g m) → total f p ≡ total g p
-total-same f g zero h = refl
-total-same f g (suc p) h = rw (total-same f g p (λ m l. h m (omega arith)), h p (omega arith))
+pub missed : (L : Limits) (looks : Bool) (ws before after : List ℕ) (r : Scan) → passes L (length before) ws ≡ false
+    → r ≡ noScan → length after ≡ length before → ScannedOn L looks ws before after r
+missed L looks ws before after r e a b =
+    let bad : r .ok ≡ false = ap (λ (s : Scan). s .ok) a in (
+      record {
+        ok = bad ∙ sym e;
+        none = λ q. a;
+        sends = λ q. not-both q bad;
+        takes = λ q. not-both q bad;
+        issued = λ q. not-both q bad;
+        clause = λ q. not-both q bad;
+        received = λ q. not-both q bad;
+        dims = λ q. not-both q bad;
+      },
+      ((λ q. not-both q e), b),
+    )
 
 module _ (L : Limits) (room : ℕ) (ws : List ℕ) where
   not-passing : (isWhole L ws ≡ true → valid L (unpacked ws) ≡ true → sumWords (dimsOf ws) ≤ room → ⊥)
@@ -191,10 +199,10 @@ module _ (L : Limits) (fit : Fits L) (room : ℕ) (ws : List ℕ) (head : Passin
         (both-make (lt-ltb _ _ (q .first k (omega (arith, dims-is ws))))
         (lt-ltb _ _ (q .second k (omega (arith, dims-is ws)))))
 
-    step-fails : (start after : List ℕ) (r : Passed) → WalkedAll L ws start after r → r .ok ≡ false
+    step-fails : (looks : Bool) (start after : List ℕ) (r : Walked) → WalkedAll L ws looks start after r → r .ok ≡ false
         → passes L room ws ≡ false
     unfolding stepIn
-    step-fails start after r w e =
+    step-fails looks start after r w e =
         not-passing L room ws
         (λ u v s.
         not-both
@@ -204,7 +212,7 @@ module _ (L : Limits) (fit : Fits L) (room : ℕ) (ws : List ℕ) (head : Passin
         (whole-step L n (head .board) k (omega (arith, equal, few-dims)) (survey.whole L n v))))
         (sym (w .ok) ∙ e))
 
-    module _ (start after : List ℕ) (r : Passed) (w : WalkedAll L ws start after r) (ok : r .ok ≡ true) where
+    module _ (looks : Bool) (start after : List ℕ) (r : Walked) (w : WalkedAll L ws looks start after r) (ok : r .ok ≡ true) where
       steps : (k : ℕ) → k < dims n → (isMarked ws (dims n) k ≡ true) × (stepAt L n k ≡ true)
       unfolding stepIn
       steps k l =
@@ -283,28 +291,36 @@ module _ (L : Limits) (fit : Fits L) (room : ℕ) (ws : List ℕ) (head : Passin
 
         pub scanned-all : (before : List ℕ) → length before ≡ room → length after ≡ length before → (x y : ℕ)
             → x ≡ sentTotal p ws → y ≡ takenTotal p ws
-            → Scanned L ws before after
-            (record { ok = true; dims = p; sends = sentNumber x; takes = takenNumber y; issued = r .issued })
-        unfolding scanned
+            → ScannedOn L looks ws before after
+            (record {
+              ok = true;
+              dims = p;
+              sends = sentNumber x;
+              takes = takenNumber y;
+              issued = r .issued;
+              clause = r .clause;
+              received = r .received;
+            })
         scanned-all before q len x y a b = (
-          (λ i.
-              record {
-                ok = true;
-                dims = equal i;
-                sends = sentNumber ((a ∙ sends-are) i);
-                takes = takenNumber ((b ∙ takes-are) i);
-                issued = sentNumber (w .issued ok i);
-              })
-              ∙ sym (choose-yes _ _ (ap (λ m. passes L m ws) q ∙ passing)),
+          record {
+            ok = sym (ap (λ m. passes L m ws) q ∙ passing);
+            none = λ e. clash e;
+            sends = λ e. a ∙ sends-are;
+            takes = λ e. b ∙ takes-are;
+            issued = λ e. w .issued ok;
+            clause = λ e. w .clause ok;
+            received = λ e. w .received ok;
+            dims = λ e. equal;
+          },
           ((λ u. w .sums ok), len),
         )
 
     -- a step fails, or T does
-    pub settled-not : (start after : List ℕ) (r : Passed) → WalkedAll L ws start after r
+    pub settled-not : (looks : Bool) (start after : List ℕ) (r : Walked) → WalkedAll L ws looks start after r
         → both (r .ok) (totalTested (here .pass) (here .agreed) (word after (sumReceived p))) ≡ false
         → passes L room ws ≡ false
-    settled-not start after r w e = go (r .ok) refl
+    settled-not looks start after r w e = go (r .ok) refl
       where
         go : (t : Bool) → r .ok ≡ t → passes L room ws ≡ false
-        go true q = total-fails start after r w q (rw q at e)
-        go false q = step-fails start after r w q
+        go true q = total-fails looks start after r w q (rw q at e)
+        go false q = step-fails looks start after r w q

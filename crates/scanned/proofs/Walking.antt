@@ -1,154 +1,55 @@
--- The walk over the stored frames: before dimension k the sums are the own sums for k, or for the position once that is
--- passed, they are within the limit, and the words of dimension k begin where the walk is.
-use mathlib.Core.Path.{_≡_, refl, sym, ap, _∙_}
+-- The walk over the stored frames carries its definition: from dimension to dimension, with what a step does.
+use mathlib.Core.Path.{_≡_, refl, sym, ap, _∙_, subst}
 use mathlib.Core.Bool.{Bool, true, false, not}
 use mathlib.Core.List.{List}
 use Prim.Native.Nat.{ℕ, suc, _+_, _-_, _*_, _≤_, _<_, min}
-use native.Mathlib.Decide.{decLt}
-use native.Mathlib.Nat.{add-zero}
+use native.Mathlib.Decide.{decLt, ℕ-discrete}
 use native.Mathlib.Numerals.{add-one}
 use native.Mathlib.Omega.{arith}
 use lib.Dec.{eqb, ltb}
 use lib.ListN.{length}
 use borrow.Author.Count.{below-more}
-use borrow.Author.Tests.{lt-ltb, le-ltb, ltb-true, eqb-true, not-true}
+use borrow.Author.Tests.{lt-ltb, le-ltb, ltb-true, eq-eqb, ne-eqb, eqb-true, not-true}
 use Rattle.base.specs.Choice.{choose, both, either, every}
 use Rattle.base.specs.Limits.{Limits, fieldLimit, takenLimit, Fits, width}
-use Rattle.base.proofs.Laws.{choose-yes, choose-no, both-true, every-at, every-make}
+use Rattle.base.proofs.Laws.{choose-yes, choose-no, both-true, both-make, every-at, every-make}
 use Rattle.base.proofs.Limits.{mul-low}
 use Rattle.tree.specs.Lookups.{badBoard}
 use Rattle.tree.proofs.Lookups.{board-good}
 use Rattle.frame.specs.Frame.{sentAt, takenAt}
 use Rattle.frame.specs.declared.Sent.{Sent}
-use Rattle.node.specs.Sums.{dims, firstAt, secondAt, Field, sentIn, takenIn, allSent, allTaken, number, tally}
+use Rattle.frame.specs.declared.Taken.{Taken}
+use Rattle.node.specs.Sums.{dims, firstAt, secondAt, Field, Has, sentIn, takenIn, allSent, allTaken, number, tally}
 use Rattle.node.specs.Sums.{own, ownIssued}
-use Rattle.node.specs.Agree.{firstClauses, secondClauses, allHold}
+use Rattle.node.specs.Agree.{isAlone, firstClauses, secondClauses, clauses, allHold, firstFailing}
 use Rattle.node.specs.State.{boardOk, positionOk, talliesOk}
 use Rattle.node.specs.declared.Stored.{Stored}
 use Rattle.node.specs.declared.Confirm.{Confirm}
 use Rattle.node.specs.declared.Node.{Node}
-use Rattle.node.specs.Sums.{Has}
 use Rattle.node.proofs.Clauses.{has-lower}
 use Rattle.node.proofs.Totals.{total-at}
 use Rattle.survey.specs.Pieces.{firstTest, secondTest, awaitsAt, firstPast, secondPast, firstHeld, secondHeld, stepTest}
 use Rattle.survey.specs.declared.Spot.{Spot}
 use Rattle.survey.proofs.Valid.{fails, not-both}
-use Rattle.survey.proofs.Sums.{own-more, issued-more, sends-low, takes-low}
-use Rattle.survey.proofs.Steps.{few, clauses-same}
+use Rattle.survey.proofs.Sums.{own-more, sends-low, takes-low, first-test, second-test}
+use Rattle.survey.proofs.Stored.{first-same, second-same}
+use Rattle.survey.proofs.Steps.{few, clauses-same, awaits-same}
 use Rattle.survey.proofs.Tested.{stepAt, step-first, step-second}
 use Rattle.layout.specs.Places.{headWords, firstWords, secondWords, atFirst, atSecond, confirmedPlace}
-use Rattle.layout.specs.Held.{word, firstFrom, secondFrom, firstIn, secondIn, sumOf, unpacked, isMarked}
-use Rattle.layout.proofs.Offsets.{first-more}
-use Rattle.layout.proofs.Reading.{first-word, second-word, first-in, second-in}
+use Rattle.layout.specs.Held.{word, firstFrom, secondFrom, sumOf, unpacked, isMarked}
+use Rattle.layout.proofs.Offsets.{first-more as place-more}
 use Rattle.head.specs.Head.{spotIn}
-use Rattle.head.proofs.Heads.{dims-is}
-use Rattle.scanned.specs.Scan.{reach, confirmReach, Gathered}
-use Rattle.scanned.specs.Pieces.{Standing, Summed, firstWhole, secondWhole, FirstDone, SecondDone, stepIn}
-use Rattle.scanned.specs.Pieces.{Told, Stepped, Walking, WalkedAll}
-use Rattle.pass_two.specs.declared.Passed.{Passed}
-use Rattle.scanned.proofs.Stepping.{has-room, sums-within, issued-within}
-
--- ---- the frames of a dimension, by the walk's place
-
-module _ (ws : List ℕ) (k : ℕ) (low : k < dims (unpacked ws)) (bound : dims (unpacked ws) ≤ width) where
-  first-is : firstAt (unpacked ws) k ≡ firstFrom ws (dims (unpacked ws)) k (atFirst (dims (unpacked ws)) k)
-  first-is =
-      first-word ws k (omega arith)
-      ∙ ap (λ p. firstIn ws p k) (sym (dims-is ws))
-      ∙ first-in ws (dims (unpacked ws)) k low
-
-  second-is : secondAt (unpacked ws) k ≡ secondFrom ws (atSecond (dims (unpacked ws)) k)
-  second-is =
-      second-word ws k (omega arith)
-      ∙ ap (λ p. secondIn ws p k) (sym (dims-is ws))
-      ∙ second-in ws (dims (unpacked ws)) k low
-
--- ---- the position
-
-module _ (n : Node) where
-  dim-low : positionOk n ≡ true → n .dim ≤ dims n
-  unfolding positionOk
-  dim-low = go (eqb (dims n) 0)
-    where
-      go : (t : Bool)
-          → choose t (both (eqb (n .pass) 1) (eqb (n .dim) 0))
-          (both (either (eqb (n .pass) 1) (eqb (n .pass) 2)) (ltb (n .dim) (dims n)))
-          ≡ true
-          → n .dim ≤ dims n
-      go true e = let q = eqb-true (n .dim) 0 (both-true (eqb (n .pass) 1) (eqb (n .dim) 0) e .1) in omega arith
-      go false e =
-          let q = ltb-true (n .dim) (dims n)
-          (both-true (either (eqb (n .pass) 1) (eqb (n .pass) 2)) (ltb (n .dim) (dims n)) e .1) in
-          omega arith
-
-  reach-low : positionOk n ≡ true → reach n ≤ dims n
-  reach-low e = let l = dim-low e in go (eqb (n .pass) 1)
-    where
-      go : (t : Bool) → choose t (n .dim) (dims n) ≤ dims n
-      go true = dim-low e
-      go false = omega arith
-
-  confirm-reach-low : positionOk n ≡ true → confirmReach n ≤ dims n
-  confirm-reach-low e = go (eqb (n .pass) 1)
-    where
-      go : (t : Bool) → choose t 0 (n .dim) ≤ dims n
-      go true = omega arith
-      go false = dim-low e
-
-module _ (s : Spot) (k : ℕ) where
-  awaited : k < s .dims → awaitsAt s k ≡ not (both (eqb k 0) (s .alone))
-  unfolding awaitsAt
-  awaited l = ap (λ t. both t (not (both (eqb k 0) (s .alone)))) (lt-ltb k (s .dims) l)
-
-  first-reach : k < s .dims → firstPast s k ≡ ltb k (choose (eqb (s .pass) 1) (s .dim) (s .dims))
-  first-reach l = go (eqb (s .pass) 1)
-    where
-      go : (t : Bool) → either (not t) (ltb k (s .dim)) ≡ ltb k (choose t (s .dim) (s .dims))
-      go true = refl
-      go false = sym (lt-ltb k (s .dims) l)
-
-  second-reach : secondPast s k ≡ ltb k (choose (eqb (s .pass) 1) 0 (s .dim))
-  second-reach = go (eqb (s .pass) 1)
-    where
-      go : (t : Bool) → both (not t) (ltb k (s .dim)) ≡ ltb k (choose t 0 (s .dim))
-      go true = sym (le-ltb k 0 (omega arith))
-      go false = refl
-
-  -- what the walk hands to a step
-  module _ (low : k < s .dims) (awaits : Bool) (a : awaits ≡ not (both (eqb k 0) (s .alone))) (tried : Bool) where
-    told : (past : Bool) (steps : ℕ) → past ≡ ltb k steps → tried ≡ both awaits (ltb k steps)
-        → Told s (s .dims) k awaits past tried
-    told past steps e t =
-        record {
-          dims = refl;
-          awaits = awaited low ∙ sym a;
-          tried = (λ i. both ((awaited low ∙ sym a) i) (e i)) ∙ sym t;
-        }
-
-    pub first-told : (steps : ℕ) → steps ≡ choose (eqb (s .pass) 1) (s .dim) (s .dims)
-        → tried ≡ both awaits (ltb k steps) → Told s (s .dims) k awaits (firstPast s k) tried
-    first-told steps e = told (firstPast s k) steps (first-reach low ∙ ap (ltb k) (sym e))
-
-    pub second-told : (steps : ℕ) → steps ≡ choose (eqb (s .pass) 1) 0 (s .dim) → tried ≡ both awaits (ltb k steps)
-        → Told s (s .dims) k awaits (secondPast s k) tried
-    second-told steps e = told (secondPast s k) steps (second-reach ∙ ap (ltb k) (sym e))
-
--- a sum that grows up to a place: one step more
-grown : (f : ℕ → ℕ) (r k x y : ℕ) (t : Bool) → t ≡ ltb k r → x ≡ f (min k r) → (k < r → f (suc k) ≡ f k + y)
-    → x + choose t y 0 ≡ f (min (k + 1) r)
-grown f r k x y t e a more = ap (λ u. x + choose u y 0) e ∙ go (decLt k r)
-  where
-    go : Dec (k < r) → x + choose (ltb k r) y 0 ≡ f (min (k + 1) r)
-    go (yes l) =
-        let u : min k r ≡ k = omega arith in
-        let v : suc k ≡ min (k + 1) r = omega arith in
-        ap (λ z. x + z) (choose-yes y 0 (lt-ltb k r l))
-        ∙ ap (λ z. z + y) (a ∙ ap f u)
-        ∙ sym (more l)
-        ∙ ap f v
-    go (no l) =
-        let u : min k r ≡ min (k + 1) r = omega arith in
-        ap (λ z. x + z) (choose-no y 0 (le-ltb k r (omega arith))) ∙ add-zero x ∙ a ∙ ap f u
+use Rattle.walked.specs.Walk.{reach, confirmReach, firstAdds, secondAdds, walked}
+use Rattle.walked.proofs.Walked.{walked-sums, walked-issued, first-more, second-more}
+use Rattle.walked.proofs.Walked.{dim-low, reach-low, confirm-reach-low}
+use Rattle.adding.specs.Adding.{Framed}
+use Rattle.scanned.specs.Scan.{clauseHere, Gathered}
+use Rattle.scanned.specs.Pieces.{Summed, firstWhole, secondWhole, looksAt, pastOf, FirstDone, SecondDone, Steps, Stepped}
+use Rattle.scanned.specs.Pieces.{stepIn, Walking, isSeen, Carries, WalkedAll}
+use Rattle.scanned.specs.declared.Walked.{Walked}
+use Rattle.scanned.specs.declared.Past.{Past}
+use Rattle.scanned.proofs.Lent.{firstLent, secondLent, first-long, second-long, first-mark, second-mark, first-is, second-is}
+use Rattle.scanned.proofs.Stepping.{has-room, first-reach, second-reach, sums-within}
 
 -- ---- the parts of a step are the step
 
@@ -238,131 +139,208 @@ module _ (L : Limits) (n : Node) (board : boardOk L n ≡ true) (ok : talliesOk 
       go a b allSent h = omega (arith, sends-low L n ok)
       go a b allTaken h = omega (arith, takes-low L n ok)
 
--- ---- before dimension k
+-- ---- the step that is looked at
 
-pub record Held (L : Limits) (ws start : List ℕ) (k at : ℕ) (l : List ℕ) (x : ℕ) : Type 0 where
-  pub low : k ≤ dims (unpacked ws)
-  pub place : at ≡ atFirst (dims (unpacked ws)) k
-  pub length : length l ≡ length start
-  pub sums : Gathered (unpacked ws) (min k (reach (unpacked ws))) l
-  pub within : (f : Field) → Has (dims (unpacked ws)) (min k (reach (unpacked ws))) f
-      → sumOf (dims (unpacked ws)) l f ≤ fieldLimit L
-  pub issued : x ≡ ownIssued (unpacked ws) (min k (confirmReach (unpacked ws)))
-  pub issued-low : x ≤ fieldLimit L
-  pub steps : (j : ℕ) → j < k → stepIn L ws j ≡ true
+-- what does not hold
+away : (a : Bool) {b : Bool} → b ≡ false → both a b ≡ false
+away true e = e
+away false e = refl
 
-pub held-start : (L : Limits) (ws start : List ℕ) (here : Spot) (x : ℕ) → Walking L ws start here x
-    → Held L ws start 0 (headWords + 2 * here .dims) start x
-unfolding atFirst own ownIssued
-held-start L ws start here x w =
+-- no step of the board is past its last
+none-there : (a : Bool) (k p : ℕ) → k < p → both a (eqb k p) ≡ false
+none-there a k p l = away a (ne-eqb k p (λ e. omega arith))
+
+-- one step more: at the position the clause is said
+seen-more : (looks awaits alone : Bool) (dim k said : ℕ) → (k ≡ dim → awaits ≡ not alone)
+    → choose (both looks (both awaits (eqb k dim))) said (choose (both looks (ltb dim k)) (choose alone 7 said) 7)
+    ≡ choose (both looks (ltb dim (k + 1))) (choose alone 7 said) 7
+seen-more false awaits alone dim k said e = refl
+seen-more true awaits alone dim k said e = go (ℕ-discrete k dim) (decLt dim k)
+  where
+    here : (a b : Bool) → a ≡ not b → choose (both a true) said 7 ≡ choose b 7 said
+    here a true q = ap (λ t. choose (both t true) said 7) q
+    here a false q = ap (λ t. choose (both t true) said 7) q
+
+    go : Dec (k ≡ dim) → Dec (dim < k)
+        → choose (both awaits (eqb k dim)) said (choose (ltb dim k) (choose alone 7 said) 7)
+        ≡ choose (ltb dim (k + 1)) (choose alone 7 said) 7
+    go (yes q) l =
+        rw (eq-eqb k dim q, le-ltb dim k (omega arith), lt-ltb dim (k + 1) (omega arith)) (here awaits alone (e q))
+    go (no q) (yes l) =
+        rw (away awaits (ne-eqb k dim q), lt-ltb dim k l, lt-ltb dim (k + 1) (omega arith)) refl
+    go (no q) (no l) =
+        rw (away awaits (ne-eqb k dim q), le-ltb dim k (omega arith), le-ltb dim (k + 1) (omega arith)) refl
+
+-- a test at the dimension that is looked at, which is no dimension where none is
+at-dim : (looks awaits : Bool) (dim k p a said b : ℕ) → k < p → (looks ≡ true → k ≡ dim → a ≡ said)
+    → choose (both awaits (eqb k (choose looks dim p))) a b ≡ choose (both looks (both awaits (eqb k dim))) said b
+at-dim false awaits dim k p a said b l e = choose-no a b (none-there awaits k p l)
+at-dim true awaits dim k p a said b l e = go (ℕ-discrete k dim)
+  where
+    go : Dec (k ≡ dim) → choose (both awaits (eqb k dim)) a b ≡ choose (both awaits (eqb k dim)) said b
+    go (yes q) = ap (λ z. choose (both awaits (eqb k dim)) z b) (e refl q)
+    go (no q) = rw (away awaits (ne-eqb k dim q)) refl
+
+-- ---- before the first dimension
+
+pub carries-start : (L : Limits) (ws start : List ℕ) (here : Spot) (x : Sent) (looks : Bool) → Walking L ws start here (x .0)
+    → (w : Walked) → w .issued ≡ x → w .clause ≡ 7 → Carries L ws start looks 0 (headWords + 2 * here .dims) start w
+unfolding atFirst own ownIssued walked
+carries-start L ws start here x looks h w i c =
     let z : (r : ℕ) → 0 ≡ min 0 r = λ r. omega arith in
     let n = unpacked ws in
+    let unseen : isSeen n looks 0 ≡ false = nothing looks (n .dim) in
     record {
       low = omega arith;
-      place = ap (λ (s : Spot). headWords + 2 * s .dims) (w .spot);
+      place = ap (λ (s : Spot). headWords + 2 * s .dims) (h .spot);
       length = refl;
-      sums = λ f h. w .sums f (rw (sym (z (reach n))) at h) ∙ ap (λ j. own n j f) (z (reach n));
-      within = λ f h.
-          let g : Has (dims n) 0 f = rw (sym (z (reach n))) at h in
-          omega (arith, w .sums f g, tally-low L n (w .board) (w .tallies) f g);
-      issued = w .sends ∙ ap (ownIssued n) (z (confirmReach n));
-      issued-low = omega (arith, w .sends, tally-low L n (w .board) (w .tallies) allSent tt);
+      holds =
+          record {
+            sums = λ f q. h .sums f (rw (sym (z (reach n))) at q);
+            issued = ap (λ (y : Sent). y .0) i ∙ h .sends;
+          };
+      within = λ f q.
+          let g : Has (dims n) 0 f = rw (sym (z (reach n))) at q in
+          omega (arith, h .sums f g, tally-low L n (h .board) (h .tallies) f g);
       steps = λ j l. absurd (omega arith);
+      clause = c ∙ sym (choose-no _ _ unseen);
+      received = λ q. not-both q unseen;
     }
+  where
+    nothing : (t : Bool) (d : ℕ) → both t (ltb d 0) ≡ false
+    nothing true d = le-ltb d 0 (omega arith)
+    nothing false d = refl
 
-module _ (L : Limits) (fit : Fits L) (ws start : List ℕ) (here : Spot) (sends : ℕ) (w : Walking L ws start here sends)
-    (k at : ℕ) (sums : List ℕ) (issued : ℕ) (held : Held L ws start k at sums issued) where
+-- ---- at dimension k
+
+module _ (L : Limits) (fit : Fits L) (ws start : List ℕ) (here : Spot) (sends : ℕ) (h : Walking L ws start here sends)
+    (looks : Bool) (k at : ℕ) (sums : List ℕ) (w : Walked) (c : Carries L ws start looks k at sums w) where
   abbrev n : Node
   n = unpacked ws
 
-  bound : dims n ≤ width
-  bound = few L fit n (w .board)
+  abbrev p : ℕ
+  p = dims n
 
-  module _ (l : k < dims n) where
+  abbrev spot : Spot
+  spot = spotIn L ws
+
+  bound : p ≤ width
+  bound = few L fit n (h .board)
+
+  -- the sums are the own sums of the dimension, up to the position's
+  own-here : k ≤ reach n → (f : Field) → Has p k f → sumOf p sums f ≡ own n k f
+  own-here l f q =
+      let u : min k (reach n) ≡ k = omega arith in
+      c .holds .sums f (rw (sym u) at q) ∙ walked-sums n k f ∙ ap (λ j. own n j f) u
+
+  issued-here : k ≤ confirmReach n → w .issued .0 ≡ ownIssued n k
+  issued-here l =
+      let u : min k (confirmReach n) ≡ k = omega arith in
+      c .holds .issued ∙ walked-issued n k ∙ ap (ownIssued n) u
+
+  module _ (l : k < p) where
+    abbrev fs : List ℕ
+    fs = firstLent ws p k
+
+    abbrev ss : List ℕ
+    ss = secondLent ws p k
+
+    abbrev x : Stored
+    x = firstFrom fs p k 0
+
+    abbrev y : Confirm
+    y = secondFrom ss 0
+
+    x-is : firstAt n k ≡ x
+    x-is = first-is ws k l bound (h .long)
+
+    y-is : secondAt n k ≡ y
+    y-is = second-is ws k l bound (h .long)
+
     -- what the step is handed
-    standing' : Standing (dims n) k ws
-    standing' = record { low = l; few = bound; long = w .long }
+    framed : Framed fs sums p k
+    framed =
+        record {
+          low = l;
+          few = bound;
+          long = first-long ws k l bound (h .long);
+          wide = omega (arith, c .length, h .room);
+        }
 
-    pub standing : Standing (here .dims) k ws
-    standing = rw (w .spot) standing'
-
-    pub summed : firstPast here k ≡ true → Summed L (here .dims) k sums
-    summed = rw (w .spot) core
+    pub handed : Steps L fs ss sums here (pastOf here looks) k
+    handed = rw (h .spot) core
       where
-        core : firstPast (spotIn L ws) k ≡ true → Summed L (dims n) k sums
-        core e =
-            let r = ltb-true k (reach n) (sym (first-reach (spotIn L ws) k l) ∙ e) in
+        core : Steps L fs ss sums spot (pastOf spot looks) k
+        core =
             record {
-              wide = omega (arith, held .length, w .room);
-              sent = held .within (sentIn k) (omega arith, l);
-              taken = held .within (takenIn k) (omega arith, l);
+              first = framed;
+              second = second-long ws k l bound (h .long);
+              summed = λ e.
+                  let r = ltb-true k (reach n) (sym (first-reach spot k l) ∙ e) in
+                  record {
+                    sent = c .within (sentIn k) (omega arith, l);
+                    taken = c .within (takenIn k) (omega arith, l);
+                  };
+              agreed = h .agreed;
+              dim = dim-low n (h .position);
+              looks = looks;
+              tries = refl;
             }
 
-    pub place : at ≡ atFirst (here .dims) k
-    place = rw (w .spot) (held .place)
-
-    pub agreed-low : here .agreed ≤ fieldLimit L
-    agreed-low = rw (w .spot) (w .agreed)
-
     -- the step does not pass
-    stopped : (after : List ℕ) (r : Passed) → length after ≡ length sums → r .ok ≡ false → stepIn L ws k ≡ false
-        → WalkedAll L ws start after r
+    stopped : (after : List ℕ) (r : Walked) → length after ≡ length sums → r .ok ≡ false → stepIn L ws k ≡ false
+        → WalkedAll L ws looks start after r
     stopped after r len bad e =
         record {
           ok =
               bad
               ∙ sym
-              (fails (every 0 (dims n) (stepIn L ws))
-              (λ q. not-both (every-at 0 (dims n) (stepIn L ws) q k (omega arith) (omega arith)) e));
+              (fails (every 0 p (stepIn L ws))
+              (λ q. not-both (every-at 0 p (stepIn L ws) q k (omega arith) (omega arith)) e));
+          length = len ∙ c .length;
           issued = λ q. not-both q bad;
           sums = λ q. not-both q bad;
-          length = len ∙ held .length;
+          clause = λ q. not-both q bad;
+          received = λ q. not-both q bad;
         }
+
+    abbrev past : Past
+    past = pastOf spot looks
 
     -- ---- pass 1
 
-    module _ (after : List ℕ) (t : Bool) (done : FirstDone L ws here k sums after t) where
-      first-done : FirstDone L ws (spotIn L ws) k sums after t
-      first-done = rw (w .spot) at done
-
-      first-part : t ≡ firstPart L ws k
+    module _ (after : List ℕ) (m : Walked) (done : FirstDone L fs spot past k w sums after m) where
+      first-part : m .ok ≡ firstPart L ws k
       first-part =
-          first-done .ok
-          ∙ first-reads L (spotIn L ws) k (word ws (atFirst (dims n) k)) l (sumOf (dims n) sums) (own n k)
-          (firstFrom ws (dims n) k (atFirst (dims n) k))
-          (λ e f h.
-          let r = ltb-true k (reach n) (sym (first-reach (spotIn L ws) k l) ∙ e) in
-          let u : min k (reach n) ≡ k = omega arith in
-          held .sums f (rw (sym u) at h) ∙ ap (λ j. own n j f) u)
-          ∙ ap (firstWhole L (spotIn L ws) k (own n k) (word ws (atFirst (dims n) k))) (sym (first-is ws k l bound))
+          done .ok
+          ∙ first-reads L spot k (word fs 0) l (sumOf p sums) (own n k) x
+          (λ e. own-here (let r = ltb-true k (reach n) (sym (first-reach spot k l) ∙ e) in omega arith))
+          ∙ (λ i. firstWhole L spot k (own n k) (first-mark ws k l bound (h .long) i) (sym x-is i))
 
-      first-stops : t ≡ false → (r : Passed) → r .ok ≡ false → WalkedAll L ws start after r
+      first-stops : m .ok ≡ false → (r : Walked) → r .ok ≡ false → WalkedAll L ws looks start after r
       first-stops e r bad =
           stopped after r (done .length) bad
           (sym (parts L ws k) ∙ ap (λ b. both b (secondPart L ws k)) (sym first-part ∙ e))
 
       -- ---- pass 2
 
-      module _ (one : t ≡ true) (r : Passed) (next : SecondDone L ws here k issued r) where
-        second-done : SecondDone L ws (spotIn L ws) k issued r
-        second-done = rw (w .spot) at next
+      module _ (one : m .ok ≡ true) (r : Walked) (next : SecondDone L ss spot past k m r) where
+        issued-same : m .issued .0 ≡ w .issued .0
+        issued-same = ap (λ (z : Sent). z .0) (done .issued)
 
         second-part : r .ok ≡ secondPart L ws k
         second-part =
-            second-done .ok
-            ∙ second-reads L (spotIn L ws) k (word ws (atSecond (dims n) k)) l issued (ownIssued n k)
-            (secondFrom ws (atSecond (dims n) k))
+            next .ok
+            ∙ second-reads L spot k (word ss 0) l (m .issued .0) (ownIssued n k) y
             (λ e.
-            let r = ltb-true k (confirmReach n) (sym (second-reach (spotIn L ws) k) ∙ e) in
-            let u : min k (confirmReach n) ≡ k = omega arith in
-            held .issued ∙ ap (ownIssued n) u)
-            ∙ ap (secondWhole L (spotIn L ws) k (ownIssued n k) (word ws (atSecond (dims n) k)))
-            (sym (second-is ws k l bound))
+            issued-same
+            ∙ issued-here (let r = ltb-true k (confirmReach n) (sym (second-reach spot k) ∙ e) in omega arith))
+            ∙ (λ i. secondWhole L spot k (ownIssued n k) (second-mark ws k l bound (h .long) i) (sym y-is i))
 
         step : r .ok ≡ stepIn L ws k
         step = second-part ∙ ap (λ b. both b (secondPart L ws k)) (sym one ∙ first-part) ∙ parts L ws k
 
-        second-stops : r .ok ≡ false → WalkedAll L ws start after r
+        second-stops : r .ok ≡ false → WalkedAll L ws looks start after r
         second-stops e = stopped after r (done .length) e (sym step ∙ e)
 
         module _ (two : r .ok ≡ true) where
@@ -371,111 +349,227 @@ module _ (L : Limits) (fit : Fits L) (ws start : List ℕ) (here : Spot) (sends 
 
           step-at : stepAt L n k ≡ true
           unfolding stepIn
-          step-at = both-true (isMarked ws (dims n) k) (stepAt L n k) ok .1
+          step-at = both-true (isMarked ws p k) (stepAt L n k) ok .1
+
+          -- ---- the walk over one dimension more
+
+          -- where no frame is stored its numbers are 0, so that they can be added
+          first-adds : (f : Field) → Has p 0 f → firstAdds n k (firstAt n k) f ≡ choose (firstPast spot k) (number x f) 0
+          first-adds f q =
+              (λ i. choose (sym (first-reach spot k l) i)
+              (first-same L _ p k (firstAt n k) (sym (first-test L n k) ∙ step-first L n (h .board) k step-at) f
+              (has-room p 0 bound f q) i) 0)
+              ∙ ap (λ (z : Stored). choose (firstPast spot k) (number z f) 0) x-is
+
+          second-adds : secondAdds n k (secondAt n k) ≡ choose (secondPast spot k) (word ss (confirmedPlace 0)) 0
+          second-adds =
+              (λ i. choose (sym (second-reach spot k) i)
+              (second-same L _ (secondAt n k) (sym (second-test L n k) ∙ step-second L n (h .board) k step-at) i) 0)
+              ∙ ap (λ (z : Confirm). choose (secondPast spot k) (z .issued .0) 0) y-is
 
           -- what the walk has after the step it had before it
-          reached : (f : Field) → Has (dims n) (min (k + 1) (reach n)) f
-              → Has (dims n) (choose (firstPast (spotIn L ws) k) (suc k) 0) f
-          reached f h = rw (first-reach (spotIn L ws) k l) (go (decLt k (reach n)))
+          reached : (f : Field) → Has p (min (k + 1) (reach n)) f → Has p (choose (firstPast spot k) (suc k) 0) f
+          reached f q = rw (first-reach spot k l) (go (decLt k (reach n)))
             where
-              go : Dec (k < reach n) → Has (dims n) (choose (ltb k (reach n)) (suc k) 0) f
+              go : Dec (k < reach n) → Has p (choose (ltb k (reach n)) (suc k) 0) f
               go (yes b) =
                   let u : min (k + 1) (reach n) ≡ suc k = omega arith in
-                  rw (lt-ltb k (reach n) b) (rw u at h)
-              go (no b) = rw (le-ltb k (reach n) (omega arith)) (has-lower (dims n) 0 (min (k + 1) (reach n)) f (omega arith) h)
+                  rw (lt-ltb k (reach n) b) (rw u at q)
+              go (no b) = rw (le-ltb k (reach n) (omega arith)) (has-lower p 0 (min (k + 1) (reach n)) f (omega arith) q)
 
-          sums-more : Gathered n (min (k + 1) (reach n)) after
-          sums-more f h =
-              first-done .sums one f (reached f h)
-              ∙ grown (λ j. own n j f) (reach n) k (sumOf (dims n) sums f)
-              (number (firstFrom ws (dims n) k (atFirst (dims n) k)) f) (firstPast (spotIn L ws) k)
-              (first-reach (spotIn L ws) k l)
-              (held .sums f (has-lower (dims n) (min k (reach n)) (min (k + 1) (reach n)) f (omega arith) h))
-              (λ i.
-              own-more L n k (step-first L n (w .board) k step-at) f (has-room (dims n) _ bound f h)
-              ∙ ap (λ (y : Stored). own n k f + number y f) (first-is ws k l bound))
+          sums-more : (f : Field) → Has p (min (k + 1) (reach n)) f → sumOf p after f ≡ walked n (k + 1) .sums f
+          sums-more f q =
+              done .sums one f (reached f q)
+              ∙ (λ i.
+              c .holds .sums f (has-lower p (min k (reach n)) (min (k + 1) (reach n)) f (omega arith) q) i
+              + sym (first-adds f (has-lower p 0 (min (k + 1) (reach n)) f (omega arith) q)) i)
+              ∙ sym (ap (λ j. walked n j .sums f) (add-one k) ∙ first-more n k f)
 
-          within-more : (f : Field) → Has (dims n) (min (k + 1) (reach n)) f → sumOf (dims n) after f ≤ fieldLimit L
-          within-more f h = go (decLt k (reach n))
+          issued-more : r .issued .0 ≡ walked n (k + 1) .issued
+          issued-more =
+              next .more two
+              ∙ (λ i. (issued-same ∙ c .holds .issued) i + sym second-adds i)
+              ∙ sym (ap (λ j. walked n j .issued) (add-one k) ∙ second-more n k)
+
+          within-more : (f : Field) → Has p (min (k + 1) (reach n)) f → sumOf p after f ≤ fieldLimit L
+          within-more f q = go (decLt k (reach n))
             where
-              go : Dec (k < reach n) → sumOf (dims n) after f ≤ fieldLimit L
+              go : Dec (k < reach n) → sumOf p after f ≤ fieldLimit L
               go (yes b) =
                   let u : min (k + 1) (reach n) ≡ suc k = omega arith in
                   let v : min k (reach n) ≡ k = omega arith in
-                  sums-within L ws sums (spotIn L ws) k (atFirst (dims n) k) standing' refl after t first-done one
-                  (first-reach (spotIn L ws) k l ∙ lt-ltb k (reach n) b)
-                  (λ g q. held .within g (rw (sym v) at q)) f (rw u at h)
+                  sums-within L fs sums spot past k w framed after m done one
+                  (first-reach spot k l ∙ lt-ltb k (reach n) b) (λ g z. c .within g (rw (sym v) at z)) f (rw u at q)
               go (no b) =
                   let u : min (k + 1) (reach n) ≡ min k (reach n) = omega arith in
-                  let past = first-reach (spotIn L ws) k l ∙ le-ltb k (reach n) (omega arith) in
+                  let e = first-reach spot k l ∙ le-ltb k (reach n) (omega arith) in
                   omega (
                     arith,
-                    first-done .sums one f (reached f h)
-                        ∙ ap
-                        (λ b.
-                        sumOf (dims n) sums f
-                        + choose b (number (firstFrom ws (dims n) k (atFirst (dims n) k)) f) 0)
-                        past,
-                    held .within f (rw u at h),
+                    done .sums one f (reached f q) ∙ ap (λ b. sumOf p sums f + choose b (number x f) 0) e,
+                    c .within f (rw u at q),
                   )
 
-          issued-more' : r .issued .0 ≡ ownIssued n (min (k + 1) (confirmReach n))
-          issued-more' =
-              second-done .more two
-              ∙ grown (ownIssued n) (confirmReach n) k issued (word ws (confirmedPlace (atSecond (dims n) k)))
-              (secondPast (spotIn L ws) k) (second-reach (spotIn L ws) k) (held .issued)
-              (λ i.
-              issued-more L n k (step-second L n (w .board) k step-at)
-              ∙ ap (λ (y : Confirm). ownIssued n k + y .issued .0) (second-is ws k l bound))
+          -- ---- the look
 
-          held-more : Held L ws start (k + 1) (at + firstWords (here .dims) k + secondWords) after (r .issued .0)
-          held-more =
-              let same = ap (λ (s : Spot). s .dims) (w .spot) in
-              let q : atFirst (dims n) (k + 1) ≡ atFirst (dims n) (suc k) = ap (atFirst (dims n)) (add-one k) in
+          abbrev said : ℕ
+          said = firstFailing (clauses L n (n .pass) (n .dim))
+
+          -- which frame is looked at, by the pass
+          module _ (e : eqb (n .pass) 1 ≡ true) where
+            first-only : r .clause ≡ m .clause
+            first-only =
+                next .clause two
+                ∙ choose-no _ _ (ap (λ d. looksAt spot d k) (choose-yes _ _ e) ∙ none-there (awaitsAt spot k) k p l)
+
+            first-look : past .look ≡ choose looks (n .dim) p
+            first-look = choose-yes _ _ e
+
+          module _ (e : eqb (n .pass) 1 ≡ false) where
+            second-only : m .clause ≡ w .clause
+            second-only =
+                done .clause one
+                ∙ choose-no _ _ (ap (λ d. looksAt spot d k) (choose-no _ _ e) ∙ none-there (awaitsAt spot k) k p l)
+
+            second-look : past .confirm ≡ choose looks (n .dim) p
+            second-look = choose-no _ _ e
+
+          first-said : eqb (n .pass) 1 ≡ true → k ≡ n .dim → firstFailing (firstClauses L p k (sumOf p sums) x) ≡ said
+          first-said e q =
+              let z : k ≤ reach n = omega (arith, choose-yes (n .dim) p e) in
+              ap firstFailing
+              (clauses-same L p k (sumOf p sums) (own n k) x l (own-here z)
+              ∙ ap (firstClauses L p k (own n k)) (sym x-is)
+              ∙ ap (λ d. firstClauses L p d (own n d) (firstAt n d)) q
+              ∙ sym (choose-yes _ _ e))
+
+          second-said : eqb (n .pass) 1 ≡ false → k ≡ n .dim
+              → firstFailing (secondClauses L p k (m .issued .0) (n .agreed) y) ≡ said
+          second-said e q =
+              let z : k ≤ confirmReach n = omega (arith, choose-no 0 (n .dim) e) in
+              ap firstFailing
+              ((λ i. secondClauses L p k ((issued-same ∙ issued-here z) i) (n .agreed) (sym y-is i))
+              ∙ ap (λ d. secondClauses L p d (ownIssued n d) (n .agreed) (secondAt n d)) q
+              ∙ sym (choose-no _ _ e))
+
+          step-clause : r .clause ≡ choose (both looks (both (awaitsAt spot k) (eqb k (n .dim)))) said (w .clause)
+          step-clause = go (eqb (n .pass) 1) refl
+            where
+              go : (t : Bool) → eqb (n .pass) 1 ≡ t
+                  → r .clause ≡ choose (both looks (both (awaitsAt spot k) (eqb k (n .dim)))) said (w .clause)
+              go true e =
+                  first-only e
+                  ∙ done .clause one
+                  ∙ ap (λ d. choose (looksAt spot d k) (firstFailing (firstClauses L p k (sumOf p sums) x)) (w .clause))
+                  (first-look e)
+                  ∙ at-dim looks (awaitsAt spot k) (n .dim) k p _ said (w .clause) l (λ u q. first-said e q)
+              go false e =
+                  next .clause two
+                  ∙ (λ i.
+                  choose (looksAt spot (second-look e i) k)
+                  (firstFailing (secondClauses L p k (m .issued .0) (n .agreed) y)) (second-only e i))
+                  ∙ at-dim looks (awaitsAt spot k) (n .dim) k p _ said (w .clause) l (λ u q. second-said e q)
+
+          awaits-here : k ≡ n .dim → awaitsAt spot k ≡ not (isAlone n (n .dim))
+          awaits-here q =
+              awaits-same L n k (h .board)
+              ∙ ap (λ t. both t (not (isAlone n k))) (lt-ltb k p l)
+              ∙ ap (λ d. not (isAlone n d)) q
+
+          clause-more : r .clause ≡ choose (isSeen n looks (k + 1)) (clauseHere L n) 7
+          clause-more =
+              step-clause
+              ∙ ap (λ z. choose (both looks (both (awaitsAt spot k) (eqb k (n .dim)))) said z) (c .clause)
+              ∙ seen-more looks (awaitsAt spot k) (isAlone n (n .dim)) (n .dim) k said awaits-here
+
+          received-more : isSeen n looks (k + 1) ≡ true → isAlone n (n .dim) ≡ false → n .pass ≡ 1 → r .clause ≡ 7
+              → r .received .0 ≡ own n (suc (n .dim)) allTaken
+          received-more s f one-pass agreed = ap (λ (z : Taken). z .0) (next .received) ∙ go (ℕ-discrete k (n .dim))
+            where
+              e : eqb (n .pass) 1 ≡ true
+              e = eq-eqb (n .pass) 1 one-pass
+
+              looked : looks ≡ true
+              looked = both-true looks (ltb (n .dim) (k + 1)) s .0
+
+              below : n .dim < k + 1
+              below = ltb-true (n .dim) (k + 1) (both-true looks (ltb (n .dim) (k + 1)) s .1)
+
+              look-is : past .look ≡ n .dim
+              look-is = first-look e ∙ choose-yes _ _ looked
+
+              m-agreed : m .clause ≡ 7
+              m-agreed = sym (first-only e) ∙ agreed
+
+              go : Dec (k ≡ n .dim) → m .received .0 ≡ own n (suc (n .dim)) allTaken
+              go (yes q) =
+                  let at-position : looksAt spot (past .look) k ≡ true =
+                      both-make (awaits-here q ∙ ap not f) (eq-eqb k (past .look) (q ∙ sym look-is)) in
+                  let z : k ≤ reach n = omega (arith, choose-yes (n .dim) p e) in
+                  done .received one at-position m-agreed
+                  ∙ (λ i. own-here z allTaken tt i + ap (λ (z : Stored). number z allTaken) (sym x-is) i)
+                  ∙ sym (own-more L n k (step-first L n (h .board) k step-at) allTaken tt)
+                  ∙ ap (λ d. own n (suc d) allTaken) q
+              go (no q) =
+                  let past-it : looksAt spot (past .look) k ≡ false =
+                      ap (λ d. looksAt spot d k) look-is ∙ away (awaitsAt spot k) (ne-eqb k (n .dim) q) in
+                  ap (λ (z : Taken). z .0) (done .kept past-it)
+                  ∙ c .received (both-make looked (lt-ltb (n .dim) k (omega (arith, below)))) f one-pass
+                  (sym (done .clause one ∙ choose-no _ _ past-it) ∙ m-agreed)
+
+          carries-more : Carries L ws start looks (k + 1) (at + firstWords (here .dims) k + secondWords) after r
+          carries-more =
+              let same = ap (λ (s : Spot). s .dims) (h .spot) in
+              let q : atFirst p (k + 1) ≡ atFirst p (suc k) = ap (atFirst p) (add-one k) in
               record {
                 low = omega arith;
-                place = omega (arith, q, same, held .place, first-more (dims n) k);
-                length = done .length ∙ held .length;
-                sums = sums-more;
+                place = omega (arith, q, same, c .place, place-more p k);
+                length = done .length ∙ c .length;
+                holds = record { sums = sums-more; issued = issued-more };
                 within = within-more;
-                issued = issued-more';
-                issued-low =
-                    issued-within L ws (spotIn L ws) k (atSecond (dims n) k) issued standing' refl r second-done two
-                    (held .issued-low);
-                steps = below-more (λ j. stepIn L ws j ≡ true) k (held .steps) ok;
+                steps = below-more (λ j. stepIn L ws j ≡ true) k (c .steps) ok;
+                clause = clause-more;
+                received = received-more;
               }
 
     -- ---- both passes
 
-    module _ (after : List ℕ) (r : Passed) (st : Stepped L ws here k issued sums after r) where
-      pub step-stops : r .ok ≡ false → WalkedAll L ws start after r
-      step-stops bad = go (st .ok) refl
-        where
-          go : (t : Bool) → st .ok ≡ t → WalkedAll L ws start after r
-          go true e = second-stops after (st .ok) (st .first) e r (st .second e) bad
-          go false e = first-stops after (st .ok) (st .first) e r bad
+    module _ (after : List ℕ) (r : Walked) (st : Stepped L fs ss here (pastOf here looks) k w sums after r) where
+      here-spot : Stepped L fs ss spot past k w sums after r
+      here-spot = rw (h .spot) at st
 
-      pub step-more : r .ok ≡ true → Held L ws start (k + 1) (at + firstWords (here .dims) k + secondWords) after (r .issued .0)
-      step-more good = go (st .ok) refl
+      pub step-stops : r .ok ≡ false → WalkedAll L ws looks start after r
+      step-stops bad = go (here-spot .middle .ok) refl
         where
-          go : (t : Bool) → st .ok ≡ t
-              → Held L ws start (k + 1) (at + firstWords (here .dims) k + secondWords) after (r .issued .0)
-          go true e = held-more after (st .ok) (st .first) e r (st .second e) good
-          go false e = not-both good (st .stops e)
+          go : (t : Bool) → here-spot .middle .ok ≡ t → WalkedAll L ws looks start after r
+          go true e =
+              second-stops after (here-spot .middle) (here-spot .first) e r (here-spot .second e) bad
+          go false e = first-stops after (here-spot .middle) (here-spot .first) e r bad
 
-  pub ended : dims n ≤ k → (r : Passed) → r .ok ≡ true → r .issued .0 ≡ issued → WalkedAll L ws start sums r
-  ended l r e i =
+      pub step-more : r .ok ≡ true
+          → Carries L ws start looks (k + 1) (at + firstWords (here .dims) k + secondWords) after r
+      step-more good = go (here-spot .middle .ok) refl
+        where
+          go : (t : Bool) → here-spot .middle .ok ≡ t
+              → Carries L ws start looks (k + 1) (at + firstWords (here .dims) k + secondWords) after r
+          go true e = carries-more after (here-spot .middle) (here-spot .first) e r (here-spot .second e) good
+          go false e = not-both good (here-spot .stops e)
+
+  pub ended : p ≤ k → w .ok ≡ true → WalkedAll L ws looks start sums w
+  ended l e =
+      let z : k ≡ p = omega (arith, c .low) in
+      let at-end : n .dim < p → looks ≡ true → isSeen n looks k ≡ true =
+          λ d s. both-make s (lt-ltb (n .dim) k (omega arith)) in
       record {
-        ok = e ∙ sym (every-make 0 (dims n) (stepIn L ws) (λ j a b. held .steps j (omega arith)));
+        ok = e ∙ sym (every-make 0 p (stepIn L ws) (λ j a b. c .steps j (omega arith)));
+        length = c .length;
         issued = λ q.
-            i
-            ∙ held .issued
-            ∙ ap (ownIssued n) (capped-at (confirmReach n) (confirm-reach-low n (w .position)));
-        sums = λ q f h.
-            let z = capped-at (reach n) (reach-low n (w .position)) in
-            held .sums f (rw (sym z) at h) ∙ ap (λ j. own n j f) z;
-        length = held .length;
+            c .holds .issued ∙ walked-issued n k ∙ ap (ownIssued n) (capped (confirmReach n) (confirm-reach-low n (h .position)));
+        sums = λ q f g.
+            let u = capped (reach n) (reach-low n (h .position)) in
+            c .holds .sums f (rw (sym u) at g) ∙ walked-sums n k f ∙ ap (λ j. own n j f) u;
+        clause = λ q s d. c .clause ∙ choose-yes _ _ (at-end d s);
+        received = λ q s d. c .received (at-end d s);
       }
     where
-      capped-at : (r : ℕ) → r ≤ dims n → min k r ≡ r
-      capped-at r b = omega (arith, held .low)
+      capped : (r : ℕ) → r ≤ p → min k r ≡ r
+      capped r b = omega (arith, c .low)

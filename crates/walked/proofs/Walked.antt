@@ -25,7 +25,7 @@ use Rattle.walked.proofs.Words.{in-order}
 -- ---- the position
 
 module _ (n : Node) (ok : positionOk n ≡ true) where
-  dim-low : n .dim ≤ dims n
+  pub dim-low : n .dim ≤ dims n
   unfolding positionOk
   dim-low = go (eqb (dims n) 0) ok
     where

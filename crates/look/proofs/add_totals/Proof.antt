@@ -47,17 +47,10 @@ returns c =
       received = λ q. absurd (c .if1 .taken q);
     }
 
-add-issued : tie.Need-add-t21
-add-issued c =
-    let e = c .before .before in
-    let l = e .before in
-    record { fits = omega (arith, within l (e .if1 .left) .0, start l .fits) }
-
-add-received : tie.Need-add-t13-2
-add-received c =
-    let e = c .before .before .before .before in
-    let l = e .before in
-    record { fits = omega (arith, received l, within l (e .if1 .left) .1, start l .fits) }
+-- the sums where they are made
+low : (e : tie.Else1) → let l = e .before in
+    (own l allSent + number (x l) allSent ≤ limit l) × (own l allTaken + number (x l) allTaken ≤ limit l)
+low e = within (e .before) (e .if1 .left)
 
 returns-2 : tie.Need-returns-2
 returns-2 c =
@@ -75,4 +68,8 @@ add-totals-spec =
     (λ c. search needs) (λ c. search needs) (λ c. search needs) (λ c. search needs) (λ c. search needs) (λ c. search needs)
     (λ c. search needs) (λ c. search needs) (λ c. search needs) (λ c. search needs) (λ c. search needs) (λ c. search needs)
     (λ c. search needs) (λ c. search needs) (λ c κs. search needs) (λ c κs. search needs) (λ c κs. search needs) returns
-    add-issued add-received returns-2)
+    (λ c. record { fits = omega (arith, low (c .before .before) .0, start (c .before .before .before) .fits) })
+    (λ c.
+    let e = c .before .before .before .before in
+    record { fits = omega (arith, received (e .before), low e .1, start (e .before) .fits) })
+    returns-2)

@@ -113,20 +113,20 @@ module _ (j : tie.Joined1) where
 
   first-two : j .if1 .if2 ≡ both low (sentLow (j .before .before .before))
   first-two =
-      ⊎-elim (λ w. w .1 ∙ after low _ (lt-ltb (most (j .before .before .before)) 2 (w .0 .taken)))
+      ⊎-elim (λ w. w .2 ∙ after low _ (lt-ltb (most (j .before .before .before)) 2 (w .0 .taken)))
       (λ w. w .1 ∙ stopped low _ (le-ltb (most (j .before .before .before)) 2 (w .0 .left))) (j .if1 .came)
 
-all-three : (j : tie.Joined2) → j .if2 .t55 ≡ both (j .before .if1 .if2) (takenLow (j .before .before .before .before))
+all-three : (j : tie.Joined2) → j .if2 .ok ≡ both (j .before .if1 .if2) (takenLow (j .before .before .before .before))
 all-three j =
-    ⊎-elim (λ w. w .1 ∙ after (j .before .if1 .if2) _ (w .0 .taken))
+    ⊎-elim (λ w. w .2 ∙ after (j .before .if1 .if2) _ (w .0 .taken))
     (λ w. w .1 ∙ stopped (j .before .if1 .if2) _ (w .0 .left)) (j .if2 .came)
 
 returns : tie.Need-returns
 returns c =
-    let j = c .before .before .before .before in
+    let j = c .before .before .before in
     let l = j .before .before .before .before in
     let s = start l in
-    let named = c .before .clause-by .ensures in
+    let named = c .clause-by .ensures in
     let i : most l ≡ 0 → issued l ≡ _ = λ e. totals l .issued (none l e) in
     let r : most l ≡ 0 → received l ≡ _ = λ e. totals l .received (none l e) in
     record {
@@ -145,6 +145,6 @@ pub judge-spec : {M : Type 1} → statement M
 judge-spec =
     tie.close
     (tie.spec (λ c κs. search needs) (λ c. search needs) (λ c. search needs) (λ c. search needs) (λ c. search needs)
-    (λ c. search needs) (λ c. search needs) (λ c. search needs) (λ c. search needs) (λ c κs. search needs) (λ c κs. search needs)
-    (λ c κs. search needs) (λ c. search needs) (λ c. search needs) (λ c. search needs) (λ c. search needs) (λ c. search needs)
-    (λ c. search needs) (λ c. search needs) (λ c. search needs) (λ c κs. search needs) returns)
+    (λ c. search needs) (λ c. search needs) (λ c. search needs) (λ c. search needs) (λ c κs. search needs)
+    (λ c κs. search needs) (λ c κs. search needs) (λ c. search needs) (λ c. search needs) (λ c. search needs)
+    (λ c. search needs) (λ c. search needs) (λ c. search needs) (λ c. search needs) (λ c κs. search needs) returns)

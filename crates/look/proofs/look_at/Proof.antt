@@ -22,6 +22,7 @@ use Rattle.look.specs.declared.Look.{Look}
 use Rattle.look.proofs.look_at.Statement.{statement}
 use Rattle.look.proofs.look_at.Tie as tie
 
+-- the words are those of a frame
 framed : (ws sums : List ℕ) (p k : ℕ) → firstFits p k (length ws) (length sums) ≡ true → Framed ws sums p k
 framed ws sums p k e =
     let a = both-true (ltb k p) _ e in
@@ -58,8 +59,8 @@ returns : tie.Need-returns
 returns c =
     let f = c .before .before .first-fits in
     let a = c .before .before .before .before .before .args in
-    none (limitsOf (a .b)) (now (a .s)) (now (a .sums)) (a .p) (a .k) (sym (f .ensures) ∙ not-true (f .result) (c .before .if1 .taken)) (c .no-look .result)
-    (c .no-look .ensures)
+    none (limitsOf (a .b)) (now (a .s)) (now (a .sums)) (a .p) (a .k)
+    (sym (f .ensures) ∙ not-true (f .result) (c .before .if1 .taken)) (c .no-look .result) (c .no-look .ensures)
 
 -- they are those of a frame
 module _ (e : tie.Else1) where
@@ -78,9 +79,6 @@ module _ (e : tie.Else1) where
   here : Framed ws sums (start .args .p) (start .args .k)
   here = framed ws sums (start .args .p) (start .args .k) fits
 
-read-mark : tie.Need-shared-slice-read-if2
-read-mark c = omega (arith, here (c .before) .long)
-
 returns-2 : tie.Need-returns-2
 returns-2 c =
     let e = c .before .before .before in
@@ -96,10 +94,11 @@ returns-3 c =
     let d = c .before in
     let e = d .before .before in
     let a = start e .args in
-    marked (limitsOf (a .b)) (ws e) (sums e) (a .p) (a .k) (fits e) (eq-eqb _ _ (d .if2 .left)) (c .judge .result) (c .judge .ensures)
+    marked (limitsOf (a .b)) (ws e) (sums e) (a .p) (a .k) (fits e) (eq-eqb _ _ (d .if2 .left)) (c .judge .result)
+    (c .judge .ensures)
 
 pub look-at-spec : {M : Type 1} → statement M
 look-at-spec =
     tie.close
-    (tie.spec (λ c κs. search needs) (λ c κs. search needs) returns read-mark (λ c κs. search needs) returns-2 judge-requires
-    returns-3)
+    (tie.spec (λ c κs. search needs) (λ c κs. search needs) returns (λ c. omega (arith, here (c .before) .long))
+    (λ c κs. search needs) returns-2 judge-requires returns-3)

@@ -35,7 +35,8 @@ module _ (f : tie.After-sent-fits) where
 returns-2 : tie.Need-returns-2
 returns-2 c =
     let f = c .before in
-    sym (passes (stored f) (passes refl (passes refl (stops (within f false (not-true (f .sent-fits .result) (c .if2 .taken)))))) .first)
+    let over = within f false (not-true (f .sent-fits .result) (c .if2 .taken)) in
+    sym (passes (stored f) (passes refl (passes refl (stops over))) .first)
 
 good : (e : tie.Else2) → isWithin (limitsOf (s (e .before) .args .b)) (sum (e .before)) ≡ true
 good e = within (e .before) true (not-false (e .before .sent-fits .result) (e .if2 .left))
@@ -65,8 +66,9 @@ add-if5 : tie.Need-add-if5
 add-if5 c =
     let e = c .before .before .before in
     let f = two e .before in
-    let low = leb-true (sum f) (f .before .field-limit .result) (sym (f .sent-fits .ensures) ∙ not-false (f .sent-fits .result) (two e .if2 .left)) in
-    record { fits = omega (arith, low, f .before .field-limit .ok) }
+    let limit = f .before .field-limit in
+    let ok = sym (f .sent-fits .ensures) ∙ not-false (f .sent-fits .result) (two e .if2 .left) in
+    record { fits = omega (arith, leb-true (sum f) (limit .result) ok, limit .ok) }
 
 returns-4 : tie.Need-returns-4
 returns-4 c =
@@ -83,7 +85,9 @@ returns-5 : tie.Need-returns-5
 returns-5 c =
     let e = c .before in
     let f = two e .before in
-    let ok : tested e ≡ true = ⊎-elim (λ w. choose-yes _ true (w .0 .taken) ∙ not-false _ (w .3 .left)) (λ w. choose-no _ true (w .left)) (c .if4 .came) in
+    let ok : tested e ≡ true =
+    ⊎-elim (λ w. choose-yes _ true (w .0 .taken) ∙ not-false _ (w .3 .left)) (λ w. choose-no _ true (w .left))
+    (c .if4 .came) in
     sym (all-hold _ _ _ _ _ _ _ (rw (stored f, good (two e), same e, ok)))
 
 pub clause-spec : {M : Type 1} → statement M
