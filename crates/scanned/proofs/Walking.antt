@@ -503,7 +503,7 @@ module _ (L : Limits) (fit : Fits L) (ws start : List ℕ) (here : Spot) (sends 
               go : Dec (k ≡ n .dim) → m .received .0 ≡ own n (suc (n .dim)) allTaken
               go (yes q) =
                   let at-position : looksAt spot (past .look) k ≡ true =
-                      both-make (awaits-here q ∙ ap not f) (eq-eqb k (past .look) (q ∙ sym look-is)) in
+                  both-make (awaits-here q ∙ ap not f) (eq-eqb k (past .look) (q ∙ sym look-is)) in
                   let z : k ≤ reach n = omega (arith, choose-yes (n .dim) p e) in
                   done .received one at-position m-agreed
                   ∙ (λ i. own-here z allTaken tt i + ap (λ (z : Stored). number z allTaken) (sym x-is) i)
@@ -511,7 +511,7 @@ module _ (L : Limits) (fit : Fits L) (ws start : List ℕ) (here : Spot) (sends 
                   ∙ ap (λ d. own n (suc d) allTaken) q
               go (no q) =
                   let past-it : looksAt spot (past .look) k ≡ false =
-                      ap (λ d. looksAt spot d k) look-is ∙ away (awaitsAt spot k) (ne-eqb k (n .dim) q) in
+                  ap (λ d. looksAt spot d k) look-is ∙ away (awaitsAt spot k) (ne-eqb k (n .dim) q) in
                   ap (λ (z : Taken). z .0) (done .kept past-it)
                   ∙ c .received (both-make looked (lt-ltb (n .dim) k (omega (arith, below)))) f one-pass
                   (sym (done .clause one ∙ choose-no _ _ past-it) ∙ m-agreed)
@@ -558,7 +558,7 @@ module _ (L : Limits) (fit : Fits L) (ws start : List ℕ) (here : Spot) (sends 
   ended l e =
       let z : k ≡ p = omega (arith, c .low) in
       let at-end : n .dim < p → looks ≡ true → isSeen n looks k ≡ true =
-          λ d s. both-make s (lt-ltb (n .dim) k (omega arith)) in
+      λ d s. both-make s (lt-ltb (n .dim) k (omega arith)) in
       record {
         ok = e ∙ sym (every-make 0 p (stepIn L ws) (λ j a b. c .steps j (omega arith)));
         length = c .length;
