@@ -1,4 +1,4 @@
--- The frame that is due by the words of a state: to whom it goes, its bytes, and what comes of sending it.
+-- The frame that is due by the words of a state: to whom it goes, and its bytes.
 use mathlib.Core.Bool.{Bool, true, false}
 use mathlib.Core.List.{List, [], _∷_, _++_}
 use Prim.Native.Nat.{ℕ, _%_}
@@ -10,6 +10,7 @@ use Rattle.base.specs.Refusal.{Answered, refused, found}
 use Rattle.tree.specs.Tree.{Place, sendsTo}
 use Rattle.tree.specs.Lookups.{placeLookup}
 use Rattle.frame.specs.Numbers.{bytesOf}
+use Rattle.node.specs.Answers.{also}
 use Rattle.layout.specs.Places.{atNodes, atNumber, atPhase, atPass, atDim, atFlag, atAgreed, headWords}
 use Rattle.layout.specs.Held.{word}
 pub use Rattle.due_frame.specs.Frames.{sentPart, takenPart, firstNumbers, hasSums}
@@ -35,6 +36,10 @@ dueTo L ws =
 abbrev pub isEmpty : List ℕ → Bool
 isEmpty [] = true
 isEmpty (a ∷ l) = false
+
+abbrev pub whomList : Whom → List ℕ
+whomList Nobody = []
+whomList (To to) = to .first ∷ also (to .extra)
 
 -- ---- The bytes
 
