@@ -1,5 +1,5 @@
 -- The frame that is due by the words of a state: to whom it goes, and its bytes.
-use mathlib.Core.Bool.{Bool, true, false}
+use mathlib.Core.Bool.{Bool, true}
 use mathlib.Core.List.{List, [], _∷_, _++_}
 use Prim.Native.Nat.{ℕ, _%_}
 use lib.Dec.{leb, eqb}
@@ -32,10 +32,6 @@ lookedUp L ws = placeLookup L (word ws atNodes) (word ws atDim) (word ws atNumbe
 abbrev pub dueTo : Limits → List ℕ → List ℕ
 dueTo L ws =
     choose (both (leb headWords (length ws)) (eqb (word ws atFlag) 1)) (toWhom (lookedUp L ws)) []
-
-abbrev pub isEmpty : List ℕ → Bool
-isEmpty [] = true
-isEmpty (a ∷ l) = false
 
 abbrev pub whomList : Whom → List ℕ
 whomList Nobody = []
