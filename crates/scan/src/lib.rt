@@ -4,7 +4,6 @@ ghost use mathlib.Core.Path.{_≡_};
 ghost use mathlib.Core.Bool.{true};
 ghost use Prim.Native.Nat.{_+_, _≤_, _<_};
 ghost use lib.ListN.{length};
-ghost use Rattle.base.specs.Choice.{choose};
 ghost use Rattle.base.specs.Limits.{limitsOf};
 ghost use Rattle.layout.specs.Places.{secondWords, mostWords};
 ghost use Rattle.layout.specs.Held.{unpacked};
@@ -213,22 +212,12 @@ fn step(
 
 // ---- The walk over the stored frames
 
-// The dimension that is looked at; p, which is none, where the node does not look.
-fn look_dim(looks: bool, dim: u32, p: u32) -> u32
-    ensures { λ r. ⌜ r ≡ choose looks dim p ⌝ }
-{
-    if looks {
-        return dim;
-    }
-    p
-}
-
 // The steps that are before the position, and the one that is looked at, if any is.
 fn past_of(spot: Spot, looks: bool) -> Past
     ensures { λ r. ⌜ r ≡ pastOf spot looks ⌝ }
 {
     let p = spot.dims;
-    let here = look_dim(looks, spot.dim, p);
+    let here = if looks { spot.dim } else { p };
     Past {
         firsts: scan_tests::before_position(spot.pass, spot.dim, p),
         seconds: scan_tests::before_position(spot.pass, 0, spot.dim),
