@@ -267,7 +267,7 @@ module _ (L : Limits) (fit : Fits L) (ws start : List ℕ) (here : Spot) (sends 
           wide = omega (arith, c .length, h .room);
         }
 
-    pub handed : Steps L fs ss sums here (pastOf here looks) k
+    handed : Steps L fs ss sums here (pastOf here looks) k
     handed = rw (h .spot) core
       where
         core : Steps L fs ss sums spot (pastOf spot looks) k
@@ -531,28 +531,31 @@ module _ (L : Limits) (fit : Fits L) (ws start : List ℕ) (here : Spot) (sends 
                 received = received-more;
               }
 
-    -- ---- both passes
+    -- ---- both passes, by the words and the steps that the loop hands over
 
-    module _ (after : List ℕ) (r : Walked) (st : Stepped L fs ss here (pastOf here looks) k w sums after r) where
-      here-spot : Stepped L fs ss spot past k w sums after r
-      here-spot = rw (h .spot) at st
+    module _ (us vs : List ℕ) (e : us ≡ fs) (f : vs ≡ ss) (tries : Past) (g : tries ≡ pastOf here looks) where
+      pub lent : Steps L us vs sums here tries k
+      lent = rw (e, f, g) handed
 
-      pub step-stops : r .ok ≡ false → WalkedAll L ws looks start after r
-      step-stops bad = go (here-spot .middle .ok) refl
-        where
-          go : (t : Bool) → here-spot .middle .ok ≡ t → WalkedAll L ws looks start after r
-          go true e =
-              second-stops after (here-spot .middle) (here-spot .first) e r (here-spot .second e) bad
-          go false e = first-stops after (here-spot .middle) (here-spot .first) e r bad
+      module _ (after : List ℕ) (r : Walked) (st : Stepped L us vs here tries k w sums after r) where
+        done : Stepped L fs ss spot past k w sums after r
+        done = rw (h .spot) at (rw (e, f, g) at st)
 
-      pub step-more : r .ok ≡ true
-          → Carries L ws start looks (k + 1) (at + firstWords (here .dims) k + secondWords) after r
-      step-more good = go (here-spot .middle .ok) refl
-        where
-          go : (t : Bool) → here-spot .middle .ok ≡ t
-              → Carries L ws start looks (k + 1) (at + firstWords (here .dims) k + secondWords) after r
-          go true e = carries-more after (here-spot .middle) (here-spot .first) e r (here-spot .second e) good
-          go false e = not-both good (here-spot .stops e)
+        pub step-stops : r .ok ≡ false → WalkedAll L ws looks start after r
+        step-stops bad = go (done .middle .ok) refl
+          where
+            go : (t : Bool) → done .middle .ok ≡ t → WalkedAll L ws looks start after r
+            go true q = second-stops after (done .middle) (done .first) q r (done .second q) bad
+            go false q = first-stops after (done .middle) (done .first) q r bad
+
+        pub step-more : r .ok ≡ true
+            → Carries L ws start looks (k + 1) (at + firstWords (here .dims) k + secondWords) after r
+        step-more good = go (done .middle .ok) refl
+          where
+            go : (t : Bool) → done .middle .ok ≡ t
+                → Carries L ws start looks (k + 1) (at + firstWords (here .dims) k + secondWords) after r
+            go true q = carries-more after (done .middle) (done .first) q r (done .second q) good
+            go false q = not-both good (done .stops q)
 
   pub ended : p ≤ k → w .ok ≡ true → WalkedAll L ws looks start sums w
   ended l e =
