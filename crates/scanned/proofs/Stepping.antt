@@ -248,25 +248,27 @@ module _ (L : Limits) (fs before : List ℕ) (p k : ℕ) (awaits : Bool) (past :
 
       -- and without
       pub first-lacks : (word fs 0 ≡ 1 → ⊥) → (t : Bool) → t ≡ heldTest (fieldLimit L) fs awaits 0 (length fs)
+          → (c : ℕ) → c ≡ 0
           → FirstStep L fs p k awaits past w before before
-          (record { ok = t; issued = w .issued; clause = 0; received = w .received })
-      first-lacks e t q spot h sm =
+          (record { ok = t; issued = w .issued; clause = c; received = w .received })
+      first-lacks e t q c z spot h sm =
           let v = looked-here spot h in
           stored-done L fs before spot past k w (rw (h .dims) s) (open-here spot h) _ (rw (h .awaited) q) refl
-          (sym (choose-yes _ _ v ∙ none-stored L (spot .dims) k _ _ (ne-eqb _ _ e))) (λ u z. absurd (omega arith))
-          (λ u. refl)
+          (z ∙ sym (choose-yes _ _ v ∙ none-stored L (spot .dims) k _ _ (ne-eqb _ _ e)))
+          (λ u f. absurd (omega (arith, z, f))) (λ u. refl)
 
   -- any other step
   pub first-stores : (awaits ≡ true → (past .firsts ≤ k) × (k ≡ past .look → ⊥)) → (t : Bool)
-      → t ≡ heldTest (fieldLimit L) fs awaits 0 (length fs)
+      → t ≡ heldTest (fieldLimit L) fs awaits 0 (length fs) → (c : ℕ) → c ≡ w .clause
       → FirstStep L fs p k awaits past w before before
-      (record { ok = t; issued = w .issued; clause = w .clause; received = w .received })
-  first-stores far t q spot h sm =
+      (record { ok = t; issued = w .issued; clause = c; received = w .received })
+  first-stores far t q c z spot h sm =
       let u : looksAt spot (past .look) k ≡ false =
       no-both (awaitsAt spot k) _ (λ v. ne-eqb k (past .look) (far (sym (h .awaited) ∙ v) .1)) in
       let a : both (awaitsAt spot k) (firstPast spot k) ≡ false =
-      no-both (awaitsAt spot k) (firstPast spot k) (λ v. h .firsts ∙ le-ltb k (past .firsts) (far (sym (h .awaited) ∙ v) .0)) in
-      stored-done L fs before spot past k w (rw (h .dims) s) a _ (rw (h .awaited) q) refl (sym (choose-no _ _ u))
+      no-both (awaitsAt spot k) (firstPast spot k)
+      (λ v. h .firsts ∙ le-ltb k (past .firsts) (far (sym (h .awaited) ∙ v) .0)) in
+      stored-done L fs before spot past k w (rw (h .dims) s) a _ (rw (h .awaited) q) refl (z ∙ sym (choose-no _ _ u))
       (λ v. clash (sym v ∙ u)) (λ v. refl)
 
 -- ---- pass 2
@@ -354,12 +356,13 @@ module _ (L : Limits) (ss : List ℕ) (p k : ℕ) (awaits : Bool) (past : Past) 
 
   -- any other step
   pub second-stores : (awaits ≡ true → (past .seconds ≤ k) × (k ≡ past .confirm → ⊥)) → (t : Bool)
-      → t ≡ mayConfirm (word ss 0) (word ss 1) (word ss 2) awaits (fieldLimit L)
+      → t ≡ mayConfirm (word ss 0) (word ss 1) (word ss 2) awaits (fieldLimit L) → (c : ℕ) → c ≡ w .clause
       → SecondStep L ss p k awaits past w agreed
-      (record { ok = t; issued = w .issued; clause = w .clause; received = w .received })
-  second-stores far t q spot h e low =
+      (record { ok = t; issued = w .issued; clause = c; received = w .received })
+  second-stores far t q c z spot h e low =
       let u : looksAt spot (past .confirm) k ≡ false =
       no-both (awaitsAt spot k) _ (λ v. ne-eqb k (past .confirm) (far (sym (h .awaited) ∙ v) .1)) in
       kept-done L ss spot past k w
-      (no-both (awaitsAt spot k) (secondPast spot k) (λ v. h .seconds ∙ le-ltb k (past .seconds) (far (sym (h .awaited) ∙ v) .0))) t (rw (h .awaited) q) _
-      (sym (choose-no _ _ u))
+      (no-both (awaitsAt spot k) (secondPast spot k)
+      (λ v. h .seconds ∙ le-ltb k (past .seconds) (far (sym (h .awaited) ∙ v) .0))) t (rw (h .awaited) q) c
+      (z ∙ sym (choose-no _ _ u))
