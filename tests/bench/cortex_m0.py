@@ -50,10 +50,11 @@ def compile_by_hand(level):
     return made
 
 
-def measure(level, by_hand):
-    """What measure.c prints: {(what, board, side, function): [calls, average, most, deepest]}."""
+def measure(level, by_hand, archive=None):
+    """What measure.c prints of an archive, this tree's by default: {(what, board, side, function): [calls, average, most,
+    deepest]}."""
     bench = ["measure.c", "timed.S", "board.c", "sides.c"]
-    files = [*(emulate.BENCH / name for name in bench), tools.HERE / "others.c", *by_hand.values(), library(level)]
+    files = [*(emulate.BENCH / name for name in bench), tools.HERE / "others.c", *by_hand.values(), archive or library(level)]
     program = emulate.link(NAME, OUT / f"measure.{level}.elf", files)
     figures = {}
     for line in emulate.run(NAME, program, EXACT).splitlines():
@@ -228,12 +229,17 @@ def print_tools():
     sheet.save("m0-tools", "Measured with", f"{clang}; {emulator}; kit {tools.run(['rt', 'version']).strip()}\n")
 
 
-def bench(names):
+def prepare(names):
+    """Builds what is measured; the versions by hand: {level: {side: object}}."""
     tools.need(names)
     build.build(names)
     OUT.mkdir(parents=True, exist_ok=True)
     tools.run([*TARGETS[NAME].gcc, "-c", tools.HERE / NAME / "memory.S", "-o", MEMORY])
-    by_hand = {level: compile_by_hand(level) for level in build.LEVELS}
+    return {level: compile_by_hand(level) for level in build.LEVELS}
+
+
+def bench(names):
+    by_hand = prepare(names)
     measured = {level: measure(level, by_hand[level]) for level in build.LEVELS}
     bound = {level: bounds(level) for level in build.LEVELS}
     print_tools()

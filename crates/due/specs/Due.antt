@@ -1,5 +1,5 @@
--- The frame that is due by the words of a state: to whom it goes, its bytes, and what comes of sending it.
-use mathlib.Core.Bool.{Bool, true, false}
+-- The frame that is due by the words of a state: to whom it goes, and its bytes.
+use mathlib.Core.Bool.{Bool, true}
 use mathlib.Core.List.{List, [], _∷_, _++_}
 use Prim.Native.Nat.{ℕ, _%_}
 use lib.Dec.{leb, eqb}
@@ -10,6 +10,7 @@ use Rattle.base.specs.Refusal.{Answered, refused, found}
 use Rattle.tree.specs.Tree.{Place, sendsTo}
 use Rattle.tree.specs.Lookups.{placeLookup}
 use Rattle.frame.specs.Numbers.{bytesOf}
+use Rattle.node.specs.Answers.{also}
 use Rattle.layout.specs.Places.{atNodes, atNumber, atPhase, atPass, atDim, atFlag, atAgreed, headWords}
 use Rattle.layout.specs.Held.{word}
 pub use Rattle.due_frame.specs.Frames.{sentPart, takenPart, firstNumbers, hasSums}
@@ -32,9 +33,9 @@ abbrev pub dueTo : Limits → List ℕ → List ℕ
 dueTo L ws =
     choose (both (leb headWords (length ws)) (eqb (word ws atFlag) 1)) (toWhom (lookedUp L ws)) []
 
-abbrev pub isEmpty : List ℕ → Bool
-isEmpty [] = true
-isEmpty (a ∷ l) = false
+abbrev pub whomList : Whom → List ℕ
+whomList Nobody = []
+whomList (To to) = to .first ∷ also (to .extra)
 
 -- ---- The bytes
 

@@ -1,16 +1,15 @@
 // The frame that a node is due to send: to whom it goes, and its bytes, put together from lent words.
 ghost use mathlib.Core.Path.{_≡_};
-ghost use mathlib.Core.List.{[], List·Memᴰ};
+ghost use mathlib.Core.List.{List·Memᴰ};
 ghost use Prim.Native.Nat.{ℕ, _≤_, _<_};
-ghost use lib.Dec.{eqb};
 ghost use lib.ListN.{length};
 ghost use Rattle.base.specs.Choice.{choose};
 ghost use Rattle.base.specs.Limits.{limitsOf};
 ghost use Rattle.tree.specs.Lookups.{placedAnswer};
+ghost use Rattle.node.specs.Barrier.{isEmpty};
 ghost use Rattle.layout.specs.Places.{headWords};
 ghost use Rattle.due_frame.specs.Frames.{putLength, putBytes};
-ghost use Rattle.due.specs.Due.{toWhom, isLone, canSend, dueBytes, dueOf, dueOn, dueLent, lookedUp};
-ghost use Rattle.due.specs.Pieces.{whomList};
+ghost use Rattle.due.specs.Due.{toWhom, lookedUp, dueTo, whomList, dueBytes, canSend};
 use base::Bounds;
 use frame::Sent;
 use node::Extra;

@@ -1,38 +1,34 @@
--- Of a state that is lent with its sums: the bytes that are due by the words are those of the state's frame, and what comes
--- of sending it is as the state has it.
-use mathlib.Core.Path.{_≡_, refl, sym, ap, _∙_, subst}
-use mathlib.Core.Logic.{_⊎_, inl, inr}
+-- Of a state that is lent with its sums: the bytes that are due by the words are those of the state's frame, and they are due
+-- to those to whom the state has it.
+use mathlib.Core.Path.{_≡_, refl, sym, ap, _∙_}
+use mathlib.Core.Logic.{_≢_, _⊎_, inl, inr}
 use mathlib.Core.Bool.{Bool, true, false}
 use mathlib.Core.List.{List, [], _∷_, _++_, append-assoc}
 use Prim.Native.Nat.{ℕ, _+_, _-_, _*_, _%_, _≤_, _<_}
 use native.Mathlib.Nat.{mod-eq-of-lt}
 use native.Mathlib.Omega.{arith}
-use lib.Dec.{ltb, eqb}
+use lib.Dec.{eqb}
 use lib.ListN.{length}
-use borrow.Author.Tests.{eq-eqb, ne-eqb, le-leb, le-ltb, ltb-true, ltb-false}
-use Rattle.base.specs.Choice.{choose, list}
+use borrow.Author.Tests.{eq-eqb, ne-eqb, le-leb}
+use Rattle.base.specs.Choice.{choose, both, list}
 use Rattle.base.specs.Limits.{Limits, Fits, width}
-use Rattle.base.proofs.Laws.{choose-yes, choose-no, cases, both-make, list-at, list-same, list-more}
-use Rattle.tree.specs.Lookups.{placeLookup}
+use Rattle.base.proofs.Laws.{clash, choose-yes, choose-no, cases, both-make, list-at, list-same, list-more}
 use Rattle.frame.specs.Frame.{sentNumber, takenNumber, sentAt, takenAt, hasShell, numbersOf, frameBytes}
 use Rattle.frame.specs.Numbers.{bytesOf}
 use Rattle.frame.specs.declared.Sent.{Sent}
 use Rattle.frame.specs.declared.Taken.{Taken}
 use Rattle.frame.proofs.Shells.{shell-in}
 use Rattle.node.specs.Sums.{dims, Field, Has, sentIn, takenIn, allSent, allTaken, own}
-use Rattle.node.specs.Agree.{isAlone}
-use Rattle.node.specs.Barrier.{firstFrame, frameDue, lengthDue, receiversDue, isDue}
+use Rattle.node.specs.Barrier.{firstFrame, frameDue, receiversDue, isEmpty}
 use Rattle.node.specs.declared.Node.{Node}
-use Rattle.node.proofs.Bound.{due-first, due-second, due-dim, due-length}
-use Rattle.node.proofs.Valid.{Valid}
+use Rattle.node.proofs.Bound.{due-first, due-second}
 use Rattle.node.proofs.Ways.{NoneDue}
-use Rattle.layout.specs.Places.{sumWords}
+use Rattle.layout.specs.Places.{headWords, atPass, sumWords}
 use Rattle.layout.specs.Held.{word, unpacked, sumOf}
 use Rattle.wire.proofs.Putting.{part-is}
-use Rattle.due.specs.Due.{toWhom, isLone, lookedUp, dueTo, sentPart, takenPart, firstNumbers, dueBytes, hasSums, canSend}
-use Rattle.due.specs.Due.{Due, nobody, short, sent, sending, dueOn}
+use Rattle.due.specs.Due.{dueTo, sentPart, takenPart, firstNumbers, dueBytes, hasSums, canSend}
 use Rattle.node_decide.proofs.Handed.{Lent, held, lies, low-dims, number-low, head-room, gathered, issued-is}
-use Rattle.node_decide.proofs.Placing.{looked-whom, looked-alone}
+use Rattle.node_decide.proofs.Placing.{looked-whom}
 
 -- two values more at the end
 list-two : (k count : ℕ) (f : ℕ → ℕ)
@@ -59,7 +55,7 @@ module _ (L : Limits) (fit : Fits L) (ws sums : List ℕ) (p total : ℕ) (h : L
 
   module _ (first : n .pass ≡ 1) where
     sum-is : (f : Field) → Has (dims n) k f → sumOf p sums f ≡ own n k f
-    sum-is f b = rw (h .dims) (gathered L fit ws sums p total h low first f b)
+    sum-is f b = rw (h .dims) (gathered L fit ws sums p total h first f b)
 
     sent-is : (m : ℕ) → k ≤ m → m < p → word sums m ≡ sentAt (firstFrame n .sent) m
     sent-is m a b =
@@ -119,7 +115,7 @@ module _ (L : Limits) (fit : Fits L) (ws sums : List ℕ) (p total : ℕ) (h : L
     unfolding frameBytes numbersOf
     second-due =
         ap (λ t. 2 ∷ n .phase ∷ k ∷ n .number ∷ bytesOf (n .agreed ∷ t ∷ []))
-        (issued-is L fit ws sums p total h low second)
+        (issued-is L fit ws sums p total h second)
         ∙ ap (frameBytes (dims n)) (sym (due-second n second))
 
   -- ---- both
@@ -148,63 +144,39 @@ module _ (L : Limits) (fit : Fits L) (ws sums : List ℕ) (p total : ℕ) (h : L
   pub due-can : canSend ws p (length sums) ≡ true
   unfolding unpacked
   due-can =
-      cases (λ t. t ≡ true) (eqb (n .pass) 1) (hasSums p k (length sums)) true
-      (λ e. both-make (le-leb k p (omega arith)) (le-leb (sumWords p) (length sums) room)) (λ e. refl)
+      both-make (le-leb headWords (length ws) (head-room L ws (h .whole)))
+      (cases (λ t. t ≡ true) (eqb (n .pass) 1) (hasSums p k (length sums)) true
+      (λ e. both-make (le-leb k p (omega arith)) (le-leb (sumWords p) (length sums) room)) (λ e. refl))
 
--- ---- what comes of sending it
+-- ---- to whom
 
-module _ (L : Limits) (fit : Fits L) (ws sums : List ℕ) (p total : ℕ) (h : Lent L ws sums p total)
-    (room : sumWords p ≤ length sums) (bytes : ℕ) where
+module _ (L : Limits) (fit : Fits L) (ws sums : List ℕ) (p total : ℕ) (h : Lent L ws sums p total) where
   abbrev node : Node
   node = unpacked ws
 
-  good : Valid L node
-  good = held L fit ws sums p total h
-
-  -- what is known by it
-  abbrev pub Known : Due → Type 0
-  Known (nobody lone) = NoneDue L node × (lone ≡ isAlone node (node .dim))
-  Known short = (isDue node ≡ true) × (bytes < lengthDue node)
-  Known (sent to count) =
-      (node .flag ≡ true)
-      × (receiversDue node ≡ to)
-      × (count ≡ lengthDue node)
-      × (count ≤ bytes)
-      × (dueBytes ws sums p total ≡ frameBytes (dims node) (frameDue node))
-
-  looked : lookedUp L ws ≡ placeLookup L (node .nodes) (node .dim) (node .number)
-  unfolding unpacked
-  looked = refl
-
-  lone-is : isLone (lookedUp L ws) ≡ isAlone node (node .dim)
-  lone-is = ap isLone looked ∙ looked-alone L node good
-
-  -- by the flag and those who receive
-  by : (t : Bool) → node .flag ≡ t → (to : List ℕ) → receiversDue node ≡ to
-      → Known (sending (choose t to []) (isLone (lookedUp L ws)) (canSend ws p (length sums)) (dueBytes ws sums p total) bytes)
-  by false f to e = (inl f, lone-is)
-  by true f [] e = (inr e, lone-is)
-  by true f (a ∷ to) e =
-      let low : node .dim < p = omega (arith, due-dim L node good a to e, h .dims) in
-      let is = due-is L fit ws sums p total h low room in
-      let count = length (dueBytes ws sums p total) in
-      let long = ap length is ∙ due-length node (good .pass) in
-      subst Known (sym (choose-yes _ _ (due-can L fit ws sums p total h low room)))
-      (cases Known (ltb bytes count) short (sent (a ∷ to) count)
-      (λ u. (rw (f, e), omega (arith, ltb-true bytes count u, long)))
-      (λ u. (f, e, long, ltb-false bytes count u, is)))
-
   flagged : dueTo L ws ≡ choose (node .flag) (receiversDue node) []
   unfolding unpacked
-  flagged = ap (λ l. choose (node .flag) l []) (ap toWhom looked ∙ looked-whom L node good)
+  flagged = λ i.
+      choose (both (le-leb headWords (length ws) (head-room L ws (h .whole)) i) (node .flag))
+      (looked-whom L node (held L fit ws sums p total h) i) []
 
-  pub due-known : Known (dueOn L ws sums p total bytes)
-  unfolding dueOn
-  due-known =
-      subst Known
-      (sym
-      (choose-no _ _ (le-ltb (length ws) 8 (head-room L ws (h .whole)))
-      ∙ ap
-      (λ l. sending l (isLone (lookedUp L ws)) (canSend ws p (length sums)) (dueBytes ws sums p total) bytes)
-      flagged))
-      (by (node .flag) refl (receiversDue node) refl)
+  pub due-none : dueTo L ws ≡ [] → NoneDue L node
+  due-none e = go (node .flag) refl (sym flagged ∙ e)
+    where
+      go : (t : Bool) → node .flag ≡ t → choose t (receiversDue node) [] ≡ [] → NoneDue L node
+      go true f q = inr q
+      go false f q = inl f
+
+  pub due-some : (a : ℕ) (l : List ℕ) → dueTo L ws ≡ a ∷ l → (node .flag ≡ true) × (receiversDue node ≡ a ∷ l)
+  due-some a l e = go (node .flag) refl (sym flagged ∙ e)
+    where
+      go : (t : Bool) → node .flag ≡ t → choose t (receiversDue node) [] ≡ a ∷ l
+          → (node .flag ≡ true) × (receiversDue node ≡ a ∷ l)
+      go true f q = (f, q)
+      go false f q = clash (ap isEmpty q)
+
+-- a frame has bytes
+pub due-bytes : (ws sums : List ℕ) (p issued : ℕ) → eqb (length (dueBytes ws sums p issued)) 0 ≡ false
+due-bytes ws sums p issued =
+    ne-eqb _ 0
+    (cases (λ l. length l ≢ 0) (eqb (word ws atPass) 1) _ _ (λ e q. omega arith) (λ e q. omega arith))

@@ -1,4 +1,5 @@
 pub mod Placing
+pub mod Clauses
 pub mod Turning
 pub mod Handed
 pub mod Due

@@ -1,4 +1,4 @@
--- Laws of a node's place: what the lookup of a node's position says of its receivers and of the node awaited.
+-- The lookup of a node's position names its receivers.
 use mathlib.Core.Path.{_≡_, sym, ap, _∙_}
 use Prim.Native.Nat.{_<_}
 use native.Mathlib.Decide.{ℕ-discrete}
@@ -6,16 +6,15 @@ use native.Mathlib.Omega.{arith}
 use borrow.Author.Tests.{le-leb, lt-leb}
 use Rattle.base.specs.Limits.{Limits}
 use Rattle.base.specs.Refusal.{Answered, refused, found}
-use Rattle.tree.specs.Tree.{Place, place, awaited, receivers}
+use Rattle.tree.specs.Tree.{Place, place, receivers}
 use Rattle.tree.specs.Lookups.{placeLookup}
 use Rattle.tree.proofs.Lookups.{place-found}
 use Rattle.node.specs.Sums.{dims}
-use Rattle.node.specs.Agree.{isNone, isAlone}
 use Rattle.node.specs.Barrier.{receiversDue}
 use Rattle.node.specs.declared.Node.{Node}
-use Rattle.node.proofs.Bound.{one-receivers, one-awaited}
+use Rattle.node.proofs.Bound.{one-receivers}
 use Rattle.node.proofs.Valid.{Valid}
-use Rattle.due.specs.Due.{toWhom, isLone}
+use Rattle.due.specs.Due.{toWhom}
 
 module _ (L : Limits) (n : Node) (h : Valid L n) where
   abbrev looked : Answered Place
@@ -37,11 +36,3 @@ module _ (L : Limits) (n : Node) (h : Valid L n) where
       go : Dec (dims n ≡ 0) → toWhom looked ≡ receiversDue n
       go (yes z) = ap toWhom (nowhere z) ∙ sym (one-receivers (n .nodes) (n .dim) (n .number) z)
       go (no z) = ap toWhom (there (h .dim (omega arith)))
-
-  pub looked-alone : isLone looked ≡ isAlone n (n .dim)
-  unfolding awaited
-  looked-alone = go (ℕ-discrete (dims n) 0)
-    where
-      go : Dec (dims n ≡ 0) → isLone looked ≡ isAlone n (n .dim)
-      go (yes z) = ap isLone (nowhere z) ∙ ap isNone (sym (one-awaited (n .nodes) (n .dim) (n .number) z))
-      go (no z) = ap isLone (there (h .dim (omega arith)))

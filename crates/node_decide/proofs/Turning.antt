@@ -1,19 +1,18 @@
 -- Laws of turns: the state and the answer of a turn are the definition's, and so are the lent bytes.
 use mathlib.Core.Path.{_≡_, refl, sym, ap, _∙_, subst}
-use mathlib.Core.Bool.{Bool, true, false, not}
-use mathlib.Core.List.{List, [], _∷_, _++_}
-use Prim.Native.Nat.{ℕ, suc, _≤_, _<_}
+use mathlib.Core.Bool.{true, false, not}
+use mathlib.Core.List.{List, _∷_, _++_}
+use Prim.Native.Nat.{ℕ, suc, _%_, _≤_, _<_}
 use native.Mathlib.Omega.{arith}
 use lib.Dec.{ltb, eqb}
 use lib.ListN.{length, drop}
 use borrow.Author.Tests.{lt-ltb, lt-leb, eqb-true, ltb-false}
-use Rattle.base.specs.Choice.{choose, both}
+use Rattle.base.specs.Choice.{both}
 use Rattle.base.specs.Limits.{Limits}
 use Rattle.base.specs.Refusal.{Refusal, when}
-use Rattle.base.proofs.Laws.{Stops, here, later, clash, choose-yes, choose-no, cases, both-make}
+use Rattle.base.proofs.Laws.{Stops, here, later, choose-yes, choose-no, cases, both-make}
 use Rattle.frame.specs.Frame.{frameBytes}
 use Rattle.node.specs.Sums.{dims, allTaken, own}
-use Rattle.node.specs.Agree.{isAlone, clauses, allHold, agrees, firstFailing}
 use Rattle.node.specs.State.{valid}
 use Rattle.node.specs.Answers.{Given, give, also, Barrier, sent, waits, moved, barrierOf}
 use Rattle.node.specs.Calls.{badState}
@@ -23,17 +22,11 @@ use Rattle.node.specs.Barrier.{lentAfter, barrierBytes}
 use Rattle.node.specs.declared.Node.{Node}
 use Rattle.node.specs.declared.Receivers.{Receivers}
 use Rattle.node.proofs.Ways.{callChecks, NoneDue, call-refuses, call-sends, call-looks}
-use Rattle.node.proofs.FirstFailing.{Named}
-use Rattle.survey.specs.Verdict.{verdictOf}
-use Rattle.survey.proofs.Clauses.{agreed-is, fails-is}
-use Rattle.survey.specs.declared.Verdict.the-variants.{Agrees, Fails}
+use Rattle.scanned.specs.Scan.{clauseHere}
 use Rattle.node_turn.specs.Turn.{onwardTurn, nodeAfter, answerOf}
 use Rattle.node_turn.specs.declared.Turn.{Turn}
 use Rattle.node_turn.specs.declared.Turn.the-variants.{Refuses, Sends, Waits, Leaves}
-
--- the clauses of the position's step, none if it is alone
-abbrev pub tried : Limits → Node → List Bool
-tried L n = choose (isAlone n (n .dim)) [] (clauses L n (n .pass) (n .dim))
+use Rattle.node_decide.proofs.Clauses.{agrees-here, fails-here}
 
 abbrev pub turned : Node → Turn → Given Barrier
 turned n t = give (nodeAfter n t) (barrierOf (answerOf t))
@@ -92,30 +85,6 @@ module _ (L : Limits) (n : Node) where
             ∙ sym (call-sends L n (length buf) _ _ ok b f r (omega arith)))
             (ap (λ l. l ++ drop count buf) is)
 
-  -- ---- verdicts
-
-  abbrev tests : List Bool
-  tests = clauses L n (n .pass) (n .dim)
-
-  abbrev agreed : Bool
-  agreed = agrees L n (n .pass) (n .dim)
-
-  said-yes : Agrees ≡ verdictOf (tried L n) → agreed ≡ true
-  unfolding agrees
-  said-yes e = go (isAlone n (n .dim)) (sym (agreed-is (tried L n) Agrees e))
-    where
-      go : (t : Bool) → allHold (choose t [] tests) ≡ true → choose t true (allHold tests) ≡ true
-      go true q = refl
-      go false q = q
-
-  said-no : (c : ℕ) → Fails c ≡ verdictOf (tried L n) → (agreed ≡ false) × (firstFailing tests ≡ c)
-  unfolding agrees
-  said-no c e = go (isAlone n (n .dim)) (fails-is (tried L n) c e)
-    where
-      go : (t : Bool) → Named (choose t [] tests) c → (choose t true (allHold tests) ≡ false) × (firstFailing tests ≡ c)
-      go true q = clash (q .some)
-      go false q = (q .some, q .first)
-
   -- ---- a node that looks
 
   pub looks-out : dims n ≡ 0 → Looks L n Leaves
@@ -125,7 +94,7 @@ module _ (L : Limits) (n : Node) where
 
   module _ (z : eqb (dims n) 0 ≡ false) where
     pub looks-on : n .dim < dims n → (t : ℕ) → (n .pass ≡ 1 → dims n ≤ suc (n .dim) → t ≡ own n (dims n) allTaken)
-        → Agrees ≡ verdictOf (tried L n)
+        → eqb (clauseHere L n) 7 ≡ true
         → Looks L n (onwardTurn (dims n) (n .pass) (n .dim) (n .agreed) t)
     unfolding onwardTurn
     looks-on low t same v =
@@ -146,15 +115,14 @@ module _ (L : Limits) (n : Node) where
         record { reply = sym (moves ∙ choose-no _ _ e ∙ choose-no _ _ f); bytes = λ buf. refl })))
       where
         moves : looking L n ≡ moving n
-        moves = choose-no _ _ z ∙ choose-yes _ _ (said-yes v)
+        moves = choose-no _ _ z ∙ choose-yes _ _ (agrees-here L n ∙ v)
 
-    pub looks-wait : (c : ℕ) → Fails c ≡ verdictOf (tried L n) → Looks L n (Waits c)
-    looks-wait c e =
-        let q = said-no c e in
+    pub looks-wait : eqb (clauseHere L n) 7 ≡ false → Looks L n (Waits (clauseHere L n % 256))
+    looks-wait e =
         record {
           reply =
-              ap (λ i. give (at n (n .pass) (n .dim) false (n .agreed)) (waits i)) (sym (q .1))
-              ∙ sym (choose-no _ _ z ∙ choose-no _ _ (q .0));
+              ap (λ i. give (at n (n .pass) (n .dim) false (n .agreed)) (waits i)) (sym (fails-here L n e))
+              ∙ sym (choose-no _ _ z ∙ choose-no _ _ (agrees-here L n ∙ e));
           bytes = λ buf. refl;
         }
 

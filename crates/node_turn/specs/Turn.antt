@@ -22,7 +22,7 @@ use Rattle.node_turn.specs.declared.Turn.the-variants.{
 
 -- ---- On
 
--- of the step in dimension k of p, in a pass, with T as it is agreed and as the sums have it
+-- of the step in dimension k of p, in a pass, with T as it is agreed and as it becomes
 unfoldable pub onwardTurn : ℕ → ℕ → ℕ → ℕ → ℕ → Turn
 onwardTurn p pass k agreed total =
     choose (leb p k) Leaves

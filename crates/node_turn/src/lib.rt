@@ -1,6 +1,6 @@
 // What a node does in a barrier call, and which of it where its step agrees.
 ghost use mathlib.Core.Path.{_≡_};
-ghost use Rattle.layout.specs.Places.{atPass, atAgreed, sumReceived};
+ghost use Rattle.layout.specs.Places.{atPass, atAgreed};
 ghost use Rattle.layout.specs.Held.{word};
 ghost use Rattle.node_turn.specs.Turn.{onwardTurn};
 use frame::Taken;

@@ -7,10 +7,11 @@ use native.Mathlib.Omega.{arith}
 use lib.ListN.{length}
 use Rattle.base.specs.Limits.{width}
 use Rattle.base.proofs.Laws.{list-at}
+use Rattle.base.proofs.Limits.{mul-low}
 use Rattle.node.specs.Sums.{dims, firstAt, secondAt}
-use Rattle.layout.specs.Places.{firstWords, secondWords, stepWords, atFirst, atSecond, stateWords}
+use Rattle.layout.specs.Places.{firstWords, secondWords, stepWords, atFirst, atSecond, stateWords, mostWords}
 use Rattle.layout.specs.Held.{word, firstFrom, secondFrom, firstIn, secondIn, unpacked}
-use Rattle.layout.proofs.Offsets.{first-inside}
+use Rattle.layout.proofs.Offsets.{first-inside, words-closed}
 use Rattle.layout.proofs.Parts.{first-alike, second-alike}
 use Rattle.layout.proofs.Reading.{first-word, second-word, first-in, second-in}
 use Rattle.wire.specs.Wire.{part}
@@ -37,6 +38,16 @@ module _ (ws : List ℕ) (k : ℕ) (low : k < dims (unpacked ws)) (bound : dims 
 
   pub inside : atFirst p k + stepWords p k ≤ length ws
   inside = omega (arith, first-inside p k low, long)
+
+  -- the places of a state are small
+  pub near : atFirst p k + stepWords p k ≤ mostWords
+  near =
+      omega (
+        arith,
+        first-inside p k low,
+        words-closed p,
+        mul-low p width (p + 9) 17 bound (omega arith),
+      )
 
   pub first-long : length (firstLent ws p k) ≡ firstWords p k
   first-long = length-part ws (atFirst p k) (firstWords p k) (omega (arith, inside))
@@ -73,3 +84,16 @@ module _ (ws : List ℕ) (k : ℕ) (low : k < dims (unpacked ws)) (bound : dims 
       (λ i b.
       sym (word-part ws (atSecond p k) secondWords i (omega (arith, inside)) b)
       ∙ ap (word (secondLent ws p k)) (sym (zero-add i)))
+
+-- ---- the slices that the loop makes
+
+module _ (ws : List ℕ) (p k at : ℕ) (place : at ≡ atFirst p k) where
+  pub first-slice : part ws at (at + (2 * (p - k) + 3) - at) ≡ firstLent ws p k
+  first-slice =
+      let e : at + (2 * (p - k) + 3) - at ≡ firstWords p k = omega arith in (λ i. part ws (place i) (e i))
+
+  pub second-slice : part ws (at + (2 * (p - k) + 3)) (at + (2 * (p - k) + 3) + 3 - (at + (2 * (p - k) + 3))) ≡ secondLent ws p k
+  second-slice =
+      let e : at + (2 * (p - k) + 3) ≡ atSecond p k = omega arith in
+      let f : at + (2 * (p - k) + 3) + 3 - (at + (2 * (p - k) + 3)) ≡ secondWords = omega arith in
+      (λ i. part ws (e i) (f i))

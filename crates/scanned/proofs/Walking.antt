@@ -267,7 +267,7 @@ module _ (L : Limits) (fit : Fits L) (ws start : List ℕ) (here : Spot) (sends 
           wide = omega (arith, c .length, h .room);
         }
 
-    pub handed : Steps L fs ss sums here (pastOf here looks) k
+    handed : Steps L fs ss sums here (pastOf here looks) k
     handed = rw (h .spot) core
       where
         core : Steps L fs ss sums spot (pastOf spot looks) k
@@ -503,7 +503,7 @@ module _ (L : Limits) (fit : Fits L) (ws start : List ℕ) (here : Spot) (sends 
               go : Dec (k ≡ n .dim) → m .received .0 ≡ own n (suc (n .dim)) allTaken
               go (yes q) =
                   let at-position : looksAt spot (past .look) k ≡ true =
-                      both-make (awaits-here q ∙ ap not f) (eq-eqb k (past .look) (q ∙ sym look-is)) in
+                  both-make (awaits-here q ∙ ap not f) (eq-eqb k (past .look) (q ∙ sym look-is)) in
                   let z : k ≤ reach n = omega (arith, choose-yes (n .dim) p e) in
                   done .received one at-position m-agreed
                   ∙ (λ i. own-here z allTaken tt i + ap (λ (z : Stored). number z allTaken) (sym x-is) i)
@@ -511,7 +511,7 @@ module _ (L : Limits) (fit : Fits L) (ws start : List ℕ) (here : Spot) (sends 
                   ∙ ap (λ d. own n (suc d) allTaken) q
               go (no q) =
                   let past-it : looksAt spot (past .look) k ≡ false =
-                      ap (λ d. looksAt spot d k) look-is ∙ away (awaitsAt spot k) (ne-eqb k (n .dim) q) in
+                  ap (λ d. looksAt spot d k) look-is ∙ away (awaitsAt spot k) (ne-eqb k (n .dim) q) in
                   ap (λ (z : Taken). z .0) (done .kept past-it)
                   ∙ c .received (both-make looked (lt-ltb (n .dim) k (omega (arith, below)))) f one-pass
                   (sym (done .clause one ∙ choose-no _ _ past-it) ∙ m-agreed)
@@ -531,34 +531,37 @@ module _ (L : Limits) (fit : Fits L) (ws start : List ℕ) (here : Spot) (sends 
                 received = received-more;
               }
 
-    -- ---- both passes
+    -- ---- both passes, by the words and the steps that the loop hands over
 
-    module _ (after : List ℕ) (r : Walked) (st : Stepped L fs ss here (pastOf here looks) k w sums after r) where
-      here-spot : Stepped L fs ss spot past k w sums after r
-      here-spot = rw (h .spot) at st
+    module _ (us vs : List ℕ) (e : us ≡ fs) (f : vs ≡ ss) (tries : Past) (g : tries ≡ pastOf here looks) where
+      pub lent : Steps L us vs sums here tries k
+      lent = rw (e, f, g) handed
 
-      pub step-stops : r .ok ≡ false → WalkedAll L ws looks start after r
-      step-stops bad = go (here-spot .middle .ok) refl
-        where
-          go : (t : Bool) → here-spot .middle .ok ≡ t → WalkedAll L ws looks start after r
-          go true e =
-              second-stops after (here-spot .middle) (here-spot .first) e r (here-spot .second e) bad
-          go false e = first-stops after (here-spot .middle) (here-spot .first) e r bad
+      module _ (after : List ℕ) (r : Walked) (st : Stepped L us vs here tries k w sums after r) where
+        done : Stepped L fs ss spot past k w sums after r
+        done = rw (h .spot) at (rw (e, f, g) at st)
 
-      pub step-more : r .ok ≡ true
-          → Carries L ws start looks (k + 1) (at + firstWords (here .dims) k + secondWords) after r
-      step-more good = go (here-spot .middle .ok) refl
-        where
-          go : (t : Bool) → here-spot .middle .ok ≡ t
-              → Carries L ws start looks (k + 1) (at + firstWords (here .dims) k + secondWords) after r
-          go true e = carries-more after (here-spot .middle) (here-spot .first) e r (here-spot .second e) good
-          go false e = not-both good (here-spot .stops e)
+        pub step-stops : r .ok ≡ false → WalkedAll L ws looks start after r
+        step-stops bad = go (done .middle .ok) refl
+          where
+            go : (t : Bool) → done .middle .ok ≡ t → WalkedAll L ws looks start after r
+            go true q = second-stops after (done .middle) (done .first) q r (done .second q) bad
+            go false q = first-stops after (done .middle) (done .first) q r bad
+
+        pub step-more : r .ok ≡ true
+            → Carries L ws start looks (k + 1) (at + firstWords (here .dims) k + secondWords) after r
+        step-more good = go (done .middle .ok) refl
+          where
+            go : (t : Bool) → done .middle .ok ≡ t
+                → Carries L ws start looks (k + 1) (at + firstWords (here .dims) k + secondWords) after r
+            go true q = carries-more after (done .middle) (done .first) q r (done .second q) good
+            go false q = not-both good (done .stops q)
 
   pub ended : p ≤ k → w .ok ≡ true → WalkedAll L ws looks start sums w
   ended l e =
       let z : k ≡ p = omega (arith, c .low) in
       let at-end : n .dim < p → looks ≡ true → isSeen n looks k ≡ true =
-          λ d s. both-make s (lt-ltb (n .dim) k (omega arith)) in
+      λ d s. both-make s (lt-ltb (n .dim) k (omega arith)) in
       record {
         ok = e ∙ sym (every-make 0 p (stepIn L ws) (λ j a b. c .steps j (omega arith)));
         length = c .length;

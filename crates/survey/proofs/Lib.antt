@@ -1,5 +1,4 @@
 pub mod Lists
-pub mod Clauses
 pub mod Stored
 pub mod Valid
 pub mod Sums

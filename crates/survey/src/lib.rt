@@ -1,12 +1,6 @@
 // What the state test says of a state, piece by piece: the laws for any limits, and what the tests over words share. The code
 // stands in the crates above.
 
-pub enum Verdict {
-    Agrees,
-    // the first clause that fails
-    Fails(u8),
-}
-
 // What the test of a step needs to know of the node.
 pub struct Spot {
     pub dims: u32,

@@ -7,11 +7,13 @@ use native.Mathlib.Omega.{arith}
 use lib.Dec.{eqb, ltb}
 use lib.ListN.{set}
 use borrow.Author.Tests.{ltb-true, eqb-true}
-use Rattle.base.specs.Choice.{choose, both, either}
+use Rattle.base.specs.Choice.{choose, both, either, every}
+use Rattle.base.specs.Limits.{Limits}
 use Rattle.base.proofs.Laws.{both-true, cases}
 use Rattle.node.specs.Sums.{dims, firstAt, secondAt, Field, sentIn, takenIn, allSent, allTaken, tally, total}
 use Rattle.node.specs.Sums.{own, ownIssued}
-use Rattle.node.specs.State.{positionOk}
+use Rattle.node.specs.Agree.{agrees}
+use Rattle.node.specs.State.{positionOk, passedOk}
 use Rattle.node.specs.Change.{withFirst, withSecond}
 use Rattle.node.specs.declared.Stored.{Stored}
 use Rattle.node.specs.declared.Confirm.{Confirm}
@@ -45,6 +47,22 @@ module _ (n : Node) (ok : positionOk n ≡ true) where
 
   pub confirm-reach-low : confirmReach n ≤ dims n
   confirm-reach-low = cases (λ r. r ≤ dims n) (eqb (n .pass) 1) _ _ (λ e. omega arith) (λ e. dim-low)
+
+before : (L : Limits) (n : Node)
+    → passedOk L n ≡ both (every 0 (reach n) (agrees L n 1)) (every 0 (confirmReach n) (agrees L n 2))
+unfolding passedOk
+before L n = go (eqb (n .pass) 1)
+  where
+    whole : (b : Bool) → b ≡ both b true
+    whole true = refl
+    whole false = refl
+
+    go : (t : Bool)
+        → choose t (every 0 (n .dim) (agrees L n 1))
+        (both (every 0 (dims n) (agrees L n 1)) (every 0 (n .dim) (agrees L n 2)))
+        ≡ both (every 0 (choose t (n .dim) (dims n)) (agrees L n 1)) (every 0 (choose t 0 (n .dim)) (agrees L n 2))
+    go true = whole _
+    go false = refl
 
 -- ---- one dimension more
 
@@ -121,6 +139,7 @@ tally-kept n l q allTaken = refl
 pub one-walk : OneWalk
 one-walk =
     record {
+      before = before;
       sums = sums-total;
       issued = issued-total;
       sumsOwn = walked-sums;

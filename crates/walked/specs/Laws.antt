@@ -3,9 +3,11 @@ use mathlib.Core.Path.{_≡_}
 use mathlib.Core.Bool.{true}
 use Prim.Native.Nat.{ℕ, _+_, _-_, _<_, min}
 use lib.ListN.{length, set}
-use Rattle.base.specs.Choice.{list}
+use Rattle.base.specs.Choice.{both, every, list}
+use Rattle.base.specs.Limits.{Limits}
 use Rattle.node.specs.Sums.{dims, firstAt, secondAt, Field, allSent, tally, total, own, ownIssued}
-use Rattle.node.specs.State.{positionOk}
+use Rattle.node.specs.Agree.{agrees}
+use Rattle.node.specs.State.{positionOk, passedOk}
 use Rattle.node.specs.Change.{withFirst, withSecond}
 use Rattle.node.specs.declared.Stored.{Stored}
 use Rattle.node.specs.declared.Confirm.{Confirm}
@@ -29,6 +31,9 @@ pub record Alike (n m : Node) (k : ℕ) : Type 0 where
   pub second : (j : ℕ) → j < k → secondAt m j ≡ secondAt n j
 
 pub record OneWalk : Type 0 where
+  -- the steps before the position, whose frames are added, are those that agree in a state that passes the test
+  pub before : (L : Limits) (n : Node)
+      → passedOk L n ≡ both (every 0 (reach n) (agrees L n 1)) (every 0 (confirmReach n) (agrees L n 2))
   -- the node's number, and what each frame below k adds, once each
   pub sums : (n : Node) (k : ℕ) (f : Field) → walked n k .sums f ≡ tally n f + total (λ j. firstAdds n j (firstAt n j) f) k
   pub issued : (n : Node) (k : ℕ) → walked n k .issued ≡ tally n allSent + total (λ j. secondAdds n j (secondAt n j)) k

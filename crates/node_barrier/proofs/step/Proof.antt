@@ -5,7 +5,7 @@ use denote.Ref.{now}
 use native.Mathlib.Omega.{arith}
 use mathlib.Core.Path.{_≡_, refl, ap, _∙_}
 use mathlib.Core.Logic.{_⊎_, inl, inr}
-use mathlib.Core.Bool.{true, false, not}
+use mathlib.Core.Bool.{Bool, true, false, not}
 use mathlib.Core.List.{List}
 use Prim.Native.Nat.{ℕ, _≤_}
 use lib.Dec.{leb, ltb}
@@ -13,6 +13,7 @@ use lib.ListN.{length}
 use Rattle.base.specs.Limits.{Limits, Fits, limitsOf}
 use Rattle.base.proofs.Laws.{both-true, choose-no}
 use Rattle.base.proofs.Limits.{fits-of}
+use Rattle.node.specs.Barrier.{isEmpty}
 use Rattle.node.specs.State.{valid}
 use Rattle.node.specs.declared.Node.{Node}
 use Rattle.node.specs.declared.BarrierAnswer.the-variants.{Refused}
@@ -20,12 +21,14 @@ use Rattle.layout.specs.Places.{atBusy, sumWords}
 use Rattle.layout.specs.Held.{word, dimsOf, unpacked, isWhole, isReady, holding}
 use Rattle.scanned.specs.declared.Scan.{Scan}
 use Rattle.scanned.proofs.Known.{Known, failed, passed}
+use Rattle.due.specs.Due.{whomList}
 use Rattle.node_turn.specs.Turn.{nodeAfter, wordsAfter}
 use Rattle.node_turn.specs.declared.Turn.{Turn}
 use Rattle.node_turn.specs.declared.Turn.the-variants.{Refuses}
 use Rattle.node_act.proofs.Acting.{acted}
 use Rattle.node_decide.proofs.Handed.{Lent, head-room, low-dims}
-use Rattle.node_decide.proofs.Turning.{refuses-state, refuses-busy}
+use Rattle.node_decide.proofs.Turning.{turns-same, refuses-state, refuses-busy}
+use Rattle.node_decide.proofs.Looking.{Seen}
 use Rattle.node_decide.proofs.Decided.{decided}
 use Rattle.node_barrier.proofs.Answering.{On, no-state, on-state}
 use Rattle.node_barrier.proofs.step.Statement.{statement}
@@ -36,8 +39,14 @@ module _ (c : tie.After-struct-known) where
   abbrev scan : tie.After-scan-of
   scan = c .before .before .before
 
+  abbrev nobody : tie.After-is-nobody
+  nobody = scan .before
+
+  abbrev told : tie.After-to-whom
+  told = nobody .before .before .before
+
   abbrev start : tie.Start
-  start = scan .before .before .before .before .before .before
+  start = told .before .before .before .before .before
 
   abbrev L : Limits
   L = limitsOf (start .args .b)
@@ -50,6 +59,9 @@ module _ (c : tie.After-struct-known) where
 
   abbrev room : ℕ
   room = length (now (start .args .sums))
+
+  abbrev looks : Bool
+  looks = nobody .is-nobody .result
 
   abbrev n : Node
   n = unpacked ws
@@ -68,7 +80,7 @@ module _ (c : tie.After-struct-known) where
 returns : tie.Need-returns
 returns c =
     let k = c .before in
-    refused k (failed (L k) (room k) (ws k) (scan k .scan-of .result) (scan k .scan-of .ensures .0) (c .if1 .taken))
+    refused k (failed (L k) (room k) (looks k) (ws k) (scan k .scan-of .result) (scan k .scan-of .ensures .0) (c .if1 .taken))
 
 -- ---- a state that passes the test
 
@@ -76,8 +88,8 @@ module _ (e : tie.Else1) where
   abbrev k : tie.After-struct-known
   k = e .before
 
-  known : Known (L k) (room k) (ws k) (scan k .scan-of .result)
-  known = passed (L k) (room k) (ws k) (scan k .scan-of .result) (scan k .scan-of .ensures .0) (e .if1 .left)
+  known : Known (L k) (room k) (looks k) (ws k) (scan k .scan-of .result)
+  known = passed (L k) (room k) (looks k) (ws k) (scan k .scan-of .result) (scan k .scan-of .ensures .0) (e .if1 .left)
 
   long : 8 ≤ length (ws k)
   long = head-room (L k) (ws k) (known .whole)
@@ -98,6 +110,12 @@ module _ (e : tie.Else1) where
         gathered = scan k .scan-of .ensures .1 .0 (known .passes);
         issued = known .issued;
       }
+
+  -- where a frame is due to nobody the step of the position was looked at
+  seen : isEmpty (whomList (told k .to-whom .result)) ≡ true → Seen (L k) (n k) (found .clause) (found .received .0)
+  seen q =
+      let t = nobody k .is-nobody .ensures ∙ q in
+      record { clause = known .clause t; received = known .received t }
 
   few : found .dims ≤ 8
   few = low-dims (L k) (fit k) (ws k) sums (found .dims) (found .issued .0) lent
@@ -142,20 +160,21 @@ returns-2 c =
 returns-3 : tie.Need-returns-3
 returns-3 c =
     let a = c .before .before in
-    let d = a .before .before .before .before .before .before in
+    let d = a .before .before .before .before in
     let i = d .before .before .before .before .before in
     let e = i .before .before in
     let s = k e in
     let t = d .decide .result in
+    let turn = decided (L s) (fit s) (ws s) (sums e) (found e .dims) (found e .issued .0) (lent e) (enough e)
+    (idle e (i .if2 .left)) (buf s) _ _ (told s .to-whom .result) (told s .to-whom .ensures) (seen e) in
     on-state (L s) (ws s) (buf s) (room s) (known e .ready) t _ _ (a .act .ensures .0 ∙ choose-no _ _ (headed e))
-    (decided (L s) (fit s) (ws s) (sums e) (found e .dims) (found e .issued .0) (lent e) (enough e)
-    (idle e (i .if2 .left)) _ (buf s) _ t (d .decide .ensures))
+    (turns-same (L s) (n s) (buf s) (d .decide .ensures .1) (d .decide .ensures .0) turn)
     (a .act .ensures .1 ∙ choose-no _ _ (headed e) ∙ after e t)
 
 pub step-spec : {M : Type 1} → statement M
 step-spec =
     tie.close
-    (tie.spec (λ c κs. search needs) (λ c. search needs) (λ c. search needs) returns
-    (λ c. omega (arith, long (c .before))) (λ c. search needs) (λ c. search needs) returns-2
+    (tie.spec (λ c κs. search needs) (λ c κs. search needs) (λ c κs. search needs) (λ c. search needs) (λ c. search needs)
+    returns (λ c. omega (arith, long (c .before))) (λ c. search needs) (λ c. search needs) returns-2
     (λ c. record { fits = omega (arith, few (c .before .before .before)) }) (λ c κs. search needs) (λ c κs. search needs)
     (λ c. search needs) (λ c. search needs) (λ c. search needs) returns-3)

@@ -1,22 +1,18 @@
--- `decide`: a frame that is due is sent, else the node looks.
+-- `decide`: a frame that is due is put, else the node looks.
 use borrow.Author.Needs.{needs}
 use denote.Ref.{now}
 use mathlib.Core.Path.{_≡_, refl, sym, ap, _∙_}
 use mathlib.Core.List.{List}
+use lib.ListN.{length}
 use Prim.Native.Nat.{ℕ}
-use Rattle.base.specs.Limits.{limitsOf}
-use Rattle.due.specs.Due.{dueBytes, dueOf, dueLent}
-use Rattle.due.specs.declared.Sending.{Sending}
+use Rattle.due.specs.declared.Whom.{Whom}
 use Rattle.node_turn.specs.declared.Turn.{Turn}
-use Rattle.node_decide.specs.Decides.{Follows, Decides}
+use Rattle.node_decide.specs.Decides.{sentTurn, decideTurn, decideLent}
 use Rattle.node_decide.proofs.decide.Statement.{statement}
 use Rattle.node_decide.proofs.decide.Tie as tie
 
--- by what came of sending
-module _ (d : tie.After-send) where
-  abbrev s : tie.Start
-  s = d .before .before .before .before .before .before
-
+-- by those to whom the frame is due
+module _ (s : tie.Start) where
   abbrev ws : List ℕ
   ws = now (s .args .s)
 
@@ -26,42 +22,31 @@ module _ (d : tie.After-send) where
   abbrev buf : List ℕ
   buf = now (s .args .buf)
 
-  abbrev total : ℕ
-  total = s .args .issued .0
+  abbrev turn : Whom → Turn
+  turn whom =
+      decideTurn ws sums (s .args .p) whom (s .args .issued .0) (s .args .clause) (s .args .received .0) (length buf)
 
-  decides : {r : Sending} (after lent : List ℕ) (t : Turn) → d .send .result ≡ r
-      → lent ≡ dueLent (dueOf (d .send .result)) (dueBytes ws sums (s .args .p) total) buf
-      → Follows (limitsOf (s .args .b)) ws (s .args .p) total sums after r t
-      → Decides (limitsOf (s .args .b)) ws (s .args .p) total sums after buf lent t
-  decides {r} after lent t e l x =
-      record {
-        sending = r;
-        due = ap dueOf (sym e) ∙ d .send .ensures .0;
-        turn = x;
-        bytes = l ∙ ap (λ q. dueLent (dueOf q) (dueBytes ws sums (s .args .p) total) buf) e;
-      }
+  abbrev lent : Whom → List ℕ
+  lent whom = decideLent ws sums (s .args .p) whom (s .args .issued .0) buf
+
+  decides : {whom : Whom} {t : Turn} {after : List ℕ} → s .args .whom ≡ whom → t ≡ turn whom → after ≡ lent whom
+      → (t ≡ turn (s .args .whom)) × (after ≡ lent (s .args .whom))
+  decides e f g = (f ∙ sym (ap turn e), g ∙ sym (ap lent e))
 
 returns : tie.Need-returns
 returns c =
-    let m = c .before in
-    let d = m .before .before .before .before in
-    decides d _ _ _ (m .sending .given .1) (d .send .ensures .1) refl
+    let p = c .before .before .before in
+    let m = p .before .before .before in
+    decides (m .before .before .before .before .before) (m .whom .given .1)
+    (c .sent .ensures ∙ ap (sentTurn _) (p .put .ensures .0)) (p .put .ensures .1)
 
 returns-2 : tie.Need-returns-2
 returns-2 c =
-    let d = c .before .before .before .before in
-    decides d _ _ _ (c .enum-told .given .1) (d .send .ensures .1) refl
-
-returns-3 : tie.Need-returns-3
-returns-3 c =
-    let l = c .before .before in
-    let m = l .before .before .before in
-    let d = m .before .before .before .before in
-    decides d _ _ (l .look .result) (m .sending2 .given .1) (d .send .ensures .1) (l .look .ensures)
+    let m = c .before in
+    decides (m .before .before .before .before .before) (m .enum-told .given .1) (c .look .ensures) refl
 
 pub decide-spec : {M : Type 1} → statement M
 decide-spec =
     tie.close
-    (tie.spec (λ c κs. search needs) (λ c. search needs) (λ c. search needs) (λ c. search needs) (λ c κs. search needs)
-    (λ c. search needs) (λ c. search needs) returns (λ c. search needs) (λ c. search needs) returns-2 (λ c. search needs)
-    (λ c. search needs) returns-3)
+    (tie.spec (λ c. search needs) (λ c κs. search needs) (λ c κs. search needs) (λ c. search needs) (λ c κs. search needs)
+    (λ c. search needs) returns returns-2)

@@ -25,7 +25,7 @@ unfolding onwardTurn
 returns-2 c =
     let t = c .before in
     let w = t .before in
-    let a = w .before .before .before .before .args in
+    let a = w .before .before .before .args in
     let e : a .k + 1 ≡ suc (a .k) = add-one (a .k) in
     (λ i. Moves (w .word-at .ensures i) (e i) (c .word-at2 .ensures i))
     ∙ sym
@@ -38,7 +38,7 @@ module _ (c : tie.Else2) where
   w = c .before
 
   abbrev s : tie.Start
-  s = w .before .before .before .before
+  s = w .before .before .before
 
   last : (total : ℕ) → let a = s .args in
       choose (eqb (w .word-at .result) 1) (Moves 2 0 total) Leaves
@@ -52,9 +52,7 @@ module _ (c : tie.Else2) where
       ∙ choose-no _ _ (le-ltb (suc (a .k)) (a .p) (omega (arith, c .if2 .left))))
 
 returns-3 : tie.Need-returns-3
-returns-3 c =
-    let t = c .before in
-    ap (Moves 2 0) (c .word-at3 .ensures) ∙ sym (choose-yes _ _ (eq-eqb _ _ (t .if3 .taken))) ∙ last (t .before) _
+returns-3 c = sym (choose-yes _ _ (eq-eqb _ _ (c .if3 .taken))) ∙ last (c .before) _
 
 returns-4 : tie.Need-returns-4
 returns-4 c = sym (choose-no _ _ (ne-eqb _ _ (c .if3 .left))) ∙ last (c .before) _
@@ -63,4 +61,4 @@ pub onward-spec : {M : Type 1} → statement M
 onward-spec =
     tie.close
     (tie.spec returns (λ c κs. search needs) (λ c. search needs) (λ c. search needs) (λ c κs. search needs) returns-2
-    (λ c. search needs) (λ c. search needs) (λ c κs. search needs) returns-3 returns-4)
+    returns-3 returns-4)

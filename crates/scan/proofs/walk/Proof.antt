@@ -1,31 +1,33 @@
--- `walk`: before dimension k the sums are as `Held` says, and the dimensions below k pass.
+-- `walk`: its loop carries the walk over the stored frames, as `Carries` says, by the definition `walked`.
 use borrow.Author.Needs.{needs}
 use borrow.Author.Tests.{not-true, not-false}
 use denote.Ref.{now}
 use native.Mathlib.Omega.{arith}
-use mathlib.Core.Path.{_≡_, refl, ap, _∙_}
+use mathlib.Core.Path.{_≡_, refl, sym, ap, _∙_}
 use mathlib.Core.Bool.{true}
 use mathlib.Core.List.{List}
 use Prim.Native.Nat.{ℕ, _+_, _-_, _*_, _<_, _≤_}
+use lib.ListN.{length}
 use Rattle.base.specs.Limits.{Limits, Fits, limitsOf, width}
 use Rattle.base.proofs.Limits.{fits-of}
 use Rattle.node.specs.Sums.{dims}
 use Rattle.survey.specs.declared.Spot.{Spot}
 use Rattle.survey.proofs.Steps.{few}
-use Rattle.layout.specs.Places.{stepWords, mostWords}
+use Rattle.layout.specs.Places.{stepWords, atFirst, mostWords}
 use Rattle.layout.specs.Held.{unpacked}
-use Rattle.scanned.specs.Pieces.{Standing, Stepped}
-use Rattle.scanned.proofs.Settled.{near}
-use Rattle.scanned.proofs.Walking.{Held, held-start, standing, summed, place, agreed-low, step-stops, step-more, ended}
+use Rattle.wire.specs.Wire.{part}
+use Rattle.scanned.specs.Pieces.{pastOf, Carries}
+use Rattle.scanned.proofs.Lent.{firstLent, secondLent, near, inside, first-slice, second-slice}
+use Rattle.scanned.proofs.Walking.{carries-start, lent, step-stops, step-more, ended}
 use Rattle.scan.proofs.walk.Statement.{statement}
 use Rattle.scan.proofs.walk.Tie as tie
 
 abbrev Inv-loop : tie.InvT-loop
-Inv-loop b s sums₀ spot p past walked₀ at₀ k₀ sums walked at k =
-    (walked .ok ≡ true) × Held (limitsOf b) s sums₀ k at sums (walked .issued .0)
+Inv-loop b s sums₀ spot looks p past walked₀ at₀ k₀ sums walked at k =
+    (walked .ok ≡ true) × Carries (limitsOf b) s sums₀ looks k at sums walked
 
 abbrev μ-loop : tie.MeasureT-loop
-μ-loop b s sums₀ spot p past walked₀ at₀ k₀ sums walked at k = p - k
+μ-loop b s sums₀ spot looks p past walked₀ at₀ k₀ sums walked at k = p - k
 
 -- what is handed
 module _ (s : tie.Start Inv-loop μ-loop) where
@@ -38,110 +40,116 @@ module _ (s : tie.Start Inv-loop μ-loop) where
   abbrev first : List ℕ
   first = now (s .args .sums)
 
+  abbrev here : Spot
+  here = s .args .spot
+
   fit : Fits L
   fit = fits-of (s .args .b) (omega (arith, s .good .0)) (omega (arith, s .good .0))
 
-  dims-are : s .args .spot .dims ≡ dims (unpacked ws)
+  dims-are : here .dims ≡ dims (unpacked ws)
   dims-are = ap (λ (x : Spot). x .dims) (s .pre .spot)
 
-  few-dims : s .args .spot .dims ≤ width
+  few-dims : here .dims ≤ width
   few-dims = omega (arith, dims-are, few L fit (unpacked ws) (s .pre .board))
 
 loop-holds : tie.Need-loop-holds Inv-loop μ-loop
 loop-holds c =
-    let s = c .before .before .before .before in
-    (refl, held-start (L s) (ws s) (first s) (s .args .spot) (s .args .sends .0) (s .pre))
+    let s = c .before .before .before in
+    (refl, carries-start (L s) (ws s) (first s) (here s) (s .args .sends) (s .args .looks) (s .pre) _ refl refl)
 
 -- at dimension k
 module _ (i : tie.In-loop Inv-loop μ-loop) where
-  abbrev at-loop : tie.At-loop Inv-loop μ-loop
-  at-loop = i .before
-
   abbrev begun : tie.Start Inv-loop μ-loop
-  begun = i .before .before .before .before .before .before
+  begun = i .before .before .before .before .before
 
   abbrev k : ℕ
-  k = at-loop .loop .k
+  k = i .before .loop .k
+
+  abbrev at : ℕ
+  at = i .before .loop .at
 
   abbrev p : ℕ
-  p = begun .args .spot .dims
+  p = here begun .dims
 
-  held : Held (L begun) (ws begun) (first begun) k (at-loop .loop .at) (at-loop .loop .sums) (at-loop .loop .walked .issued .0)
-  held = at-loop .loop .inv .1
+  held : Carries (L begun) (ws begun) (first begun) (begun .args .looks) k at (i .before .loop .sums) (i .before .loop .walked)
+  held = i .before .loop .inv .1
 
   low : k < dims (unpacked (ws begun))
   low = omega (arith, dims-are begun, i .loop-test .taken)
 
-  stands : Standing p k (ws begun)
-  stands = standing (L begun) (fit begun) (ws begun) (first begun) _ _ (begun .pre) _ _ _ _ held low
+  place : at ≡ atFirst p k
+  place = held .place ∙ ap (λ d. atFirst d k) (sym (dims-are begun))
 
-  -- the places of dimension k are small
-  small : (k < p) × (at-loop .loop .at + stepWords p k ≤ mostWords)
+  bound : dims (unpacked (ws begun)) ≤ width
+  bound = few (L begun) (fit begun) (unpacked (ws begun)) (begun .pre .board)
+
+  -- the words of dimension k are there, and their places are small
+  small : (k < p) × (at + stepWords p k ≤ mostWords) × (at + stepWords p k ≤ length (ws begun))
   small = (
     i .loop-test .taken,
-    omega (
-      arith,
-      near p k (ws begun) stands,
-      place (L begun) (fit begun) (ws begun) (first begun) _ _ (begun .pre) _ _ _ _ held low,
-    ),
+    omega (arith, held .place, dims-are begun, near (ws begun) k low bound (begun .pre .long)),
+    omega (arith, held .place, dims-are begun, inside (ws begun) k low bound (begun .pre .long)),
   )
+
+  one-is : part (ws begun) at (at + (2 * (p - k) + 3) - at) ≡ firstLent (ws begun) (dims (unpacked (ws begun))) k
+  one-is = first-slice (ws begun) p k at place ∙ ap (λ d. firstLent (ws begun) d k) (dims-are begun)
+
+  two-is : part (ws begun) (at + (2 * (p - k) + 3)) (at + (2 * (p - k) + 3) + 3 - (at + (2 * (p - k) + 3)))
+      ≡ secondLent (ws begun) (dims (unpacked (ws begun))) k
+  two-is = second-slice (ws begun) p k at place ∙ ap (λ d. secondLent (ws begun) d k) (dims-are begun)
 
 step-requires : tie.Need-step-requires Inv-loop μ-loop
 step-requires c κs =
-    let i = c .before in
+    let i = c .before .before .before in
     let s = begun i in
-    let two = i .before .before in
-    record {
-      firsts = two .before .before-position .ensures;
-      seconds = two .before-position2 .ensures;
-      standing = stands i;
-      summed = summed (L s) (fit s) (ws s) (first s) _ _ (s .pre) _ _ _ _ (held i) (low i);
-      place = place (L s) (fit s) (ws s) (first s) _ _ (s .pre) _ _ _ _ (held i) (low i);
-      issued = held i .issued-low;
-      agreed = agreed-low (L s) (fit s) (ws s) (first s) _ _ (s .pre) _ _ _ _ (held i) (low i);
-    }
-
-abbrev turn : tie.After-step Inv-loop μ-loop → tie.In-loop Inv-loop μ-loop
-turn a = a .before .before
+    lent (L s) (fit s) (ws s) (first s) (here s) _ (s .pre) (s .args .looks) (k i) (at i) _ _ (held i) (low i) _ _ (one-is i)
+    (two-is i) _ (i .before .before .past-of .ensures)
 
 same-length : tie.Need-same-length Inv-loop μ-loop
-same-length c = let a = c .before .before .before .before in a .step .ensures .first .length ∙ held (turn a) .length
+same-length c =
+    let a = c .before .before .before .before in
+    a .step .ensures .first .length ∙ held (a .before .before .before .before) .length
 
 returns : tie.Need-returns Inv-loop μ-loop
 returns c =
     let a = c .before .before .before .before in
-    let i = turn a in
+    let i = a .before .before .before .before in
     let s = begun i in
-    step-stops (L s) (fit s) (ws s) (first s) _ _ (s .pre) _ _ _ _ (held i) (low i) _ _ (a .step .ensures)
-    (not-true _ (c .if1 .taken))
+    step-stops (L s) (fit s) (ws s) (first s) (here s) _ (s .pre) (s .args .looks) (k i) (at i) _ _ (held i) (low i) _ _
+    (one-is i) (two-is i) _ (i .before .before .past-of .ensures) _ _ (a .step .ensures) (not-true _ (c .if1 .taken))
 
 abbrev onward : tie.Else1 Inv-loop μ-loop → tie.In-loop Inv-loop μ-loop
-onward e = turn (e .before .before .before .before)
+onward e = e .before .before .before .before .before .before .before .before
 
 loop-again : tie.Need-loop-again Inv-loop μ-loop
 loop-again c =
     let a = c .before .before .before .before in
-    let i = turn a in
+    let i = onward c in
     let s = begun i in
     let ok = not-false _ (c .if1 .left) in (
       ok,
-      step-more (L s) (fit s) (ws s) (first s) _ _ (s .pre) _ _ _ _ (held i) (low i) _ _ (a .step .ensures) ok,
+      step-more (L s) (fit s) (ws s) (first s) (here s) _ (s .pre) (s .args .looks) (k i) (at i) _ _ (held i) (low i) _ _
+      (one-is i) (two-is i) _ (i .before .before .past-of .ensures) _ _ (a .step .ensures) ok,
     )
 
 returns-2 : tie.Need-returns-2 Inv-loop μ-loop
 returns-2 c =
     let l = c .before in
-    let s = c .before .before .before .before .before .before in
-    ended (L s) (fit s) (ws s) (first s) _ _ (s .pre) _ _ _ _ (l .loop .inv .1)
-    (omega (arith, dims-are s, c .loop-test .left)) _ (l .loop .inv .0) refl
+    let s = c .before .before .before .before .before in
+    ended (L s) (fit s) (ws s) (first s) (here s) _ (s .pre) (s .args .looks) _ _ _ _ (l .loop .inv .1)
+    (omega (arith, dims-are s, c .loop-test .left)) (l .loop .inv .0)
 
 pub walk-spec : {M : Type 1} → statement M
 walk-spec =
     tie.close
-    (tie.spec Inv-loop μ-loop (λ c κs. search needs) (λ c κs. search needs)
-    (λ c. record { fits = omega (arith, few-dims (c .before .before .before .before)) }) (λ c. record { fits = omega (arith, few-dims (c .before .before .before .before)) }) loop-holds step-requires same-length returns
-    (λ c. omega (arith, small (onward c))) (λ c. record { fits = omega (arith, small (onward c)) })
-    (λ c. record { fits = omega (arith, small (onward c)) }) (λ c. record { fits = omega (arith, small (onward c)) })
-    (λ c. record { fits = omega (arith, small (onward c)) })
-    (λ c. record { fits = omega (arith, small (onward c), stands (onward c) .few) })
-    (λ c. omega (arith, small (onward c))) loop-again (λ c. c .before .loop .inv .1 .length) returns-2)
+    (tie.spec Inv-loop μ-loop (λ c κs. search needs)
+    (λ c. record { fits = omega (arith, few-dims (c .before .before .before)) })
+    (λ c. record { fits = omega (arith, few-dims (c .before .before .before)) }) loop-holds
+    (λ c. omega (arith, small c)) (λ c. record { fits = omega (arith, small c) })
+    (λ c. record { fits = omega (arith, small c) }) (λ c. record { fits = omega (arith, small c) })
+    (λ c. record { fits = omega (arith, small c) }) (λ c. search needs) (λ c. search needs)
+    (λ c. record { fits = omega (arith, small c) }) (λ c. omega arith) (λ c. omega arith) (λ c. omega (arith, small c))
+    (λ c. search needs) (λ c. search needs) (λ c. record { fits = omega (arith, small (c .before)) }) (λ c. omega arith)
+    (λ c. omega arith) (λ c. omega (arith, small (c .before))) step-requires same-length returns
+    (λ c. record { fits = omega (arith, small (onward c), few-dims (begun (onward c))) }) (λ c. omega (arith, small (onward c))) loop-again
+    (λ c. c .before .loop .inv .1 .length) returns-2)

@@ -1,9 +1,9 @@
--- `sent`, by whether a frame was written.
+-- `sent`, by whether a frame was put.
 use borrow.Author.Tests.{eq-eqb, ne-eqb}
 use mathlib.Core.Path.{sym}
 use Rattle.base.proofs.Laws.{choose-yes, choose-no}
-use Rattle.due.proofs.sent.Statement.{statement}
-use Rattle.due.proofs.sent.Tie as tie
+use Rattle.node_decide.proofs.sent.Statement.{statement}
+use Rattle.node_decide.proofs.sent.Tie as tie
 
 returns : tie.Need-returns
 returns c = sym (choose-yes _ _ (eq-eqb _ 0 (c .if1 .taken)))
