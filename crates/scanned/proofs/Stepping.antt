@@ -30,7 +30,7 @@ use Rattle.pass_one.specs.Tried.{PassedBy}
 use Rattle.look.specs.Look.{Looked}
 use Rattle.look.specs.declared.Look.{Look}
 use Rattle.scanned.specs.Pieces.{pastOf, Told, Summed, firstWhole, secondWhole, looksAt, FirstDone, SecondDone}
-use Rattle.scanned.specs.Pieces.{FirstStep, SecondStep, Confirms}
+use Rattle.scanned.specs.Pieces.{FirstStep, SecondStep, Confirms, Steps}
 use Rattle.scanned.specs.declared.Walked.{Walked}
 use Rattle.scanned.specs.declared.Past.{Past}
 use Rattle.scanned.proofs.Settled.{first-tried, first-settled, first-open, second-settled, second-open}
@@ -79,6 +79,11 @@ told spot looks k low dim awaits a =
     at-confirm true u = omega arith
     at-confirm false true = omega arith
     at-confirm false false = dim
+
+pub steps-told : (L : Limits) (fs ss sums : List ℕ) (spot : Spot) (past : Past) (k : ℕ) → Steps L fs ss sums spot past k
+    → (awaits : Bool) → awaits ≡ not (both (eqb k 0) (spot .alone)) → Told spot (spot .dims) k awaits past
+steps-told L fs ss sums spot past k h awaits a =
+    rw (h .tries) (told spot (h .looks) k (h .first .low) (h .dim) awaits a)
 
 -- ---- any step
 
