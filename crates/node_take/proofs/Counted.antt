@@ -1,7 +1,7 @@
 -- Laws of the calls on words: what is answered where the words hold no state, and what they become where a message is
 -- counted.
 use mathlib.Core.Path.{_≡_, refl, sym, ap, _∙_}
-use mathlib.Core.Bool.{true, not}
+use mathlib.Core.Bool.{true, false, not}
 use mathlib.Core.List.{List}
 use Prim.Native.Nat.{ℕ, _+_, _≤_, _<_}
 use native.Mathlib.Omega.{arith}
@@ -27,17 +27,17 @@ use Rattle.layout.proofs.Reading.{sent-word, taken-word}
 use Rattle.layout.proofs.Becomes.{Becomes, becomes-then}
 use Rattle.layout.proofs.Writes.{put-busy, put-position, put-sent, put-taken}
 use Rattle.layout.proofs.Answers.{fails}
-use Rattle.scanned.specs.Scan.{scanned}
+use Rattle.scanned.specs.Scan.{Scanned}
 use Rattle.scanned.specs.declared.Scan.{Scan}
 use Rattle.scanned.proofs.Known.{failed}
 use Rattle.node_take.specs.Pieces.{countedWords, wokenWords}
 
 -- no state: 13, and the words stay
-pub no-state : (L : Limits) → Fits L → (room : ℕ) (ws : List ℕ) (s : Scan) → s ≡ scanned L room ws
+pub no-state : (L : Limits) → Fits L → (room : ℕ) (ws : List ℕ) (s : Scan) → Scanned L room false ws s
     → (call : Node → Given Outcome) → not (s .ok) ≡ true
     → (not (valid L (unpacked ws)) ≡ true → call (unpacked ws) ≡ refusal (unpacked ws) 13)
     → (refused 13 ≡ answerOn L room call ws) × (ws ≡ wordsOn L room call ws)
-no-state L fit room ws s r call o f = fails L fit call ws room (failed L room ws s r o) f
+no-state L fit room ws s r call o f = fails L fit call ws room (failed L room false ws s r o) f
 
 pub counted-length : (ws : List ℕ) (at : ℕ) → length (countedWords ws at) ≡ length ws
 counted-length ws at = simp length-set refl

@@ -43,8 +43,8 @@ module _ (c : tie.Else1) where
   abbrev room : ℕ
   room = length (now (start .args .sums))
 
-  known : Known limits room ws (c .before .before .before .before .scan-of .result)
-  known = passed limits room ws _ (c .before .before .before .before .scan-of .ensures .0) (c .if1 .left)
+  known : Known limits room false ws (c .before .before .before .before .scan-of .result)
+  known = passed limits room false ws _ (c .before .before .before .before .scan-of .ensures .0) (c .if1 .left)
 
 slice-write-state : tie.Need-slice-write-state
 slice-write-state c = omega (arith, tallies-room (limits c) (ws c) (known c .whole))

@@ -2,6 +2,7 @@
 use borrow.Author.Needs.{needs}
 use native.Mathlib.Omega.{arith}
 use mathlib.Core.Path.{_≡_}
+use mathlib.Core.Bool.{false}
 use Prim.Native.Nat.{ℕ}
 use denote.Ref.{now}
 use lib.ListN.{length}
@@ -24,7 +25,7 @@ returns c =
     let fit = fits-of (a .args .b) (omega (arith, a .good .0)) (omega (arith, a .good .0)) in
     let bs = now (a .args .bytes) in
     fails L fit (λ n. frameIn L n bs) (now (a .args .state)) (length (now (a .args .sums)))
-    (failed L _ _ _ (s .scan-of .ensures .0) (c .if1 .taken)) (λ e. frame-refuses L _ bs (here e))
+    (failed L _ false _ _ (s .scan-of .ensures .0) (c .if1 .taken)) (λ e. frame-refuses L _ bs (here e))
 
 -- the state passes the test
 module _ (c : tie.Else1) where
@@ -37,8 +38,8 @@ module _ (c : tie.Else1) where
   abbrev room : ℕ
   room = length (now (start .args .sums))
 
-  known : Known (limitsOf (start .args .b)) room (now (start .args .state)) (scan .scan-of .result)
-  known = passed _ room _ _ (scan .scan-of .ensures .0) (c .if1 .left)
+  known : Known (limitsOf (start .args .b)) room false (now (start .args .state)) (scan .scan-of .result)
+  known = passed _ room false _ _ (scan .scan-of .ensures .0) (c .if1 .left)
 
   dims-are : scan .scan-of .result .dims ≡ dimsOf (now (start .args .state))
   unfolding unpacked

@@ -129,7 +129,7 @@ loop-again c =
     let ok = not-false _ (c .if1 .left) in (
       ok,
       step-more (L s) (fit s) (ws s) (first s) (here s) _ (s .pre) (s .args .looks) (k i) (at i) _ _ (held i) (low i) _ _
-      (one-is i) (two-is i) _ (i .before .before .past-of .ensures) _ _ (a .step .ensures) ok,
+          (one-is i) (two-is i) _ (i .before .before .past-of .ensures) _ _ (a .step .ensures) ok,
     )
 
 returns-2 : tie.Need-returns-2 Inv-loop μ-loop
@@ -147,9 +147,11 @@ walk-spec =
     (λ c. record { fits = omega (arith, few-dims (c .before .before .before)) }) loop-holds
     (λ c. omega (arith, small c)) (λ c. record { fits = omega (arith, small c) })
     (λ c. record { fits = omega (arith, small c) }) (λ c. record { fits = omega (arith, small c) })
-    (λ c. record { fits = omega (arith, small c) }) (λ c. search needs) (λ c. search needs)
+    (λ c. record { fits = omega (arith, small c) }) (λ c. record { fits = omega (arith, small c) })
+    (λ c. record { fits = omega (arith, small c) })
     (λ c. record { fits = omega (arith, small c) }) (λ c. omega arith) (λ c. omega arith) (λ c. omega (arith, small c))
-    (λ c. search needs) (λ c. search needs) (λ c. record { fits = omega (arith, small (c .before)) }) (λ c. omega arith)
+    (λ c. record { fits = omega (arith, small (c .before)) }) (λ c. record { fits = omega (arith, small (c .before)) })
+    (λ c. record { fits = omega (arith, small (c .before)) }) (λ c. omega arith)
     (λ c. omega arith) (λ c. omega (arith, small (c .before))) step-requires same-length returns
     (λ c. record { fits = omega (arith, small (onward c), few-dims (begun (onward c))) }) (λ c. omega (arith, small (onward c))) loop-again
     (λ c. c .before .loop .inv .1 .length) returns-2)
