@@ -1,5 +1,5 @@
 -- The walk over the stored frames carries its definition: from dimension to dimension, with what a step does.
-use mathlib.Core.Path.{_≡_, refl, sym, ap, _∙_, subst}
+use mathlib.Core.Path.{_≡_, refl, sym, ap, _∙_}
 use mathlib.Core.Bool.{Bool, true, false, not}
 use mathlib.Core.List.{List}
 use Prim.Native.Nat.{ℕ, suc, _+_, _-_, _*_, _≤_, _<_, min}
@@ -9,7 +9,7 @@ use native.Mathlib.Omega.{arith}
 use lib.Dec.{eqb, ltb}
 use lib.ListN.{length}
 use borrow.Author.Count.{below-more}
-use borrow.Author.Tests.{lt-ltb, le-ltb, ltb-true, eq-eqb, ne-eqb, eqb-true, not-true}
+use borrow.Author.Tests.{lt-ltb, le-ltb, ltb-true, eq-eqb, ne-eqb, not-true}
 use Rattle.base.specs.Choice.{choose, both, either, every}
 use Rattle.base.specs.Limits.{Limits, fieldLimit, takenLimit, Fits, width}
 use Rattle.base.proofs.Laws.{choose-yes, choose-no, both-true, both-make, every-at, every-make}
@@ -22,7 +22,7 @@ use Rattle.frame.specs.declared.Taken.{Taken}
 use Rattle.node.specs.Sums.{dims, firstAt, secondAt, Field, Has, sentIn, takenIn, allSent, allTaken, number, tally}
 use Rattle.node.specs.Sums.{own, ownIssued}
 use Rattle.node.specs.Agree.{isAlone, firstClauses, secondClauses, clauses, allHold, firstFailing}
-use Rattle.node.specs.State.{boardOk, positionOk, talliesOk}
+use Rattle.node.specs.State.{boardOk, talliesOk}
 use Rattle.node.specs.declared.Stored.{Stored}
 use Rattle.node.specs.declared.Confirm.{Confirm}
 use Rattle.node.specs.declared.Node.{Node}
@@ -43,8 +43,8 @@ use Rattle.walked.specs.Walk.{reach, confirmReach, firstAdds, secondAdds, walke
 use Rattle.walked.proofs.Walked.{walked-sums, walked-issued, first-more, second-more}
 use Rattle.walked.proofs.Walked.{dim-low, reach-low, confirm-reach-low}
 use Rattle.adding.specs.Adding.{Framed}
-use Rattle.scanned.specs.Scan.{clauseHere, Gathered}
-use Rattle.scanned.specs.Pieces.{Summed, firstWhole, secondWhole, looksAt, pastOf, FirstDone, SecondDone, Steps, Stepped}
+use Rattle.scanned.specs.Scan.{clauseHere}
+use Rattle.scanned.specs.Pieces.{firstWhole, secondWhole, looksAt, pastOf, FirstDone, SecondDone, Steps, Stepped}
 use Rattle.scanned.specs.Pieces.{stepIn, Walking, isSeen, Carries, WalkedAll}
 use Rattle.scanned.specs.declared.Walked.{Walked}
 use Rattle.scanned.specs.declared.Past.{Past}

@@ -16,7 +16,7 @@ use Rattle.survey.proofs.Steps.{few}
 use Rattle.layout.specs.Places.{stepWords, atFirst, mostWords}
 use Rattle.layout.specs.Held.{unpacked}
 use Rattle.wire.specs.Wire.{part}
-use Rattle.scanned.specs.Pieces.{pastOf, Carries}
+use Rattle.scanned.specs.Pieces.{Carries}
 use Rattle.scanned.proofs.Lent.{firstLent, secondLent, near, inside, first-slice, second-slice}
 use Rattle.scanned.proofs.Walking.{carries-start, lent, step-stops, step-more, ended}
 use Rattle.scan.proofs.walk.Statement.{statement}
