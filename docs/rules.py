@@ -53,7 +53,16 @@ HEADLINE = {
                                        "pub isRun : IsRun (r .nodes) told"],
     "crates/replayed/proofs/Whole.antt": ["pub every-replay : EveryReplay"],
     "crates/starred/proofs/Starred.antt": ["pub starred : All table"],
-    "crates.txt": ["promises:", "runs:", "rehearsed:", "starred:", "recording:", "replayed:"],
+    # the one walk, and the loop that carries it
+    "crates/walked/specs/Laws.antt": [
+        "pub before :", "pub sums :", "pub issued :", "pub sumsOwn :", "pub issuedOwn :", "pub sumsAll :", "pub issuedAll :",
+        "pub sumsUnread :", "pub issuedUnread :", "pub sumsOnce :", "pub issuedOnce :", "pub sumsApart :", "pub issuedApart :",
+        "pub inOrder :"],
+    "crates/walked/proofs/Walked.antt": ["pub one-walk : OneWalk"],
+    "crates/scanned/specs/Pieces.antt": ["pub holds : Holds (unpacked ws) k l (w .issued .0)"],
+    "crates/scan/proofs/walk/Proof.antt": [
+        "(walked .ok ≡ true) × Carries (limitsOf b) s sums₀ looks k at sums walked"],
+    "crates.txt": ["promises:", "runs:", "rehearsed:", "starred:", "recording:", "replayed:", "walked:", "scan:"],
 }
 # where rules may be named
 TEXTS = ["crates", "include", "tests", "targets", "docs", "README.md"]
