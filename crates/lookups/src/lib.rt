@@ -1,12 +1,14 @@
-// The place of a node in a dimension and the distance of two nodes, on any board.
+// The place of a node in a dimension, on any board; with it the distance of two nodes.
 // Any number may be handed to either; what is not allowed is refused with its number (rule R3).
 ghost use mathlib.Core.Path.{_≡_};
 ghost use Prim.Native.Nat.{_+_, _≤_, _<_};
 ghost use Rattle.base.specs.Limits.{base, limitsOf};
 ghost use Rattle.base.specs.Refusal.{found};
-ghost use Rattle.tree.specs.Tree.{dimension, middle, part, runBelow, across, placeIn, inside, distanceBelow};
-ghost use Rattle.tree.specs.Lookups.{placeLookup, distanceLookup, foundAnswer, placedAnswer};
+ghost use Rattle.tree.specs.Tree.{middle, part, runBelow, across, placeIn};
+ghost use Rattle.tree.specs.Lookups.{placeLookup, placedAnswer};
 use base::Bounds;
+pub use distances::distance_for;
+pub use distances::distance_of;
 use tree::Found;
 use tree::Placed;
 use tree::Run;
@@ -106,62 +108,9 @@ pub fn place_for(b: Bounds, nodes: u32, dimension: u32, node: u32) -> Placed
     place_in(run_below(nodes, p - (dimension + 1), node), node)
 }
 
-// Whether a run has the node.
-fn has_node(r: Run, node: u32) -> bool
-    ensures { λ t. ⌜ t ≡ inside r node ⌝ }
-{
-    r.low <= node && node <= r.high
-}
-
-// The largest dimension below p in which a and b are in different runs.
-fn parted_below(nodes: u32, p: u32, a: u32, b: u32) -> u32
-    requires { ⌜ (0 < nodes) × (nodes ≤ 256) × (p ≡ dimension nodes) ⌝ }
-    ensures { λ r. ⌜ r ≡ distanceBelow nodes a b p ⌝ }
-{
-    let mut r = Run {
-        low: 0,
-        high: nodes - 1,
-    };
-    let mut k = p;
-    while 0 < k {
-        r = part_of(r, a);
-        k -= 1;
-        if !has_node(r, b) {
-            return k;
-        }
-    }
-    0
-}
-
-// The distance of two nodes. Refuses 1, 2, 3.
-pub fn distance_for(limits: Bounds, nodes: u32, a: u32, b: u32) -> Found
-    ensures { λ r. ⌜ foundAnswer r ≡ distanceLookup (limitsOf limits) nodes a b ⌝ }
-{
-    let Found::Is(p) = tree::dimension_for(limits, nodes) else {
-        return Found::Refused(1);
-    };
-    if nodes <= a {
-        return Found::Refused(2);
-    }
-    if nodes <= b {
-        return Found::Refused(2);
-    }
-    if a == b {
-        return Found::Refused(3);
-    }
-    Found::Is(parted_below(nodes, p, a, b))
-}
-
-// ---- The same with the limits of this build
-
+// The same with the limits of this build.
 pub fn place_of(nodes: u32, dimension: u32, node: u32) -> Placed
     ensures { λ r. ⌜ placedAnswer r ≡ placeLookup base nodes dimension node ⌝ }
 {
     place_for(base::of_build(), nodes, dimension, node)
-}
-
-pub fn distance_of(nodes: u32, a: u32, b: u32) -> Found
-    ensures { λ r. ⌜ foundAnswer r ≡ distanceLookup base nodes a b ⌝ }
-{
-    distance_for(base::of_build(), nodes, a, b)
 }

@@ -1,12 +1,10 @@
-// Recordings in lent bytes: tested there, and read into lent words and bytes. Any bytes may be handed.
+// Recordings in lent bytes, read into lent words and bytes. Any bytes may be handed.
 ghost use mathlib.Core.Path.{_≡_};
-ghost use mathlib.Core.Bool.{not};
 ghost use Prim.Native.Nat.{_+_, _≤_, _<_};
 ghost use lib.ListN.{length, drop};
 ghost use Rattle.base.specs.Choice.{list};
 ghost use Rattle.printing.specs.Put.{put};
 ghost use Rattle.recording.specs.Recording.{numberAt, bodies, sectionsIn, countAt, recordingIn};
-ghost use Rattle.recording.specs.Test.{sum, placed, isBadIn};
 ghost use Rattle.recording_read.specs.Read.{readAnswer, heldAnswer, filled};
 
 // What a recording has: nodes, sections, events.
@@ -54,55 +52,6 @@ fn from(bytes: &[u8], at: usize) -> &[u8]
     &bytes[at..]
 }
 
-// The bodies of so many sections stand one after the other behind the table.
-fn is_placed(bytes: &[u8], sections: usize) -> bool
-    requires { ⌜ (sections ≤ 32) × (bodies sections ≤ length (now bytes)) ⌝ }
-    ensures { λ r. ⌜ r ≡ placed (now (bytes .entry)) (bodies sections) 0 sections ⌝ }
-{
-    let mut at: u32 = 2 + 4 * sections as u32;
-    for i in 0..sections {
-        if number_at(bytes, 2 + 4 * i) != at {
-            return false;
-        }
-        at += 4 * number_at(bytes, 4 + 4 * i);
-    }
-    true
-}
-
-// How many events so many sections have in all.
-fn total_of(bytes: &[u8], sections: usize) -> u64
-    requires { ⌜ (sections ≤ 32) × (bodies sections ≤ length (now bytes)) ⌝ }
-    ensures { λ r. ⌜ r ≡ sum (list 0 sections (countAt (now (bytes .entry)))) ⌝ }
-{
-    let mut total: u64 = 0;
-    for i in 0..sections {
-        total += number_at(bytes, 4 + 4 * i) as u64;
-    }
-    total
-}
-
-// Whether bytes are a recording.
-pub fn is_recording(bytes: &[u8]) -> bool
-    ensures { λ r. ⌜ r ≡ not (isBadIn (now (bytes .entry))) ⌝ }
-{
-    if bytes.len() < 2 {
-        return false;
-    }
-    let sections = sections_of(bytes);
-    let head = 2 + 4 * sections;
-    if bytes.len() < head {
-        return false;
-    }
-    if 32 < sections {
-        return false;
-    }
-    if !is_placed(bytes, sections) {
-        return false;
-    }
-    let total = total_of(bytes, sections);
-    !recording::is_bad(wide(bytes[0]), sections, total, from(bytes, head))
-}
-
 // Puts how many events each section has.
 fn put_counts(bytes: &[u8], counts: &mut [u32], sections: usize)
     requires { ⌜ (bodies sections ≤ length (now bytes)) × (sections ≤ length (now counts)) × (sections ≤ 32) ⌝ }
@@ -132,7 +81,7 @@ pub fn read(bytes: &[u8], counts: &mut [u32], events: &mut [u8]) -> Held
         (readAnswer (now (bytes .entry)) (length (now (counts .entry))) (length (now (events .entry))))
         ⌝ }
 {
-    if !is_recording(bytes) {
+    if !recording_test::is_recording(bytes) {
         return Held::Refused(18);
     }
     let sections = sections_of(bytes);

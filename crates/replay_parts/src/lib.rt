@@ -83,7 +83,7 @@ pub fn limit_of(recording: &[u8], i: u32, answer: u32, most: u32) -> u32
 pub fn start_of(recording: &[u8]) -> Start
     ensures { λ r. ⌜ r ≡ startOf (now (recording .entry)) ⌝ }
 {
-    if !recording_read::is_recording(recording) {
+    if !recording_test::is_recording(recording) {
         return Start {
             stage: opening::open_stage(0),
             events: 0,

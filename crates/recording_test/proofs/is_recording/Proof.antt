@@ -5,8 +5,8 @@ use native.Mathlib.Omega.{arith}
 use mathlib.Core.Bool.{not}
 use mathlib.Core.Path.{sym, ap, _∙_}
 use Rattle.recording.proofs.Tests.{bad-short, bad-many, bad-placed, bad-held}
-use Rattle.recording_read.proofs.is_recording.Statement.{statement}
-use Rattle.recording_read.proofs.is_recording.Tie as tie
+use Rattle.recording_test.proofs.is_recording.Statement.{statement}
+use Rattle.recording_test.proofs.is_recording.Tie as tie
 
 returns : tie.Need-returns
 returns c = sym (ap not (bad-short _ (omega arith)))

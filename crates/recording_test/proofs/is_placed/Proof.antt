@@ -10,8 +10,8 @@ use Rattle.base.specs.Choice.{both}
 use Rattle.recording.specs.Recording.{bodies, countAt}
 use Rattle.recording.specs.Test.{placed}
 use Rattle.recording.proofs.Tests.{placed-start, placed-here, placed-end}
-use Rattle.recording_read.proofs.is_placed.Statement.{statement}
-use Rattle.recording_read.proofs.is_placed.Tie as tie
+use Rattle.recording_test.proofs.is_placed.Statement.{statement}
+use Rattle.recording_test.proofs.is_placed.Tie as tie
 
 -- a body has at most 65,535 events, so each place is in range
 abbrev Inv-loop : tie.InvT-loop

@@ -2,8 +2,8 @@
 use borrow.Author.Needs.{needs}
 use mathlib.Core.Path.{ap, _∙_}
 use Rattle.tree.specs.Lookups.{distanceLookup}
-use Rattle.lookups.proofs.distance_of.Statement.{statement}
-use Rattle.lookups.proofs.distance_of.Tie as tie
+use Rattle.distances.proofs.distance_of.Statement.{statement}
+use Rattle.distances.proofs.distance_of.Tie as tie
 
 returns : tie.Need-returns
 returns c =

@@ -9,8 +9,8 @@ use Rattle.base.specs.Refusal.{found}
 use Rattle.tree.specs.Tree.{dimension, distance, distanceBelow}
 use Rattle.tree.specs.Lookups.{badBoard, foundAnswer, distanceLookup}
 use Rattle.tree.proofs.Lookups.{board-good, dimension-refused, dimension-found}
-use Rattle.lookups.proofs.distance_for.Statement.{statement}
-use Rattle.lookups.proofs.distance_for.Tie as tie
+use Rattle.distances.proofs.distance_for.Statement.{statement}
+use Rattle.distances.proofs.distance_for.Tie as tie
 
 returns : tie.Need-returns
 unfolding distanceLookup

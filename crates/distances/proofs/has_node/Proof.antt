@@ -1,7 +1,7 @@
 -- `has_node` is `inside`.
 use borrow.Author.Tests.{le-leb, lt-leb}
-use Rattle.lookups.proofs.has_node.Statement.{statement}
-use Rattle.lookups.proofs.has_node.Tie as tie
+use Rattle.distances.proofs.has_node.Statement.{statement}
+use Rattle.distances.proofs.has_node.Tie as tie
 
 returns : tie.Need-returns
 returns c = simp (le-leb _ _ (c .before .if1 .taken))

@@ -7,8 +7,8 @@ use Rattle.base.specs.Choice.{list}
 use Rattle.recording.specs.Recording.{countAt}
 use Rattle.recording.specs.Test.{sum}
 use Rattle.recording.proofs.Sums.{sum-more}
-use Rattle.recording_read.proofs.total_of.Statement.{statement}
-use Rattle.recording_read.proofs.total_of.Tie as tie
+use Rattle.recording_test.proofs.total_of.Statement.{statement}
+use Rattle.recording_test.proofs.total_of.Tie as tie
 
 abbrev Inv-loop : tie.InvT-loop
 Inv-loop bytes sections total₀ i₀ total i =
