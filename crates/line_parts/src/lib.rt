@@ -1,18 +1,16 @@
-// The parts of a script's line: numbers and words. Any bytes may be handed.
+// The numbers of a script's line. Any bytes may be handed.
 ghost use mathlib.Core.Path.{_≡_};
 ghost use mathlib.Core.Bool.{true};
 ghost use Prim.Native.Nat.{_≤_, _<_};
 ghost use lib.ListN.{length};
 ghost use Rattle.base.specs.Choice.{choose};
-ghost use Rattle.line_parts.specs.Parts.{allDigits, valueAfter, isNumber, isNodes, isLetter};
+ghost use Rattle.line_parts.specs.Parts.{allDigits, valueAfter, isNumber};
 
 // A part of a line as a number.
 pub enum Number {
     Is(u32),
     None,
 }
-
-// ---- Numbers
 
 fn wide(x: u8) -> u32
     ensures { λ r. ⌜ (r ≡ x) × (r < 256) ⌝ }
@@ -71,36 +69,4 @@ pub fn number_of(s: &[u8]) -> Number
         }
     }
     Number::Is(value_of(s))
-}
-
-// ---- Words
-
-pub fn is_nodes(w: &[u8]) -> bool
-    ensures { λ r. ⌜ r ≡ isNodes (now (w .entry)) ⌝ }
-{
-    if w.len() != 5 {
-        return false;
-    }
-    if w[0] != b'n' {
-        return false;
-    }
-    if w[1] != b'o' {
-        return false;
-    }
-    if w[2] != b'd' {
-        return false;
-    }
-    if w[3] != b'e' {
-        return false;
-    }
-    w[4] == b's'
-}
-
-pub fn is_letter(letter: u8, w: &[u8]) -> bool
-    ensures { λ r. ⌜ r ≡ isLetter letter (now (w .entry)) ⌝ }
-{
-    if w.len() != 1 {
-        return false;
-    }
-    w[0] == letter
 }

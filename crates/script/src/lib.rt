@@ -61,13 +61,13 @@ fn one_number(word: &[u8], first: &[u8]) -> Line
     let Number::Is(x) = line_parts::number_of(first) else {
         return Line::Bad;
     };
-    if line_parts::is_nodes(word) {
+    if line_words::is_nodes(word) {
         return Line::Nodes(x);
     }
-    if line_parts::is_letter(b'i', word) {
+    if line_words::is_letter(b'i', word) {
         return Line::Idles(x);
     }
-    if line_parts::is_letter(b'b', word) {
+    if line_words::is_letter(b'b', word) {
         return Line::Calls(x);
     }
     Line::Bad
@@ -83,13 +83,13 @@ fn two_numbers(word: &[u8], first: &[u8], second: &[u8]) -> Line
     let Number::Is(y) = line_parts::number_of(second) else {
         return Line::Bad;
     };
-    if line_parts::is_letter(b's', word) {
+    if line_words::is_letter(b's', word) {
         return Line::Sends(Kind::Job, x, y);
     }
-    if line_parts::is_letter(b't', word) {
+    if line_words::is_letter(b't', word) {
         return Line::Sends(Kind::Note, x, y);
     }
-    if line_parts::is_letter(b'd', word) {
+    if line_words::is_letter(b'd', word) {
         return Line::Delivers(x, y);
     }
     Line::Bad

@@ -1,9 +1,8 @@
-// The calls on a node's state by value: each works in place on a copy of the words.
+// The calls on a node's state by value: what they answer, and take. Each works in place on a copy of the words.
 ghost use mathlib.Core.Path.{_≡_};
-ghost use lib.ListN.{length};
 ghost use Rattle.base.specs.Limits.{base};
-ghost use Rattle.node.specs.Calls.{send, take, idle, frameIn};
-ghost use Rattle.state_calls.specs.On.{replied, onState, stepReplied, stepOn, stepBytes};
+ghost use Rattle.node.specs.Calls.{take};
+ghost use Rattle.state_calls.specs.On.{replied, onState};
 use base::Kind;
 use node::Answer;
 use node::BarrierAnswer;
@@ -19,57 +18,12 @@ pub struct StepReply {
     pub answer: BarrierAnswer,
 }
 
-pub fn send_to(s: State, to: u32) -> Reply
-    ensures { λ r. ⌜ replied r ≡ onState (λ n. send base n to) s ⌝ }
-{
-    let mut words = s.words;
-    let answer = calls::send_to(base::of_build(), &mut words, to);
-    Reply {
-        state: State { words: words },
-        answer: answer,
-    }
-}
-
 pub fn take_from(s: State, kind: Kind, from: u32, phase: u8) -> Reply
     ensures { λ r. ⌜ replied r ≡ onState (λ n. take base n kind from phase) s ⌝ }
 {
     let mut words = s.words;
     let answer = calls::take_from(base::of_build(), &mut words, kind, from, phase);
     Reply {
-        state: State { words: words },
-        answer: answer,
-    }
-}
-
-pub fn go_idle(s: State) -> Reply
-    ensures { λ r. ⌜ replied r ≡ onState (λ n. idle base n) s ⌝ }
-{
-    let mut words = s.words;
-    let answer = calls::go_idle(base::of_build(), &mut words);
-    Reply {
-        state: State { words: words },
-        answer: answer,
-    }
-}
-
-pub fn frame_in(s: State, bytes: &[u8]) -> Reply
-    ensures { λ r. ⌜ replied r ≡ onState (λ n. frameIn base n (now (bytes .entry))) s ⌝ }
-{
-    let mut words = s.words;
-    let answer = calls::frame_in(base::of_build(), &mut words, bytes);
-    Reply {
-        state: State { words: words },
-        answer: answer,
-    }
-}
-
-pub fn step(s: State, buf: &mut [u8]) -> StepReply
-    ensures answer { λ r. ⌜ stepReplied r ≡ stepOn s (length (now (buf .entry))) ⌝ }
-    ensures memory { λ r. ⌜ now (buf .exit) ≡ stepBytes s (now (buf .entry)) ⌝ }
-{
-    let mut words = s.words;
-    let answer = calls::step(base::of_build(), &mut words, buf);
-    StepReply {
         state: State { words: words },
         answer: answer,
     }

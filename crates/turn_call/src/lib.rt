@@ -24,7 +24,7 @@ fn tried(s: State) -> StepReply
     ensures { λ r. ⌜ stepReplied r ≡ stepOn s placeSize ⌝ }
 {
     let mut scratch = [0u8; 76];
-    state_calls::step(s, &mut scratch)
+    value_calls::step(s, &mut scratch)
 }
 
 // The header of a frame that node a sends.

@@ -24,7 +24,7 @@ fn frame_call(s: State, size: u32, at: usize, bytes: &[u8]) -> Reply
 {
     let a = 76 * at;
     let e = a + under_way::stated_on(size, bytes[a], bytes[a + 2]);
-    state_calls::frame_in(s, &bytes[a..e])
+    value_calls::frame_in(s, &bytes[a..e])
 }
 
 // The call at b for an item at a place.

@@ -17,7 +17,7 @@ fn write_at(s: State, place: usize, bytes: &mut [u8])
 {
     let a = 76 * place;
     let e = a + 76;
-    state_calls::step(s, &mut bytes[a..e]);
+    value_calls::step(s, &mut bytes[a..e]);
 }
 
 // The frame goes to one receiver, where there is a place for it.

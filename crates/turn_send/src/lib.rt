@@ -18,7 +18,7 @@ pub fn send_act(st: Stage, kind: Kind, a: u32, b: u32, headers: usize, room: usi
 {
     let under = st.under;
     let n = stage::state_at(st, a);
-    let r = state_calls::send_to(n, b);
+    let r = value_calls::send_to(n, b);
     let answer = r.answer;
     match answer {
         Answer::Done => {
@@ -49,7 +49,7 @@ pub fn idle_act(st: Stage, a: u32, headers: usize) -> Acted
 {
     let under = st.under;
     let n = stage::state_at(st, a);
-    let r = state_calls::go_idle(n);
+    let r = value_calls::go_idle(n);
     let m = r.state;
     let answer = r.answer;
     let after = stage::with_state(st, a, m, under);

@@ -1,9 +1,9 @@
 -- `go_idle` is `idle` on the state.
 use borrow.Author.Needs.{needs}
 use Rattle.node.specs.Calls.{idle}
 use Rattle.state_calls.proofs.Called.{called}
-use Rattle.state_calls.proofs.go_idle.Statement.{statement}
-use Rattle.state_calls.proofs.go_idle.Tie as tie
+use Rattle.value_calls.proofs.go_idle.Statement.{statement}
+use Rattle.value_calls.proofs.go_idle.Tie as tie
 
 returns : tie.Need-returns
 returns c =

@@ -2,9 +2,9 @@
 use borrow.Author.Needs.{needs}
 use denote.Ref.{now}
 use Rattle.node.specs.Calls.{frameIn}
 use Rattle.state_calls.proofs.Called.{called}
-use Rattle.state_calls.proofs.frame_in.Statement.{statement}
-use Rattle.state_calls.proofs.frame_in.Tie as tie
+use Rattle.value_calls.proofs.frame_in.Statement.{statement}
+use Rattle.value_calls.proofs.frame_in.Tie as tie
 
 returns : tie.Need-returns
 returns c =

@@ -1,9 +1,9 @@
 -- `send_to` is `send` on the state.
 use borrow.Author.Needs.{needs}
 use Rattle.node.specs.Calls.{send}
 use Rattle.state_calls.proofs.Called.{called}
-use Rattle.state_calls.proofs.send_to.Statement.{statement}
-use Rattle.state_calls.proofs.send_to.Tie as tie
+use Rattle.value_calls.proofs.send_to.Statement.{statement}
+use Rattle.value_calls.proofs.send_to.Tie as tie
 
 returns : tie.Need-returns
 returns c =

@@ -1,8 +1,8 @@
 -- `is_nodes` is `isNodes`, byte by byte.
 use borrow.Author.Needs.{needs}
 use borrow.Author.Tests.{eq-eqb, ne-eqb}
-use Rattle.line_parts.proofs.is_nodes.Statement.{statement}
-use Rattle.line_parts.proofs.is_nodes.Tie as tie
+use Rattle.line_words.proofs.is_nodes.Statement.{statement}
+use Rattle.line_words.proofs.is_nodes.Tie as tie
 
 returns : tie.Need-returns
 returns c = rw (ne-eqb _ _ (c .if1 .taken))

@@ -1,8 +1,8 @@
 -- `step` is the barrier call on the state, and leaves the lent bytes as it says.
 use borrow.Author.Needs.{needs}
 use Rattle.state_calls.proofs.Called.{stepped, stepped-bytes}
-use Rattle.state_calls.proofs.step.Statement.{statement}
-use Rattle.state_calls.proofs.step.Tie as tie
+use Rattle.value_calls.proofs.step.Statement.{statement}
+use Rattle.value_calls.proofs.step.Tie as tie
 
 returns : tie.Need-returns
 returns c =
