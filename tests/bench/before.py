@@ -12,8 +12,6 @@ import sheet
 import build
 import tools
 
-BOARDS = 3  # the second, the third and the last of the schedule: 5, 16 and the largest
-
 
 def archive_of(folder, level):
     return folder / cortex_m0.library(level).relative_to(tools.ROOT)
@@ -24,10 +22,9 @@ def compared(before, after):
 
 
 def print_level(level, before, after):
-    boards = cortex_m0.boards(after)
     for words, short, at in cortex_m0.WAYS:
         rows = []
-        for board in (*boards[1:BOARDS], boards[-1]):
+        for board in cortex_m0.boards(after):
             keys = [("scheduled", board, "library", call) for call in sheet.CALLS]
             rows.append([board, *(compared(before[key][at], after[key][at]) for key in keys)])
         sheet.table(f"before{short}-{level}", f"Cortex-M0, -{level}: instructions per call, {words}: before / after = ratio",
