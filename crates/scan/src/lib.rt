@@ -2,7 +2,8 @@
 // lends.
 ghost use mathlib.Core.Path.{_≡_};
 ghost use mathlib.Core.Bool.{true};
-ghost use Prim.Native.Nat.{_+_, _≤_, _<_};
+ghost use Prim.Native.Nat.{ℕ, _+_, _≤_, _<_};
+ghost use lib.Dec.{leb};
 ghost use lib.ListN.{length};
 ghost use Rattle.base.specs.Limits.{limitsOf};
 ghost use Rattle.layout.specs.Places.{secondWords, mostWords};
@@ -38,17 +39,17 @@ fn no_scan() -> Scan
 
 // ---- What is stored for a step
 
-// The numbers after the mark are within a bound.
-fn are_within(s: &[u32], bound: u32) -> bool
+// The largest of the numbers after the mark, 0 for none. A loop that stops at the first above a bound has fewer instructions and takes
+// more cycles.
+fn largest(s: &[u32]) -> u32
     requires { ⌜ length (now s) ≤ mostWords ⌝ }
-    ensures { λ r. ⌜ r ≡ lowAfter bound (now (s .entry)) 0 (length (now (s .entry))) ⌝ }
+    ensures { λ r. ⌜ ((limit : ℕ) → leb r limit ≡ lowAfter limit (now (s .entry)) 0 (length (now (s .entry)))) ⌝ }
 {
+    let mut most: u32 = 0;
     for i in layout::MARK..s.len() as u32 {
-        if bound < s[i as usize] {
-            return false;
-        }
+        most = scan_tests::larger(most, s[i as usize]);
     }
-    true
+    most
 }
 
 // The words of a frame of pass 1, the mark first, may be stored.
@@ -59,7 +60,7 @@ fn first_ok(s: &[u32], limit: u32, awaits: bool) -> bool
     if !scan_tests::may_mark(s[0], awaits) {
         return false;
     }
-    are_within(s, scan_tests::bound_for(s[0], limit))
+    largest(s) <= scan_tests::bound_for(s[0], limit)
 }
 
 // ---- A step

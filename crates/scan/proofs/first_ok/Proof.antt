@@ -29,15 +29,15 @@ returns c = held (c .before) false (not-true _ (c .if1 .taken))
 
 returns-2 : tie.Need-returns-2
 returns-2 c =
-    let b = c .before in
-    let e = b .before .before in
+    let l = c .before .before in
+    let e = l .before in
     let ws = now (e .before .before .before .before .args .s) in
-    c .are-within .ensures
-    ∙ ap (λ bound. lowAfter bound ws 0 (length ws)) (b .bound-for .ensures)
+    l .largest .ensures _
+    ∙ ap (λ bound. lowAfter bound ws 0 (length ws)) (c .bound-for .ensures)
     ∙ held (e .before) true (not-false _ (e .if1 .left))
 
 pub first-ok-spec : {M : Type 1} → statement M
 first-ok-spec =
     tie.close
-    (tie.spec (λ c. search needs) (λ c κs. search needs) returns (λ c. search needs) (λ c κs. search needs)
+    (tie.spec (λ c. search needs) (λ c κs. search needs) returns (λ c κs. search needs) (λ c. search needs)
     (λ c κs. search needs) returns-2)
