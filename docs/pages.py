@@ -130,7 +130,7 @@ def frames_of(name):
 def costs():
     """What the barrier costs."""
     numbers = played.header()
-    boards, longest = (5, 96, numbers["OCB_NODES"]), numbers["OCB_FRAME_BYTES"]
+    boards, longest = (5, numbers["OCB_NODES"]), numbers["OCB_FRAME_BYTES"]
     rows = [(f"state of a node, on a board of {nodes}", f"{words} words of 4 bytes: {4 * words} bytes")
             for nodes, words in zip(boards, played.state_words(boards))]
     rows += [("buffer for a frame", f"{longest} bytes, the longest frame of any board"),
