@@ -1,5 +1,5 @@
 #!/usr/bin/env python3
-"""Draws who talks to whom on a board of 1 to 256 nodes.
+"""Draws who talks to whom on a board of 1 to 96 nodes.
 
 python3 docs/partners.py NODES > partners.svg
 

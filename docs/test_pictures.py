@@ -251,8 +251,8 @@ def check_mistakes(folder):
         (folder / "stops").write_text(text, encoding="utf-8")
         refuse(played.ROOT, "chart", [str(folder / "stops")], "chart: " + line.format(folder / "stops"))
     refuse(played.ROOT, "partners", [], "python3 docs/partners.py NODES > partners.svg")
-    for words in ("0", "257", "-1", "5.0", "many", ""):
-        refuse(played.ROOT, "partners", [words], f"partners: a board has 1 to 256 nodes, not {words!r}")
+    for words in ("0", "97", "-1", "5.0", "many", ""):
+        refuse(played.ROOT, "partners", [words], f"partners: a board has 1 to 96 nodes, not {words!r}")
 
 
 def check_not_built(folder):
@@ -289,7 +289,7 @@ def test(folder):
     hold(set().union(*(letters for letters, _ in met.values())) == set("stibd"), "the scripts have not every letter of a line")
     hold(CROWDED in met["crowded"][1], f"scripts/crowded is not answered {CROWDED}")
     check_answers()
-    sizes = [*range(1, 19), 100, 255, 256]
+    sizes = [*range(1, 19), 64, 65, 95, 96]
     for nodes in sizes:
         check_partners(nodes)
     check_boards()
