@@ -121,7 +121,7 @@ pub extern "C" fn ocb_distance(nodes: u32, a: u32, b: u32, found: &mut [u32; 1])
 #[no_mangle]
 pub extern "C" fn ocb_frame_write(
     nodes: u32,
-    fields: &[u32; 23],
+    fields: &[u32; field_words::END],
     buf: &mut [u8],
     size: &mut [u32; 1],
 ) -> u32
@@ -136,7 +136,7 @@ pub extern "C" fn ocb_frame_write(
 
 // Reads a frame. Refuses 1, 9, 10, 2.
 #[no_mangle]
-pub extern "C" fn ocb_frame_read(nodes: u32, bytes: &[u8], fields: &mut [u32; 23]) -> u32
+pub extern "C" fn ocb_frame_read(nodes: u32, bytes: &[u8], fields: &mut [u32; field_words::END]) -> u32
     ensures answer { λ r. ⌜ r ≡ lookupNumber (readFrame base nodes (now (bytes .entry))) ⌝ }
     ensures memory { λ r. ⌜ now (fields .exit) ≡ frameWords (readFrame base nodes (now (bytes .entry))) (now (fields .entry)) ⌝ }
 {

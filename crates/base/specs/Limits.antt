@@ -1,5 +1,7 @@
 -- The limits of a build (rule N3): how many nodes a board may have, and how many messages a node may send in a phase.
 use Prim.Native.Nat.{ℕ, suc, _-_, _*_, _≤_}
+use lib.Dec.{ltb}
+use Rattle.base.specs.Choice.{choose}
 use Rattle.base.specs.declared.Bounds.{Bounds}
 
 pub record Limits : Type 0 where
@@ -16,17 +18,21 @@ takenLimit L = (L .nodes - 1) * L .sends
 
 -- the limits of the largest build
 abbrev pub base : Limits
-base = record { nodes = 256; sends = 65535 }
+base = record { nodes = 96; sends = 65535 }
 
 -- How many shells a state or a frame has room for: the dimension of the largest board.
 abbrev pub width : ℕ
-width = 8
+width = 7
 
 -- a pair that the largest build has room for
 pub record Fits (L : Limits) : Type 0 where
   pub nodes : L .nodes ≤ base .nodes
   pub sends : L .sends ≤ base .sends
 
--- the pair that a call is handed
+-- The pair that a call is handed. A byte can hold more than the highest number of a node in the largest build, and then stands for
+-- that number, so that every pair that is handed fits.
+abbrev pub lastOf : Bounds → ℕ
+lastOf b = choose (ltb (b .last) (base .nodes)) (b .last) (base .nodes - 1)
+
 abbrev pub limitsOf : Bounds → Limits
-limitsOf b = record { nodes = suc (b .last); sends = b .sends }
+limitsOf b = record { nodes = suc (lastOf b); sends = b .sends }

@@ -117,7 +117,7 @@ fn print_written(agreed: u32) {
     io::write_all(STDOUT_FILENO, b"field");
     print_next(agreed);
     io::write_all(STDOUT_FILENO, b" written:");
-    let mut words = [0u32; 23];
+    let mut words = [0u32; field_words::END];
     words[field_words::PASS] = 2;
     words[field_words::SENDER] = 1;
     words[field_words::AGREED] = agreed;
@@ -126,13 +126,13 @@ fn print_written(agreed: u32) {
     io::write_all(STDOUT_FILENO, b"\n");
 }
 
-// The bytes of a pass 2 frame whose T is the limit 16,776,960 = 0x00ffff00, with `more` as its low byte.
-fn print_read(more: u8) {
-    io::write_all(STDOUT_FILENO, b"field 16776960 and");
-    print_next(more as u32);
+// The bytes of a pass 2 frame whose T is 6,291,200 = 0x005fff00 with another low byte. With 160 it is the limit.
+fn print_read(low: u8) {
+    io::write_all(STDOUT_FILENO, b"field 6291200 and");
+    print_next(low as u32);
     io::write_all(STDOUT_FILENO, b" read:");
-    let bytes = [2, 0, 0, 1, more, 255, 255, 0, 0, 0, 0, 0];
-    let mut words = [0u32; 23];
+    let bytes = [2, 0, 0, 1, low, 255, 95, 0, 0, 0, 0, 0];
+    let mut words = [0u32; field_words::END];
     print_outcome(fields_read::read(base::of_build(), 2, &bytes, &mut words));
     io::write_all(STDOUT_FILENO, b"\n");
 }
@@ -145,8 +145,8 @@ fn main() {
     print_timing(255, 0);
     print_timing(3, 5);
     print_timing(3, 3);
-    print_written(16776960);
-    print_written(16776961);
-    print_read(0);
-    print_read(1);
+    print_written(6291360);
+    print_written(6291361);
+    print_read(160);
+    print_read(161);
 }

@@ -11,16 +11,16 @@ use tree::Run;
 
 // The last node of the left part of a run.
 fn middle_of(r: Run) -> u32
-    requires { ⌜ (r .low ≤ 256) × (r .high < 256) ⌝ }
-    ensures { λ m. ⌜ (m ≡ middle r) × (m < 256) ⌝ }
+    requires { ⌜ (r .low ≤ base .nodes) × (r .high < base .nodes) ⌝ }
+    ensures { λ m. ⌜ (m ≡ middle r) × (m < base .nodes) ⌝ }
 {
     (r.low + r.high) / 2
 }
 
 // The part of a run that has the node.
 fn part_of(r: Run, node: u32) -> Run
-    requires { ⌜ (r .low ≤ 256) × (r .high < 256) ⌝ }
-    ensures { λ s. ⌜ (s ≡ part r node) × (s .low ≤ 256) × (s .high < 256) ⌝ }
+    requires { ⌜ (r .low ≤ base .nodes) × (r .high < base .nodes) ⌝ }
+    ensures { λ s. ⌜ (s ≡ part r node) × (s .low ≤ base .nodes) × (s .high < base .nodes) ⌝ }
 {
     let middle = middle_of(r);
     if node <= middle {
@@ -44,7 +44,7 @@ fn has_node(r: Run, node: u32) -> bool
 
 // The largest dimension below p in which a and b are in different runs.
 fn parted_below(nodes: u32, p: u32, a: u32, b: u32) -> u32
-    requires { ⌜ (0 < nodes) × (nodes ≤ 256) × (p ≡ dimension nodes) ⌝ }
+    requires { ⌜ (0 < nodes) × (nodes ≤ base .nodes) × (p ≡ dimension nodes) ⌝ }
     ensures { λ r. ⌜ r ≡ distanceBelow nodes a b p ⌝ }
 {
     let mut r = Run {

@@ -12,7 +12,7 @@ use field_words::SENDER;
 use tree::Found;
 
 // The dimension of a board on which a frame of these fields may be written. Refuses 1, 10, 2.
-pub fn tested(b: Bounds, nodes: u32, fields: &[u32; 23]) -> Found
+pub fn tested(b: Bounds, nodes: u32, fields: &[u32; field_words::END]) -> Found
     ensures { λ r. ⌜ foundAnswer r ≡ testedOn (limitsOf b) nodes (now (fields .entry)) ⌝ }
 {
     let Found::Is(p) = tree::dimension_for(b, nodes) else {

@@ -1,4 +1,4 @@
--- A frame's fields as 23 words that a C caller lends (rule C6).
+-- A frame's fields as words that a C caller lends (rule C6).
 use mathlib.Core.List.{List, [], _∷_, _++_}
 use Prim.Native.Nat.{ℕ, _+_}
 use lib.ListN.{getD}
@@ -39,7 +39,7 @@ abbrev pub atSent : ℕ → ℕ
 atSent m = 7 + m
 
 abbrev pub atTaken : ℕ → ℕ
-atTaken m = 15 + m
+atTaken m = atSent width + m
 
 -- one after the last, and so how many words there are
 abbrev pub fieldsEnd : ℕ

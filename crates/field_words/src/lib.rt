@@ -28,9 +28,9 @@ pub const AGREED: usize = 6;
 // the tallies of shell 0
 pub const SENT: usize = 7;
 
-pub const TAKEN: usize = 15;
+pub const TAKEN: usize = SENT + base::SHELLS;
 // one after the last
-pub const END: usize = 23;
+pub const END: usize = TAKEN + base::SHELLS;
 
 // ---- The numbers that a frame may hold
 
@@ -52,7 +52,7 @@ fn has_tallies(p: u32, pass: u32, k: u32, m: u32) -> bool
 }
 
 // The tallies of a shell are within the limit, and 0 where the frame does not have them.
-fn shell_low(limit: u32, p: u32, fields: &[u32; 23], m: usize) -> bool
+fn shell_low(limit: u32, p: u32, fields: &[u32; END], m: usize) -> bool
     requires { ⌜ m < width ⌝ }
     ensures { λ r. ⌜ r ≡ shellLow limit p (now (fields .entry)) m ⌝ }
 {
@@ -62,10 +62,10 @@ fn shell_low(limit: u32, p: u32, fields: &[u32; 23], m: usize) -> bool
 }
 
 // So are those of all shells.
-fn shells_low(limit: u32, p: u32, fields: &[u32; 23]) -> bool
+fn shells_low(limit: u32, p: u32, fields: &[u32; END]) -> bool
     ensures { λ r. ⌜ r ≡ every 0 width (shellLow limit p (now (fields .entry))) ⌝ }
 {
-    for m in 0..8 {
+    for m in 0..base::SHELLS {
         if !shell_low(limit, p, fields, m) {
             return false;
         }
@@ -74,7 +74,7 @@ fn shells_low(limit: u32, p: u32, fields: &[u32; 23]) -> bool
 }
 
 // So are the totals and T.
-fn totals_low(limit: u32, fields: &[u32; 23]) -> bool
+fn totals_low(limit: u32, fields: &[u32; END]) -> bool
     ensures { λ r. ⌜ r ≡ totalsLow limit (now (fields .entry)) ⌝ }
 {
     if limit < fields[ISSUED] {
@@ -87,7 +87,7 @@ fn totals_low(limit: u32, fields: &[u32; 23]) -> bool
 }
 
 // All numbers that a frame may hold are within the limit, and 0 where the frame does not have them.
-pub fn numbers_ok(b: Bounds, p: u32, fields: &[u32; 23]) -> bool
+pub fn numbers_ok(b: Bounds, p: u32, fields: &[u32; END]) -> bool
     ensures { λ r. ⌜ r ≡ numbersOk (limitsOf b) p (frameFrom (now (fields .entry))) ⌝ }
 {
     let limit = base::field_limit(b);

@@ -1,4 +1,4 @@
--- What the frame writer answers and leaves, on a frame's fields as 23 words (rule C6).
+-- What the frame writer answers and leaves, on a frame's fields as words (rule C6).
 use mathlib.Core.List.{List, [], _∷_}
 use Prim.Native.Nat.{ℕ}
 use lib.Dec.{leb}

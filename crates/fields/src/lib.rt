@@ -1,4 +1,4 @@
-// The frame writer for tools and tests: from a frame's fields as 23 words into a buffer, both lent.
+// The frame writer for tools and tests: from a frame's fields as words into a buffer, both lent.
 // Any words, buffer and number of nodes may be handed; what is not allowed is refused with its number (rule R3),
 // and a refused call leaves the buffer.
 ghost use mathlib.Core.Path.{_≡_};
@@ -106,7 +106,7 @@ fn put_second(fields: &[u32], buf: &mut [u8]) -> Found
 }
 
 // Writes a frame at the start of the buffer and answers its length. Refuses 1, 10, 2, 14.
-pub fn write(b: Bounds, nodes: u32, fields: &[u32; 23], buf: &mut [u8]) -> Found
+pub fn write(b: Bounds, nodes: u32, fields: &[u32; field_words::END], buf: &mut [u8]) -> Found
     ensures answer { λ r.
         ⌜ foundAnswer r ≡ writeOn (limitsOf b) nodes (now (fields .entry)) (length (now (buf .entry))) ⌝ }
     ensures buffer { λ r.

@@ -1,4 +1,4 @@
-// The frame reader for tools and tests: from bytes into a frame's fields as 23 words, both lent.
+// The frame reader for tools and tests: from bytes into a frame's fields as words, both lent.
 // Any bytes, words and number of nodes may be handed; what is not allowed is refused with its number (rule R3),
 // and a refused call leaves the words.
 ghost use mathlib.Core.Path.{_≡_};
@@ -23,11 +23,11 @@ use field_words::TAKEN;
 use frame::Outcome;
 
 // Puts the words of a head, and no numbers yet.
-fn get_head(bytes: &[u8], fields: &mut [u32; 23])
+fn get_head(bytes: &[u8], fields: &mut [u32; field_words::END])
     requires { ⌜ 4 ≤ length (now bytes) ⌝ }
     ensures { λ r. ⌜ now (fields .exit) ≡ headWords (now (bytes .entry)) ⌝ }
 {
-    *fields = [0; 23];
+    *fields = [0; field_words::END];
     fields[PASS] = bytes[0] as u32;
     fields[PHASE] = bytes[1] as u32;
     fields[DIM] = bytes[2] as u32;
@@ -76,7 +76,7 @@ fn get_numbers(bytes: &[u8], fields: &mut [u32])
 }
 
 // Reads a frame. Refuses 1, 9, 10, 2.
-pub fn read(b: Bounds, nodes: u32, bytes: &[u8], fields: &mut [u32; 23]) -> Outcome
+pub fn read(b: Bounds, nodes: u32, bytes: &[u8], fields: &mut [u32; field_words::END]) -> Outcome
     ensures answer { λ r. ⌜ r ≡ answerOf (readFrame (limitsOf b) nodes (now (bytes .entry))) ⌝ }
     ensures memory { λ r.
         ⌜ now (fields .exit) ≡ frameWords (readFrame (limitsOf b) nodes (now (bytes .entry))) (now (fields .entry)) ⌝ }

@@ -202,6 +202,6 @@ module _ (L : Limits) (P : ℕ) (f : Frame) (room n : ℕ) (wrote : writeFrame L
       let w = write-known L P f room n wrote in
       omega (arith, w .count, size-high P f (board-width L P small (w .accepted .board)))
 
--- rule F3: no frame is longer than 76 bytes
-pub longest-base : (P : ℕ) (f : Frame) (room n : ℕ) → writeFrame base P f room ≡ found n → n ≤ 76
+-- rule F3: no frame is longer than 68 bytes
+pub longest-base : (P : ℕ) (f : Frame) (room n : ℕ) → writeFrame base P f room ≡ found n → n ≤ 68
 longest-base P f room n wrote = longest base P f room n wrote small-base

@@ -17,8 +17,8 @@ pub struct Frame {
     pub dim: u8,
     pub sender: u8,
     // pass 1: the tallies of each shell, by the shell's own number
-    pub sent: [Sent; 8],
-    pub taken: [Taken; 8],
+    pub sent: [Sent; base::SHELLS],
+    pub taken: [Taken; base::SHELLS],
     // total sent
     pub issued: Sent,
     // pass 1: total taken

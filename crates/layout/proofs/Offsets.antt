@@ -74,7 +74,7 @@ pub most-words : stateWords width ≡ mostWords
 most-words = words-closed width
 
 pub words-low : (p : ℕ) → p ≤ width → stateWords p ≤ mostWords
-words-low p l = omega (arith, words-closed p, mul-low p width (p + 9) 17 l (omega arith))
+words-low p l = omega (arith, words-closed p, mul-low p width (p + 9) (width + 9) l (omega arith))
 
 pub first-end : (p k : ℕ) → k < p → p ≤ width → atFirst p k + stepWords p k ≤ mostWords
 first-end p k h l = omega (arith, first-inside p k h, words-low p l)

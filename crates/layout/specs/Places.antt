@@ -67,7 +67,7 @@ stateWords p = atFirst p p
 
 -- those of a state of `width` dimensions
 abbrev pub mostWords : ℕ
-mostWords = 144
+mostWords = 120
 
 -- ---- In a stored frame of dimension k whose words begin at a place: the mark is first, 1 where a frame is stored
 

@@ -40,10 +40,8 @@ pub const SECOND: u32 = 3;
 pub const SECOND_AGREED: u32 = 1;
 
 pub const SECOND_ISSUED: u32 = 2;
-// the shells of the largest board, and the words of a state of it
-pub const SHELLS: u32 = 8;
-
-pub const MOST: u32 = 144;
+// the shells of the largest board
+pub const SHELLS: u32 = base::SHELLS as u32;
 
 // ---- What follows it
 

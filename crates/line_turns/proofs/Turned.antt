@@ -34,12 +34,12 @@ use Rattle.line_step.specs.Steps.{oldest, stepped, steppedBytes, steppedItems}
 abbrev pub Near : Line → Type 0
 Near (Nodes P) = Unit {0}
 Near (Sends kind a b) = Unit {0}
-Near (Delivers a b) = (a < 256) × (b < 256)
+Near (Delivers a b) = (a < base .nodes) × (b < base .nodes)
 Near (Idles a) = Unit {0}
 Near (Calls a) = Unit {0}
 Near Bad = Unit {0}
 
-pub near : (size : ℕ) → size ≤ 256 → (l : Line) → isEvent size l ≡ true → Near l
+pub near : (size : ℕ) → size ≤ base .nodes → (l : Line) → isEvent size l ≡ true → Near l
 near size h (Nodes P) e = tt
 near size h (Sends kind a b) e = tt
 near size h (Delivers a b) e =
@@ -92,7 +92,7 @@ module _ (st : Stage) (items : List Item) (bytes : List ℕ) (within : st .under
       })
       (same-items (stepped st items bytes line))
 
-  oldest-is : (a b : ℕ) → a < 256 → b < 256 → oldest st items bytes (Delivers a b) ≡ oldestAt items (st .under) a b
+  oldest-is : (a b : ℕ) → a < base .nodes → b < base .nodes → oldest st items bytes (Delivers a b) ≡ oldestAt items (st .under) a b
   oldest-is a b h k =
       let e : a % 256 ≡ a = omega (arith, h) in
       let f : b % 256 ≡ b = omega (arith, k) in
@@ -100,7 +100,7 @@ module _ (st : Stage) (items : List Item) (bytes : List ℕ) (within : st .under
 
   good-size : 0 < st .size → st .size ≤ 16 → badBoard base (st .size) ≡ false
   good-size h small =
-      (λ i. either (ne-eqb (st .size) 0 (λ e. omega (arith, e, h)) i) (le-ltb 256 (st .size) (omega (arith, small)) i))
+      (λ i. either (ne-eqb (st .size) 0 (λ e. omega (arith, e, h)) i) (le-ltb (base .nodes) (st .size) (omega (arith, small)) i))
 
   -- no header goes, and none is put
   nothing-put : set (set (removedWithin items (st .under) (st .under)) (length items) noItem) (length items) noItem ≡

@@ -15,16 +15,16 @@ use tree::Run;
 
 // The last node of the left part of a run.
 fn middle_of(r: Run) -> u32
-    requires { ⌜ (r .low ≤ 256) × (r .high < 256) ⌝ }
-    ensures { λ m. ⌜ (m ≡ middle r) × (m < 256) ⌝ }
+    requires { ⌜ (r .low ≤ base .nodes) × (r .high < base .nodes) ⌝ }
+    ensures { λ m. ⌜ (m ≡ middle r) × (m < base .nodes) ⌝ }
 {
     (r.low + r.high) / 2
 }
 
 // The part of a run that has the node.
 fn part_of(r: Run, node: u32) -> Run
-    requires { ⌜ (r .low ≤ 256) × (r .high < 256) ⌝ }
-    ensures { λ s. ⌜ (s ≡ part r node) × (s .low ≤ 256) × (s .high < 256) ⌝ }
+    requires { ⌜ (r .low ≤ base .nodes) × (r .high < base .nodes) ⌝ }
+    ensures { λ s. ⌜ (s ≡ part r node) × (s .low ≤ base .nodes) × (s .high < base .nodes) ⌝ }
 {
     let middle = middle_of(r);
     if node <= middle {
@@ -41,8 +41,8 @@ fn part_of(r: Run, node: u32) -> Run
 
 // The run of a node, so many splits below the root.
 fn run_below(nodes: u32, splits: u32, node: u32) -> Run
-    requires { ⌜ (0 < nodes) × (nodes ≤ 256) ⌝ }
-    ensures { λ r. ⌜ (r ≡ runBelow nodes splits node) × (r .low ≤ 256) × (r .high < 256) ⌝ }
+    requires { ⌜ (0 < nodes) × (nodes ≤ base .nodes) ⌝ }
+    ensures { λ r. ⌜ (r ≡ runBelow nodes splits node) × (r .low ≤ base .nodes) × (r .high < base .nodes) ⌝ }
 {
     let mut r = Run {
         low: 0,
@@ -56,7 +56,7 @@ fn run_below(nodes: u32, splits: u32, node: u32) -> Run
 
 // The node across from a node of a run, in the other part of it.
 fn across_from(r: Run, node: u32) -> u32
-    requires { ⌜ (r .low ≤ node) × (node ≤ r .high) × (r .high < 256) ⌝ }
+    requires { ⌜ (r .low ≤ node) × (node ≤ r .high) × (r .high < base .nodes) ⌝ }
     ensures { λ b. ⌜ b ≡ across r node ⌝ }
 {
     let next = middle_of(r) + 1;
@@ -69,7 +69,7 @@ fn across_from(r: Run, node: u32) -> u32
 
 // The place of a node of a run whose two parts are siblings.
 fn place_in(r: Run, node: u32) -> Placed
-    requires { ⌜ (r .low ≤ node) × (node ≤ r .high) × (r .high < 256) ⌝ }
+    requires { ⌜ (r .low ≤ node) × (node ≤ r .high) × (r .high < base .nodes) ⌝ }
     ensures { λ s. ⌜ placedAnswer s ≡ found (placeIn r node) ⌝ }
 {
     let last = middle_of(r);

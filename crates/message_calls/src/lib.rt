@@ -10,7 +10,7 @@ use base::Kind;
 use node::Answer;
 
 // The words in which a call gathers the sums of the largest board.
-pub const SUMS: usize = 18;
+pub const SUMS: usize = 2 * base::SHELLS + layout::TOTALS as usize;
 
 // One message more is sent to a node. Refuses 13, 2, 3, 4, 5.
 pub fn send_to(b: Bounds, state: &mut [u32], to: u32) -> Answer

@@ -6,8 +6,8 @@ use frame::Taken;
 pub struct Stored {
     pub present: bool,
     // the tallies of each shell, by the shell's own number
-    pub sent: [Sent; 8],
-    pub taken: [Taken; 8],
+    pub sent: [Sent; base::SHELLS],
+    pub taken: [Taken; base::SHELLS],
     // total sent and total taken
     pub issued: Sent,
     pub received: Taken,
@@ -28,15 +28,15 @@ pub struct Node {
     pub phase: u8,
     pub busy: bool,
     // a sent tally and a taken tally per shell
-    pub sent: [Sent; 8],
-    pub taken: [Taken; 8],
+    pub sent: [Sent; base::SHELLS],
+    pub taken: [Taken; base::SHELLS],
     // the position: pass, dimension, send flag
     pub pass: u8,
     pub dim: u8,
     pub flag: bool,
     // the latest stored frame per pass and dimension
-    pub first: [Stored; 8],
-    pub second: [Confirm; 8],
+    pub first: [Stored; base::SHELLS],
+    pub second: [Confirm; base::SHELLS],
     // the agreed total T
     pub agreed: u32,
 }

@@ -48,7 +48,7 @@ module _ (L : Limits) (fit : Fits L) (ws sums : List ℕ) (p total : ℕ) (h : L
   abbrev k : ℕ
   k = n .dim
 
-  few : p ≤ 8
+  few : p ≤ width
   few = low-dims L fit ws sums p total h
 
   -- ---- pass 1

@@ -18,7 +18,7 @@ fn main() {
     // one byte more than a script may have
     let mut script: [u8; 4097] = [0; 4097];
     let read = io::read_full(STDIN_FILENO, &mut script);
-    let mut bytes: [u8; 38912] = [0; 38912];
+    let mut bytes: [u8; 34816] = [0; 34816];
     let mut out = io::large_buffer();
     let printed = play(&mut bytes, &mut out, &script[..read]);
     io::write_all(STDOUT_FILENO, &out[..printed]);

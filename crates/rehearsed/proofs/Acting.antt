@@ -8,7 +8,7 @@ use lib.Dec.{ltb}
 use lib.ListN.{length, getD, set, length-set, length-append}
 use borrow.Author.Tests.{ltb-true, lt-ltb}
 use Rattle.base.specs.Choice.{choose}
-use Rattle.base.specs.Limits.{base}
+use Rattle.base.specs.Limits.{base, width}
 use Rattle.base.specs.declared.Kind.{Kind}
 use Rattle.base.proofs.Laws.{choose-yes, cases}
 use Rattle.tree.specs.Tree.{dimension, Place, alone, hermit, neighbour, messenger, sendsTo, place, receivers, distance}
@@ -172,8 +172,8 @@ module _ {P : ℕ} {st : Stage} {items : List Header} {bytes : List ℕ} {w : Bo
 
   -- a frame is put on the link to one node or to two
   module _ (x : State) (n : Node) (now-bears : Bears x n) (fr : List ℕ) (frame-is : Legible P fr) where
-    dim : dimension P ≤ 8
-    dim = smallest P 8 (omega arith)
+    dim : dimension P ≤ width
+    dim = smallest P width (omega arith)
 
     -- at the place i of those lent
     put-on : (now : List Header) (then : List ℕ) (ms : List Item) (b i : ℕ) → length ms ≡ i → i < length now

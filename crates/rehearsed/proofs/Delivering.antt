@@ -9,7 +9,7 @@ use lib.Dec.{eqb}
 use lib.ListN.{length, getD}
 use borrow.Author.Tests.{eq-eqb, ne-eqb}
 use Rattle.base.specs.Choice.{choose}
-use Rattle.base.specs.Limits.{base}
+use Rattle.base.specs.Limits.{base, width}
 use Rattle.base.specs.declared.Kind.the-variants.{Job, Note}
 use Rattle.base.specs.declared.Kind.{Kind}
 use Rattle.base.proofs.Laws.{choose-yes, choose-no, cases}
@@ -61,7 +61,7 @@ module _ {P : ℕ} {st : Stage} {items : List Header} {bytes : List ℕ} {w : Bo
         (ap length i ∙ omega (arith, length-less a b (w .items) (omega (arith, s .under)), s .under))
         (omega (arith, s .lent, headers, wide))
         (subst (Stand (Stands P now then) 0) (sym i)
-        (stand-off P (smallest P 8 (omega arith)) items bytes (w .items) (st .under) a b (s .under) (room .headed)
+        (stand-off P (smallest P width (omega arith)) items bytes (w .items) (st .under) a b (s .under) (room .headed)
         (room .lent) there (s .stand))))
       where
         room : Roomy (st .under) (length items) bytes

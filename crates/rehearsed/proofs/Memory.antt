@@ -9,6 +9,7 @@ use lib.ListN.{length, getD, set, take, drop, length-drop, length-set, take-appe
 use lib.ListN.{List·getD-append}
 use lib.Seq.{length-take-le, take-append-le, take-take, take-at, drop-append-le, drop-drop, drop-at}
 use lib.Seq.{getD-take, getD-set-same, getD-set-other}
+use Rattle.base.specs.Limits.{width}
 use Rattle.base.proofs.Laws.{cases}
 use Rattle.tree.specs.Tree.{dimension}
 use Rattle.frame.specs.Frame.{frameLength}
@@ -94,14 +95,14 @@ part-drop bytes m d j e =
     ap (take placeSize) (drop-drop (placeSize * d) (placeSize * m) bytes ∙ ap (λ k. drop k bytes) z)
 
 -- no frame of so few dimensions is longer than a place
-fits : (p pass k : ℕ) → p ≤ 8 → frameLength p pass k ≤ placeSize
+fits : (p pass k : ℕ) → p ≤ width → frameLength p pass k ≤ placeSize
 unfolding frameLength
 fits p pass k h =
     cases (λ n. n ≤ placeSize) (eqb pass 1) (4 + 8 * (p - k) + 8) 12 (λ e. omega arith) (λ e. omega arith)
 
 -- ---- the frames held
 
-module _ (size : ℕ) (small : dimension size ≤ 8) where
+module _ (size : ℕ) (small : dimension size ≤ width) where
   -- the bytes of a place alone say what is held there
   same-held : (bytes other : List ℕ) (i j : ℕ) → part bytes i ≡ part other j
       → frameHeld size bytes i ≡ frameHeld size other j

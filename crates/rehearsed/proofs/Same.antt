@@ -8,6 +8,7 @@ use lib.Dec.{eqb}
 use lib.ListN.{length, getD, set}
 use lib.Seq.{getD-set-same, getD-set-other}
 use Rattle.base.specs.Choice.{choose}
+use Rattle.base.specs.Limits.{width}
 use Rattle.base.specs.declared.Kind.the-variants.{Job, Note}
 use Rattle.base.specs.declared.Kind.{Kind}
 use Rattle.tree.specs.Tree.{dimension}
@@ -107,7 +108,7 @@ stand-put P items bytes then ms x m i len room held from to load s =
         }
 
 -- the oldest item of a link goes
-pub stand-off : (P : ℕ) → dimension P ≤ 8 → (items : List Header) (bytes : List ℕ) (ms : List Item) (n a b : ℕ)
+pub stand-off : (P : ℕ) → dimension P ≤ width → (items : List Header) (bytes : List ℕ) (ms : List Item) (n a b : ℕ)
     → length ms ≡ n → n ≤ length items → placeSize * n ≤ length bytes → placeIn a b ms < n
     → Stand (Stands P items bytes) 0 ms
     → Stand (Stands P (removed items n (placeIn a b ms)) (closed bytes n (placeIn a b ms))) 0 (without a b ms)

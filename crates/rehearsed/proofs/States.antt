@@ -94,7 +94,7 @@ fresh-holds P a one few low =
     let d : dimension P ≤ 4 = smallest P 4 few in
     let m = mul-low (dimension P) 4 (dimension P + 9) 13 d (omega arith) in
     fresh-words base fits-base P a (replicate most 0)
-    (rw (ne-eqb P 0 (λ z. omega arith), le-ltb 256 P (omega arith)))
+    (rw (ne-eqb P 0 (λ z. omega arith), le-ltb (base .nodes) P (omega arith)))
     low (omega (arith, words-closed (dimension P), m))
 
 pub fresh-bears : (P a : ℕ) → 1 ≤ P → P ≤ 16 → a < P → Bears (freshState P a) (freshIn P a 0)

@@ -23,7 +23,7 @@ fn main() {
     // one byte more than a recording may have
     let mut recording: [u8; 60001] = [0; 60001];
     let read = io::read_full(STDIN_FILENO, &mut recording);
-    let mut bytes: [u8; 38912] = [0; 38912];
+    let mut bytes: [u8; 34816] = [0; 34816];
     let end = replay_headers::replay_own(&mut bytes, &recording[..read]);
     print_end(end.why, end.at);
 }

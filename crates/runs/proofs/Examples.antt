@@ -22,19 +22,19 @@ use Rattle.runs.specs.Printed.{line, lines}
 abbrev script : List Event
 script =
     idles 0
-    ∷ calls 0 76
+    ∷ calls 0 68
     ∷ idles 1
     ∷ delivers 0 1
-    ∷ calls 1 76
-    ∷ calls 1 76
-    ∷ calls 1 76
+    ∷ calls 1 68
+    ∷ calls 1 68
+    ∷ calls 1 68
     ∷ delivers 1 0
-    ∷ calls 0 76
-    ∷ calls 0 76
+    ∷ calls 0 68
+    ∷ calls 0 68
     ∷ delivers 1 0
-    ∷ calls 0 76
+    ∷ calls 0 68
     ∷ delivers 0 1
-    ∷ calls 1 76
+    ∷ calls 1 68
     ∷ []
 
 -- and the lines that are printed for them
@@ -67,30 +67,30 @@ worked = refl
 abbrev trap : List Event
 trap =
     idles 2
-    ∷ calls 2 76
+    ∷ calls 2 68
     ∷ sends Job 1 2
     ∷ idles 1
-    ∷ calls 1 76
+    ∷ calls 1 68
     ∷ sends Job 3 1
     ∷ delivers 3 1
     ∷ sends Job 1 3
     ∷ delivers 1 3
     ∷ idles 3
-    ∷ calls 3 76
+    ∷ calls 3 68
     ∷ delivers 3 2
-    ∷ calls 2 76
-    ∷ calls 2 76
+    ∷ calls 2 68
+    ∷ calls 2 68
     ∷ delivers 1 2
     ∷ sends Job 2 0
     ∷ delivers 1 0
     ∷ delivers 2 0
     ∷ delivers 2 0
     ∷ idles 0
-    ∷ calls 0 76
-    ∷ calls 0 76
-    ∷ calls 0 76
-    ∷ calls 0 76
-    ∷ calls 0 76
+    ∷ calls 0 68
+    ∷ calls 0 68
+    ∷ calls 0 68
+    ∷ calls 0 68
+    ∷ calls 0 68
     ∷ []
 
 abbrev trapped : Board
@@ -98,7 +98,7 @@ trapped = run base 4 trap
 
 -- node 0 is in pass 2 with T = 2, and waits there
 pub in-the-trap :
-    (line 0 (barrierNumber (barrier base (trapped .nodes 0) 76 .answer)) (trapped .nodes 0)
+    (line 0 (barrierNumber (barrier base (trapped .nodes 0) 68 .answer)) (trapped .nodes 0)
     ≡ 0 ∷ 21 ∷ 0 ∷ 2 ∷ 0 ∷ 0 ∷ 0 ∷ [])
     × (trapped .nodes 0 .agreed ≡ 2)
     × (trapped .nodes 1 .busy ≡ true)

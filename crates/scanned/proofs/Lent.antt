@@ -7,11 +7,10 @@ use native.Mathlib.Omega.{arith}
 use lib.ListN.{length}
 use Rattle.base.specs.Limits.{width}
 use Rattle.base.proofs.Laws.{list-at}
-use Rattle.base.proofs.Limits.{mul-low}
 use Rattle.node.specs.Sums.{dims, firstAt, secondAt}
 use Rattle.layout.specs.Places.{firstWords, secondWords, stepWords, atFirst, atSecond, stateWords, mostWords}
 use Rattle.layout.specs.Held.{word, firstFrom, secondFrom, firstIn, secondIn, unpacked}
-use Rattle.layout.proofs.Offsets.{first-inside, words-closed}
+use Rattle.layout.proofs.Offsets.{first-inside, first-end}
 use Rattle.layout.proofs.Parts.{first-alike, second-alike}
 use Rattle.layout.proofs.Reading.{first-word, second-word, first-in, second-in}
 use Rattle.wire.specs.Wire.{part}
@@ -41,13 +40,7 @@ module _ (ws : List ℕ) (k : ℕ) (low : k < dims (unpacked ws)) (bound : dims 
 
   -- the places of a state are small
   pub near : atFirst p k + stepWords p k ≤ mostWords
-  near =
-      omega (
-        arith,
-        first-inside p k low,
-        words-closed p,
-        mul-low p width (p + 9) 17 bound (omega arith),
-      )
+  near = first-end p k low bound
 
   pub first-long : length (firstLent ws p k) ≡ firstWords p k
   first-long = length-part ws (atFirst p k) (firstWords p k) (omega (arith, inside))

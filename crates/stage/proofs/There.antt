@@ -8,6 +8,7 @@ use native.Mathlib.Omega.{arith}
 use lib.Dec.{ltb, leb}
 use lib.ListN.{length}
 use borrow.Author.Tests.{lt-ltb, le-ltb, le-leb, lt-leb, eq-eqb, ne-eqb}
+use Rattle.base.specs.Limits.{base}
 use Rattle.under_way.specs.Frames.{placeSize, roomFor}
 use Rattle.stage.specs.Board.{isThere}
 use Rattle.stage.specs.declared.Stage.{Stage}
@@ -33,11 +34,11 @@ module _ (st : Stage) (headers : ℕ) (bytes : List ℕ) (at : ℕ) where
         let z = same-room in
         rw (lt-ltb at (st .under) h, lt-leb (st .under) (roomFor headers bytes) (omega arith))
 
-    pub there-sized : st .under ≤ room → 0 < st .size → isThere st headers bytes at ≡ leb (st .size) 256
+    pub there-sized : st .under ≤ room → 0 < st .size → isThere st headers bytes at ≡ leb (st .size) (base .nodes)
     there-sized l m =
         let z = same-room in
         rw (lt-ltb at (st .under) h, le-leb (st .under) (roomFor headers bytes) (omega arith))
-        (rw (ne-eqb (st .size) 0 (λ q. omega arith)) (flipped (st .size) 256))
+        (rw (ne-eqb (st .size) 0 (λ q. omega arith)) (flipped (st .size) (base .nodes)))
 
     pub there-none : st .under ≤ room → st .size ≤ 0 → isThere st headers bytes at ≡ false
     there-none l m =

@@ -101,5 +101,5 @@ pub fn is_there(st: Stage, headers: usize, len: usize, at: usize) -> bool
     if under_way::room_for(headers, len) < st.under {
         return false;
     }
-    0 < st.size && st.size <= 256
+    0 < st.size && st.size <= base::NODES
 }

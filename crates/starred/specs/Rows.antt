@@ -42,9 +42,9 @@ table =
     ∷ dimension 2 (found 1)
     ∷ dimension 3 (found 2)
     ∷ dimension 5 (found 3)
-    ∷ dimension 256 (found 8)
+    ∷ dimension 96 (found 7)
     ∷ dimension 0 (refused (number Refusal.board))
-    ∷ dimension 257 (refused (number Refusal.board))
+    ∷ dimension 97 (refused (number Refusal.board))
     -- node 2 of 6 in each dimension
     ∷ place 6 0 2 (found alone)
     ∷ place 6 1 2 (found (messenger 0 1))
@@ -55,7 +55,7 @@ table =
     ∷ distance 6 1 2 (found 1)
     ∷ distance 6 2 5 (found 2)
     -- lengths, the longest of all among them (rule F3)
-    ∷ firstLength 8 0 76
+    ∷ firstLength 7 0 68
     ∷ firstLength 3 2 20
     -- phase bytes on either side of 255 (rule F5)
     ∷ phases 0 255 Late

@@ -7,7 +7,7 @@ use native.Mathlib.Omega.{arith}
 use lib.Dec.{leb, eqb}
 use borrow.Author.Tests.{leb-true, eqb-true}
 use Rattle.base.specs.Choice.{both, every}
-use Rattle.base.specs.Limits.{Limits, Fits, fieldLimit, takenLimit, width}
+use Rattle.base.specs.Limits.{Limits, Fits, fieldLimit, takenLimit, width, base}
 use Rattle.base.proofs.Laws.{both-true, every-at}
 use Rattle.base.proofs.Limits.{field-low, taken-low}
 use Rattle.frame.specs.Frame.{sentAt, takenAt}
@@ -91,25 +91,25 @@ module _ (L : Limits) (fit : Fits L) (n : Node) (ok : talliesOk L n ≡ true) wh
   sends : tally n allSent ≤ 65535
   sends = omega (arith, sends-low L n ok, fit .sends)
 
-  takes : tally n allTaken ≤ 16711425
+  takes : tally n allTaken ≤ takenLimit base
   takes = omega (arith, takes-low L n ok, taken-low L fit)
 
-  pub tally-low : (f : Field) → Has f → tally n f ≤ 16776960
+  pub tally-low : (f : Field) → Has f → tally n f ≤ fieldLimit base
   tally-low (sentIn m) h = go (decLe (dims n) m)
     where
-      go : Dec (dims n ≤ m) → sentAt (n .sent) m ≤ 16776960
+      go : Dec (dims n ≤ m) → sentAt (n .sent) m ≤ fieldLimit base
       go (yes l) = omega (arith, zero-past L n ok m l h .0)
       go (no l) = omega (arith, sends, total-has (sentAt (n .sent)) (dims n) m (omega arith))
   tally-low (takenIn m) h = go (decLe (dims n) m)
     where
-      go : Dec (dims n ≤ m) → takenAt (n .taken) m ≤ 16776960
+      go : Dec (dims n ≤ m) → takenAt (n .taken) m ≤ fieldLimit base
       go (yes l) = omega (arith, zero-past L n ok m l h .1)
       go (no l) = omega (arith, takes, total-has (takenAt (n .taken)) (dims n) m (omega arith))
   tally-low allSent h = omega (arith, sends)
   tally-low allTaken h = omega (arith, takes)
 
   pub own-low : (k : ℕ) → ((j : ℕ) → j < k → firstOk L n j ≡ true) → (f : Field) → Has f
-      → own n k f ≤ 16776960 * suc k
+      → own n k f ≤ fieldLimit base * suc k
   unfolding own
   own-low zero first f h = omega (arith, tally-low f h)
   own-low (suc k) first f h =
@@ -117,7 +117,7 @@ module _ (L : Limits) (fit : Fits L) (n : Node) (ok : talliesOk L n ≡ true) wh
       let e = first k (omega arith) in
       omega (arith, field-low L fit, own-more L n k e f h, stored-low L n k e f h)
 
-  pub issued-low : (k : ℕ) → ((j : ℕ) → j < k → secondOk L n j ≡ true) → ownIssued n k ≤ 16776960 * suc k
+  pub issued-low : (k : ℕ) → ((j : ℕ) → j < k → secondOk L n j ≡ true) → ownIssued n k ≤ fieldLimit base * suc k
   unfolding ownIssued
   issued-low zero second = omega (arith, sends)
   issued-low (suc k) second =

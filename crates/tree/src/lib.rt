@@ -34,7 +34,7 @@ pub struct Run {
 pub fn dimension_for(b: Bounds, nodes: u32) -> Found
     ensures { λ r. ⌜ foundAnswer r ≡ dimensionLookup (limitsOf b) nodes ⌝ }
 {
-    let most = b.last as u32 + 1;
+    let most = base::last(b) + 1;
     if nodes == 0 {
         return Found::Refused(1);
     }

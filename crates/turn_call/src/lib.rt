@@ -19,11 +19,11 @@ use stage::Stage;
 use state_calls::StepReply;
 use states::State;
 
-// What a barrier call answers with the 76 bytes of a place, before any place is written.
+// What a barrier call answers with the bytes of a place, before any place is written.
 fn tried(s: State) -> StepReply
     ensures { λ r. ⌜ stepReplied r ≡ stepOn s placeSize ⌝ }
 {
-    let mut scratch = [0u8; 76];
+    let mut scratch = [0u8; under_way::PLACE];
     value_calls::step(s, &mut scratch)
 }
 

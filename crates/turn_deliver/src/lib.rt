@@ -22,7 +22,7 @@ fn frame_call(s: State, size: u32, at: usize, bytes: &[u8]) -> Reply
     requires { ⌜ (badBoard base size ≡ false) × (placeSize * at + placeSize ≤ length (now bytes)) ⌝ }
     ensures { λ r. ⌜ replied r ≡ onState (λ n. frameIn base n (frameHeld size (now (bytes .entry)) at)) s ⌝ }
 {
-    let a = 76 * at;
+    let a = under_way::PLACE * at;
     let e = a + under_way::stated_on(size, bytes[a], bytes[a + 2]);
     value_calls::frame_in(s, &bytes[a..e])
 }

@@ -10,13 +10,13 @@ use stage::Acted;
 use stage::Stage;
 use states::State;
 
-// Makes the barrier call of a state with the 76 bytes of a place, which are lent on.
+// Makes the barrier call of a state with the bytes of a place, which are lent on.
 fn write_at(s: State, place: usize, bytes: &mut [u8])
     requires { ⌜ placeSize * place + placeSize ≤ length (now bytes) ⌝ }
     ensures { λ r. ⌜ now (bytes .exit) ≡ calledAt (now (bytes .entry)) place s ⌝ }
 {
-    let a = 76 * place;
-    let e = a + 76;
+    let a = under_way::PLACE * place;
+    let e = a + under_way::PLACE;
     value_calls::step(s, &mut bytes[a..e]);
 }
 

@@ -75,7 +75,7 @@ module _ (st : Stage) (items : List Item) (bytes : List ℕ) where
         answer = outcomeNumber (r .answer);
       }
 
-  -- ---- b a: barrier call, with the 76 bytes of a place
+  -- ---- b a: barrier call, with the bytes of a place
 
   -- the frame goes to one receiver, or to two
   abbrev pub framedTo : ℕ → State → List ℕ → List ℕ → Turn

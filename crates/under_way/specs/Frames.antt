@@ -6,7 +6,7 @@ use Rattle.tree.specs.Tree.{dimension}
 use Rattle.frame.specs.Frame.{frameLength}
 
 abbrev pub placeSize : ℕ
-placeSize = 76
+placeSize = 68
 
 -- how many items there is room for, where so many headers and these bytes are lent
 abbrev pub roomFor : ℕ → List ℕ → ℕ

@@ -1,4 +1,4 @@
-// The lent bytes of the items under way, a place of 76 for each.
+// The lent bytes of the items under way, a place for each.
 // Any numbers and bytes may be handed.
 ghost use mathlib.Core.Path.{_≡_};
 ghost use mathlib.Core.Bool.{false};
@@ -6,12 +6,15 @@ ghost use Prim.Native.Nat.{_*_, _/_, min, _≤_, _<_};
 ghost use lib.Dec.{ltb, leb};
 ghost use lib.ListN.{length};
 ghost use Rattle.base.specs.Choice.{choose, both};
-ghost use Rattle.base.specs.Limits.{base};
+ghost use Rattle.base.specs.Limits.{base, width};
 ghost use Rattle.tree.specs.Tree.{dimension};
 ghost use Rattle.tree.specs.Lookups.{badBoard};
 ghost use Rattle.frame.specs.Frame.{frameLength};
 ghost use Rattle.under_way.specs.Frames.{placeSize, closed};
 use tree::Found;
+
+// The bytes of a place: the longest frame.
+pub const PLACE: usize = 68;
 
 fn least(a: usize, b: usize) -> usize
     ensures { λ r. ⌜ r ≡ min a b ⌝ }
@@ -23,7 +26,7 @@ fn least(a: usize, b: usize) -> usize
 pub fn room_for(headers: usize, len: usize) -> usize
     ensures { λ r. ⌜ r ≡ min 512 (min headers (len / placeSize)) ⌝ }
 {
-    least(512, least(headers, len / 76))
+    least(512, least(headers, len / PLACE))
 }
 
 // Of n places the one at `at` goes, and those after it move down whole.
@@ -31,10 +34,10 @@ fn move_down(bytes: &mut [u8], n: usize, at: usize)
     requires { ⌜ (at < n) × (placeSize * n ≤ length (now bytes)) ⌝ }
     ensures { λ r. ⌜ now (bytes .exit) ≡ closed (now (bytes .entry)) n at ⌝ }
 {
-    let start = 76 * at;
-    let end = 76 * (n - 1);
+    let start = PLACE * at;
+    let end = PLACE * (n - 1);
     for i in start..end {
-        bytes[i] = bytes[i + 76];
+        bytes[i] = bytes[i + PLACE];
     }
 }
 
@@ -48,7 +51,7 @@ pub fn close_gap(bytes: &mut [u8], n: usize, at: usize)
     if n <= at {
         return;
     }
-    if bytes.len() / 76 < n {
+    if bytes.len() / PLACE < n {
         return;
     }
     move_down(bytes, n, at);
@@ -56,8 +59,8 @@ pub fn close_gap(bytes: &mut [u8], n: usize, at: usize)
 
 // The length that a frame's head states.
 fn stated(p: usize, pass: u8, k: u8) -> usize
-    requires { ⌜ p ≤ 8 ⌝ }
-    ensures { λ r. ⌜ (r ≡ frameLength p pass k) × (r ≤ 76) ⌝ }
+    requires { ⌜ p ≤ width ⌝ }
+    ensures { λ r. ⌜ (r ≡ frameLength p pass k) × (r ≤ placeSize) ⌝ }
 {
     let k = k as usize;
     if pass != 1 {
@@ -71,7 +74,7 @@ fn stated(p: usize, pass: u8, k: u8) -> usize
 
 // The length that a frame's head states, on a board of so many nodes.
 pub fn stated_on(size: u32, pass: u8, k: u8) -> usize
-    ensures { λ r. ⌜ (badBoard base size ≡ false → r ≡ frameLength (dimension size) pass k) × (r ≤ 76) ⌝ }
+    ensures { λ r. ⌜ (badBoard base size ≡ false → r ≡ frameLength (dimension size) pass k) × (r ≤ placeSize) ⌝ }
 {
     let Found::Is(d) = tree::dimension_of(size) else {
         return 12;

@@ -14,7 +14,7 @@ returns c =
     let s = c .before .before .before in
     let a = s .before .before .before .before .before in
     let L = limitsOf (a .args .b) in
-    called L (fits-of (a .args .b) (omega (arith, a .good .0)) (omega (arith, a .good .0))) _ (λ n. frameIn L n (now (a .args .bytes))) _ _
+    called L (fits-of (a .args .b) (omega (arith, a .good .0))) _ (λ n. frameIn L n (now (a .args .bytes))) _ _
     (s .frame-in .ensures)
 
 pub frame-in-spec : {M : Type 1} → statement M

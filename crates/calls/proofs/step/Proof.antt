@@ -11,7 +11,7 @@ returns : tie.Need-returns
 returns c =
     let s = c .before .before .before .before .before in
     let a = s .before .before .before .before .before .before in
-    stepped _ (fits-of (a .args .b) (omega (arith, a .good .0)) (omega (arith, a .good .0))) _ (now (a .args .buf))
+    stepped _ (fits-of (a .args .b) (omega (arith, a .good .0))) _ (now (a .args .buf))
     (s .step .result) _ _ (s .step .ensures)
 
 pub step-spec : {M : Type 1} → statement M

@@ -6,6 +6,7 @@ use mathlib.Core.Path.{_≡_, sym, ap, _∙_}
 use mathlib.Core.Bool.{false}
 use Rattle.base.specs.Limits.{limitsOf}
 use Rattle.base.specs.Refusal.{found}
+use Rattle.base.proofs.Limits.{last-low}
 use Rattle.tree.specs.Tree.{dimension, distance, distanceBelow}
 use Rattle.tree.specs.Lookups.{badBoard, foundAnswer, distanceLookup}
 use Rattle.tree.proofs.Lookups.{board-good, dimension-refused, dimension-found}
@@ -49,7 +50,7 @@ parted-below-requires c κs =
     let k = known (c .before .before .before) in
     let s = c .before .before .before .before .before .before .before in
     let g = board-good (limitsOf (s .args .limits)) _ (k .0) in
-    (g .0, omega (arith, s .good .0), k .1)
+    (g .0, omega (arith, last-low (s .args .limits)), k .1)
 
 returns-5 : tie.Need-returns-5
 unfolding distanceLookup distance

@@ -5,6 +5,7 @@ use native.Mathlib.Omega.{arith}
 use mathlib.Core.Path.{_≡_, refl, _∙_, sym, ap}
 use mathlib.Core.Bool.{true, false}
 use Prim.Native.Nat.{_≤_, _<_, _-_}
+use Rattle.base.specs.Limits.{base}
 use Rattle.tree.specs.Tree.{runBelow, inside, distanceBelow}
 use Rattle.tree.proofs.Distances.{walk-run, walk-together, walk-apart}
 use Rattle.distances.proofs.parted_below.Statement.{statement}
@@ -15,8 +16,8 @@ Inv-loop nodes p a b r₀ k₀ r k =
     (k ≤ p)
     × (r ≡ runBelow nodes (p - k) a)
     × (distanceBelow nodes a b k ≡ distanceBelow nodes a b p)
-    × (r .low ≤ 256)
-    × (r .high < 256)
+    × (r .low ≤ base .nodes)
+    × (r .high < base .nodes)
 
 abbrev μ-loop : tie.MeasureT-loop
 μ-loop nodes p a b r₀ k₀ r k = k

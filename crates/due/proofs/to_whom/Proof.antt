@@ -43,7 +43,7 @@ returns-2 c = sym (choose-no _ _ (flag-is (c .before .before) false (ne-eqb _ 1 
 whom-of-requires : tie.Need-whom-of-requires
 whom-of-requires c κs b m =
     let s = c .before .before .before .before .before in
-    let fit = fits-of (s .args .b) (omega (arith, s .good .0)) (omega (arith, s .good .0)) in
+    let fit = fits-of (s .args .b) (omega (arith, s .good .0)) in
     receivers-low (L s) fit (word (ws s) atNodes) (word (ws s) atDim) (word (ws s) atNumber) b
     (subst (λ a. List·Memᴰ b (toWhom a)) (c .place-of .ensures) m)
 

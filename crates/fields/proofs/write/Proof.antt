@@ -32,7 +32,7 @@ found-on : (k : tie.After-tested2)
 found-on k = sym (k .before .before .tested .ensures) ∙ ap foundAnswer (k .tested2 .given .1)
 
 fit : (k : tie.After-tested2) → Fits (limitsOf (start k .args .b))
-fit k = fits-of (start k .args .b) (search needs) (search needs)
+fit k = fits-of (start k .args .b) (search needs)
 
 put-first-requires : tie.Need-put-first-requires
 put-first-requires c κs =

@@ -35,7 +35,7 @@ abbrev bytes : tie.After-enum-told → List ℕ
 bytes d = now (start d .args .bytes)
 
 fit : (d : tie.After-enum-told) → Fits (limits d)
-fit d = fits-of (start d .args .b) (search needs) (search needs)
+fit d = fits-of (start d .args .b) (search needs)
 
 -- the bytes are a frame
 good : (d : tie.After-enum-told) → answerOf (readFrame (limits d) (nodes d) (bytes d)) ≡ Done

@@ -28,7 +28,7 @@ module _ (s : tie.Start) where
   ws = now (s .args .s)
 
   fit : Fits L
-  fit = fits-of (s .args .b) (omega (arith, s .good .0)) (omega (arith, s .good .0))
+  fit = fits-of (s .args .b) (omega (arith, s .good .0))
 
 returns : tie.Need-returns
 returns c =

@@ -6,6 +6,7 @@ use mathlib.Core.Path.{_≡_, sym, ap, _∙_}
 use mathlib.Core.Bool.{false}
 use Rattle.base.specs.Limits.{limitsOf}
 use Rattle.base.specs.Refusal.{found}
+use Rattle.base.proofs.Limits.{last-low}
 use Rattle.tree.specs.Tree.{dimension, placeIn, place}
 use Rattle.tree.specs.Lookups.{badBoard, foundAnswer, placeLookup}
 use Rattle.tree.proofs.Runs.{below-has, run-up}
@@ -41,7 +42,7 @@ run-below-requires : tie.Need-run-below-requires
 run-below-requires c κs =
     let s = c .before .before .before .before .before .before in
     let g = board-good (limitsOf (s .args .b)) _ (known (c .before .before) .0) in
-    (g .0, omega (arith, s .good .0))
+    (g .0, omega (arith, last-low (s .args .b)))
 
 place-in-requires : tie.Need-place-in-requires
 place-in-requires c κs =

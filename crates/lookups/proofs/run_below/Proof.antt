@@ -3,13 +3,14 @@ use borrow.Author.Needs.{needs}
 use native.Mathlib.Omega.{arith}
 use mathlib.Core.Path.{_≡_}
 use Prim.Native.Nat.{_≤_, _<_, _-_}
+use Rattle.base.specs.Limits.{base}
 use Rattle.tree.specs.Tree.{runBelow}
 use Rattle.tree.proofs.Runs.{below-step}
 use Rattle.lookups.proofs.run_below.Statement.{statement}
 use Rattle.lookups.proofs.run_below.Tie as tie
 
 abbrev Inv-loop : tie.InvT-loop
-Inv-loop nodes splits node r₀ i₀ r i = (i ≤ splits) × (r ≡ runBelow nodes i node) × (r .low ≤ 256) × (r .high < 256)
+Inv-loop nodes splits node r₀ i₀ r i = (i ≤ splits) × (r ≡ runBelow nodes i node) × (r .low ≤ base .nodes) × (r .high < base .nodes)
 
 abbrev μ-loop : tie.MeasureT-loop
 μ-loop nodes splits node r₀ i₀ r i = splits - i

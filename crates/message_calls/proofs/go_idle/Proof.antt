@@ -13,7 +13,7 @@ returns c =
     let s = c .before .before .before in
     let a = s .before .before .before .before in
     let L = limitsOf (a .args .b) in
-    called L (fits-of (a .args .b) (omega (arith, a .good .0)) (omega (arith, a .good .0))) _ (idle L) _ _
+    called L (fits-of (a .args .b) (omega (arith, a .good .0))) _ (idle L) _ _
     (s .go-idle .ensures)
 
 pub go-idle-spec : {M : Type 1} → statement M

@@ -13,7 +13,7 @@ returns c =
     let s = c .before .before .before in
     let a = s .before .before .before .before in
     let L = limitsOf (a .args .b) in
-    called L (fits-of (a .args .b) (omega (arith, a .good .0)) (omega (arith, a .good .0))) _ (λ n. take L n (a .args .kind) (a .args .from) (a .args .phase)) _ _
+    called L (fits-of (a .args .b) (omega (arith, a .good .0))) _ (λ n. take L n (a .args .kind) (a .args .from) (a .args .phase)) _ _
     (s .take-from .ensures)
 
 pub take-from-spec : {M : Type 1} → statement M

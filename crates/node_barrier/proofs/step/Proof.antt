@@ -10,7 +10,7 @@ use mathlib.Core.List.{List}
 use Prim.Native.Nat.{ℕ, _≤_}
 use lib.Dec.{leb, ltb}
 use lib.ListN.{length}
-use Rattle.base.specs.Limits.{Limits, Fits, limitsOf}
+use Rattle.base.specs.Limits.{Limits, Fits, limitsOf, width}
 use Rattle.base.proofs.Laws.{both-true, choose-no}
 use Rattle.base.proofs.Limits.{fits-of}
 use Rattle.node.specs.Barrier.{isEmpty}
@@ -67,7 +67,7 @@ module _ (c : tie.After-struct-known) where
   n = unpacked ws
 
   fit : Fits L
-  fit = fits-of (start .args .b) (omega (arith, start .good .0)) (omega (arith, start .good .0))
+  fit = fits-of (start .args .b) (omega (arith, start .good .0))
 
   refused : (isReady L room ws ≡ false) ⊎ ((isReady L room ws ≡ true) × (not (valid L n) ≡ true))
       → On L ws buf room ws buf (Refused 13)
@@ -117,7 +117,7 @@ module _ (e : tie.Else1) where
       let t = nobody k .is-nobody .ensures ∙ q in
       record { clause = known .clause t; received = known .received t }
 
-  few : found .dims ≤ 8
+  few : found .dims ≤ width
   few = low-dims (L k) (fit k) (ws k) sums (found .dims) (found .issued .0) lent
 
   dims-are : found .dims ≡ dimsOf (ws k)

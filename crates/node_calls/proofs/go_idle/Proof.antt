@@ -20,7 +20,7 @@ use Rattle.node_calls.proofs.go_idle.Statement.{statement}
 use Rattle.node_calls.proofs.go_idle.Tie as tie
 
 fit : (c : tie.Start) → Fits (limitsOf (c .args .b))
-fit c = fits-of (c .args .b) (omega (arith, c .good .0)) (omega (arith, c .good .0))
+fit c = fits-of (c .args .b) (omega (arith, c .good .0))
 
 returns : tie.Need-returns
 returns c =

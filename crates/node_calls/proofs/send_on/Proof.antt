@@ -46,7 +46,7 @@ module _ (s : tie.Start) where
   to = s .args .to
 
   fit : Fits L
-  fit = fits-of (s .args .b) (omega (arith, s .good .0)) (omega (arith, s .good .0))
+  fit = fits-of (s .args .b) (omega (arith, s .good .0))
 
   passed : Passed L ws
   passed = s .pre .0

@@ -22,7 +22,7 @@ returns c =
     let s = c .before .before .before .before in
     let a = s .before .before .before .before .before .before in
     let L = limitsOf (a .args .b) in
-    let fit = fits-of (a .args .b) (omega (arith, a .good .0)) (omega (arith, a .good .0)) in
+    let fit = fits-of (a .args .b) (omega (arith, a .good .0)) in
     let bs = now (a .args .bytes) in
     fails L fit (λ n. frameIn L n bs) (now (a .args .state)) (length (now (a .args .sums)))
     (failed L _ false _ _ (s .scan-of .ensures .0) (c .if1 .taken)) (λ e. frame-refuses L _ bs (here e))

@@ -36,7 +36,7 @@ module _ (s : tie.Start) where
   bs = now (s .args .bytes)
 
   fit : Fits L
-  fit = fits-of (s .args .b) (omega (arith, s .good .0)) (omega (arith, s .good .0))
+  fit = fits-of (s .args .b) (omega (arith, s .good .0))
 
   passed : Passed L ws
   passed = s .pre .0

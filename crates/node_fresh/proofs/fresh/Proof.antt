@@ -48,7 +48,7 @@ module _ (c : tie.After-known-told) where
   narrow =
       let b = start .args .b in
       let g = start .good .0 in
-      few (limitsOf b) (fits-of b (omega (arith, g)) (omega (arith, g))) (nodes ∷ []) (known .0)
+      few (limitsOf b) (fits-of b (omega (arith, g))) (nodes ∷ []) (known .0)
 
 returns-2 : tie.Need-returns-2
 returns-2 c =

@@ -8,7 +8,7 @@ use mathlib.Core.Bool.{not}
 use mathlib.Core.List.{List}
 use Prim.Native.Nat.{ℕ, _+_, _≤_, _<_}
 use lib.ListN.{length}
-use Rattle.base.specs.Limits.{Limits, Fits, limitsOf, takenLimit, width}
+use Rattle.base.specs.Limits.{Limits, Fits, limitsOf, takenLimit, width, base}
 use Rattle.base.specs.Refusal.{Check}
 use Rattle.base.specs.declared.Kind.{Kind}
 use Rattle.base.proofs.Limits.{fits-of, taken-low}
@@ -57,7 +57,7 @@ module _ (s : tie.Start) where
   phase = s .args .phase
 
   fit : Fits L
-  fit = fits-of (s .args .b) (omega (arith, s .good .0)) (omega (arith, s .good .0))
+  fit = fits-of (s .args .b) (omega (arith, s .good .0))
 
   passed : Passed L ws
   passed = s .pre .0
@@ -156,7 +156,7 @@ module _ (c : tie.After-shell-of) where
   place-is = ap (λ p. atTaken p shell) (dims-is mine)
 
   -- the tally has room for one more
-  more : word (ws mine) place < 16711425
+  more : word (ws mine) place < takenLimit base
   more =
       rw place-is
       (omega (

@@ -32,7 +32,7 @@ module _ (s : tie.Start) where
   before = now (s .args .sums)
 
   fit : Fits L
-  fit = fits-of (s .args .b) (omega (arith, s .good .0)) (omega (arith, s .good .0))
+  fit = fits-of (s .args .b) (omega (arith, s .good .0))
 
 returns : tie.Need-returns
 returns c =

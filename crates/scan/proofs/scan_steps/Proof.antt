@@ -32,7 +32,7 @@ module _ (s : tie.Start) where
   here = s .args .spot
 
   fit : Fits L
-  fit = fits-of (s .args .b) (omega (arith, s .good .0)) (omega (arith, s .good .0))
+  fit = fits-of (s .args .b) (omega (arith, s .good .0))
 
   head : Passing L ws
   head = head-known L ws (s .pre .head)

@@ -57,7 +57,7 @@ confirmed-requires c κs =
       arith,
       second-fits (L s) (a .p) (a .k) (a .walked .issued .0) (a .agreed) (secondFrom (ss s) 0)
           (sym (tried s (c .clause .result) (c .clause .ensures)) ∙ q),
-      field-low (L s) (fits-of (a .b) (omega (arith, s .good .0)) (omega (arith, s .good .0))),
+      field-low (L s) (fits-of (a .b) (omega (arith, s .good .0))),
     )
 
 returns : tie.Need-returns

@@ -44,7 +44,7 @@ module _ (s : tie.Start Inv-loop μ-loop) where
   here = s .args .spot
 
   fit : Fits L
-  fit = fits-of (s .args .b) (omega (arith, s .good .0)) (omega (arith, s .good .0))
+  fit = fits-of (s .args .b) (omega (arith, s .good .0))
 
   dims-are : here .dims ≡ dims (unpacked ws)
   dims-are = ap (λ (x : Spot). x .dims) (s .pre .spot)

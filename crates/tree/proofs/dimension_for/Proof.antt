@@ -5,6 +5,7 @@ use native.Mathlib.Omega.{arith}
 use mathlib.Core.Path.{ap}
 use lib.Count.{leading-le}
 use Prim.Native.Nat.{suc, _≤_}
+use Rattle.base.specs.Limits.{lastOf}
 use Rattle.base.specs.Refusal.{found}
 use Rattle.tree.specs.Lookups.{dimensionLookup}
 use Rattle.tree.proofs.Dimension.{dimension-one, dimension-zeros}
@@ -19,20 +20,20 @@ returns-2 : tie.Need-returns-2
 unfolding dimensionLookup
 returns-2 c =
     let a = c .before .before .before .args in
-    simp (ne-eqb _ _ (c .before .if1 .left), lt-ltb (suc (a .b .last)) (a .nodes) (omega arith))
+    simp (ne-eqb _ _ (c .before .if1 .left), lt-ltb (suc (lastOf (a .b))) (a .nodes) (omega arith))
 
 returns-3 : tie.Need-returns-3
 unfolding dimensionLookup
 returns-3 c =
     let a = c .before .before .before .before .args in
-    simp (c .if3 .taken, le-ltb (suc (a .b .last)) 1 (omega arith), dimension-one)
+    simp (c .if3 .taken, le-ltb (suc (lastOf (a .b))) 1 (omega arith), dimension-one)
 
 returns-4 : tie.Need-returns-4
 unfolding dimensionLookup
 returns-4 c =
     let a = c .before .before .before .before .args in
-    let low : a .nodes ≤ suc (a .b .last) = omega arith in
-    simp (ne-eqb _ _ (c .before .before .if1 .left), le-ltb (suc (a .b .last)) (a .nodes) low)
+    let low : a .nodes ≤ suc (lastOf (a .b)) = omega arith in
+    simp (ne-eqb _ _ (c .before .before .if1 .left), le-ltb (suc (lastOf (a .b))) (a .nodes) low)
     (ap found (omega (
       arith,
       dimension-zeros 32 (a .nodes) (omega (arith, c .before .before .if1 .left, c .if3 .left)) (omega arith),

@@ -3,7 +3,7 @@ use borrow.Author.Needs.{needs}
 use native.Mathlib.Omega.{arith}
 use mathlib.Core.Path.{_≡_, sym, ap, _∙_}
 use Prim.Native.Nat.{_≤_}
-use Rattle.base.specs.Limits.{base}
+use Rattle.base.specs.Limits.{base, width}
 use Rattle.base.proofs.Laws.{clash}
 use Rattle.tree.specs.Tree.{dimension}
 use Rattle.tree.specs.Lookups.{foundAnswer}
@@ -21,12 +21,12 @@ returns c =
 
 -- a board that has a dimension is within the limits
 found : (c : tie.After-d)
-    → (c .d .given .0 .0 ≡ dimension (c .before .before .before .args .size)) × (c .d .given .0 .0 ≤ 8)
+    → (c .d .given .0 .0 ≡ dimension (c .before .before .before .args .size)) × (c .d .given .0 .0 ≤ width)
 found c =
     let d = c .before .before .dimension-of in
     let e = dimension-found base _ _ (sym (d .ensures) ∙ ap foundAnswer (c .d .given .1)) in
     let b = board-good base (c .before .before .before .args .size) (e .0) in
-    (e .1, omega (arith, e .1, smallest (c .before .before .before .args .size) 8 (omega arith)))
+    (e .1, omega (arith, e .1, smallest (c .before .before .before .args .size) width (omega arith)))
 
 stated-requires : tie.Need-stated-requires
 stated-requires c κs = found (c .before) .1

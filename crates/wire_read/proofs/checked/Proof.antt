@@ -50,7 +50,7 @@ known k =
 
 narrow : (k : tie.After-known-told) → dims k ≤ width
 narrow k =
-    let f = fits-of (k .before .before .before .before .before .args .b) (search needs) (search needs) in
+    let f = fits-of (k .before .before .before .before .before .args .b) (search needs) in
     few (limits k) f (nodes k) (dims k) (known k .0) (known k .1)
 
 returns-2 : tie.Need-returns-2
