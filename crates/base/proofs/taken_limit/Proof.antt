@@ -1,7 +1,7 @@
 use borrow.Author.Needs.{needs}
 use native.Mathlib.Omega.{arith}
-use mathlib.Core.Path.{_≡_}
-use Prim.Native.Nat.{suc, _-_}
+use mathlib.Core.Path.{_≡_, ap}
+use Prim.Native.Nat.{suc, _-_, _*_}
 use Rattle.base.specs.Limits.{base, lastOf}
 use Rattle.base.proofs.Limits.{mul-low}
 use Rattle.base.proofs.taken_limit.Statement.{statement}
@@ -16,8 +16,8 @@ mul-result c =
 returns : tie.Need-returns
 returns c =
     let b = c .before .before .args .b in
-    let e : suc (lastOf b) - 1 ≡ lastOf b = omega arith in
-    rw (c .before .last .ensures .0, e)
+    let e : c .before .last .result ≡ suc (lastOf b) - 1 = omega (arith, c .before .last .ensures .0) in
+    ap (λ n. n * b .sends) e
 
 pub taken-limit-spec : {M : Type 1} → statement M
 taken-limit-spec = tie.close (tie.spec (λ c. search needs) (λ c. search needs) mul-result returns)
