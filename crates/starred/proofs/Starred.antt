@@ -1,4 +1,4 @@
--- Every starred board holds of the definitions, by computation.
+-- Every row holds of the definitions, by computation.
 use mathlib.Core.Path.{refl}
 use Rattle.tree.specs.Tree.{smallestFrom, dimension, part, runBelow, runOf, placeIn, place, distanceBelow, distance}
 use Rattle.tree.specs.Lookups.{dimensionLookup, placeLookup, distanceLookup}
@@ -9,55 +9,4 @@ use Rattle.starred.specs.Rows.{All, table}
 pub starred : All table
 unfolding smallestFrom dimension part runBelow runOf placeIn place distanceBelow distance dimensionLookup placeLookup
     distanceLookup frameLength timing
-starred = (
-  refl,
-  (
-    refl,
-    (
-      refl,
-      (
-        refl,
-        (
-          refl,
-          (
-            refl,
-            (
-              refl,
-              (
-                refl,
-                (
-                  refl,
-                  (
-                    refl,
-                    (
-                      refl,
-                      (
-                        refl,
-                        (
-                          refl,
-                          (
-                            refl,
-                            (
-                              refl,
-                              (
-                                refl,
-                                (
-                                  refl,
-                                  tt,
-                                ),
-                              ),
-                            ),
-                          ),
-                        ),
-                      ),
-                    ),
-                  ),
-                ),
-              ),
-            ),
-          ),
-        ),
-      ),
-    ),
-  ),
-)
+starred = (refl, (refl, (refl, (refl, (refl, (refl, (refl, (refl, (refl, (refl, (refl, (refl, (refl, (refl, (refl, (refl, (refl, (refl, (refl, (refl, (refl, (refl, tt))))))))))))))))))))))

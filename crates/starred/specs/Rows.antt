@@ -1,8 +1,8 @@
--- The boards to try (rule T8), as the rows of one table.
+-- The boards to try (rule T8) and the limits of the largest build (rule N3), as the rows of one table.
 use mathlib.Core.Path.{_≡_}
 use mathlib.Core.List.{List, [], _∷_}
 use Prim.Native.Nat.{ℕ}
-use Rattle.base.specs.Limits.{base}
+use Rattle.base.specs.Limits.{base, fieldLimit, takenLimit, width}
 use Rattle.base.specs.Refusal.{Refusal, number, Answered, refused, found}
 use Rattle.tree.specs.Tree.{Place, alone, hermit, neighbour, messenger}
 use Rattle.tree.specs.Lookups.{dimensionLookup, placeLookup, distanceLookup}
@@ -13,6 +13,8 @@ use Rattle.frame.specs.declared.Timing.the-variants.{Early, Late}
 
 -- what is asked of the definitions, and what they must answer
 pub data Row : Type 0 where
+  -- a limit, and its number
+  limit : ℕ → ℕ → Row
   -- P
   dimension : ℕ → Answered ℕ → Row
   -- P, dimension, node
@@ -25,6 +27,7 @@ pub data Row : Type 0 where
   phases : ℕ → ℕ → Timing → Row
 
 abbrev pub Holds : Row → Type 0
+Holds (limit is x) = is ≡ x
 Holds (dimension P x) = dimensionLookup base P ≡ x
 Holds (place P k a x) = placeLookup base P k a ≡ x
 Holds (distance P a b x) = distanceLookup base P a b ≡ x
@@ -37,8 +40,14 @@ All (r ∷ rs) = Holds r × All rs
 
 abbrev pub table : List Row
 table =
+    -- nodes of a board, messages that a node sends and takes in a phase, a number in a frame, shells that a node holds
+    limit (base .nodes) 96
+    ∷ limit (base .sends) 65535
+    ∷ limit (takenLimit base) 6225825
+    ∷ limit (fieldLimit base) 6291360
+    ∷ limit width 7
     -- dimensions, and numbers of nodes that no board has
-    dimension 1 (found 0)
+    ∷ dimension 1 (found 0)
     ∷ dimension 2 (found 1)
     ∷ dimension 3 (found 2)
     ∷ dimension 5 (found 3)
