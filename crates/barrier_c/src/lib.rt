@@ -136,7 +136,11 @@ pub extern "C" fn ocb_frame_write(
 
 // Reads a frame. Refuses 1, 9, 10, 2.
 #[no_mangle]
-pub extern "C" fn ocb_frame_read(nodes: u32, bytes: &[u8], fields: &mut [u32; field_words::END]) -> u32
+pub extern "C" fn ocb_frame_read(
+    nodes: u32,
+    bytes: &[u8],
+    fields: &mut [u32; field_words::END],
+) -> u32
     ensures answer { λ r. ⌜ r ≡ lookupNumber (readFrame base nodes (now (bytes .entry))) ⌝ }
     ensures memory { λ r. ⌜ now (fields .exit) ≡ frameWords (readFrame base nodes (now (bytes .entry))) (now (fields .entry)) ⌝ }
 {
