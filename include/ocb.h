@@ -152,9 +152,10 @@ extern "C" {
 
 /*
  * Grows by 1 with each change that a caller can see. In 1 every state had 200 words, and no call was told how many; in 2
- * every work message was a job; in 3 a wait could name any clause that fails.
+ * every work message was a job; in 3 a wait could name any clause that fails; in 4 the largest board had more nodes, and a
+ * frame's fields had more words.
  */
-#define OCB_VERSION 4
+#define OCB_VERSION 5
 
 /* Nodes of the largest board, bytes of its longest frame. */
 #define OCB_NODES 96
