@@ -11,9 +11,9 @@ fn dimensions_of_boards_to_try() {
     assert_eq!(dimension(NODES), Ok(SHELLS as u32));
 }
 
-/// Up to 128 nodes p would be 7 too, and from 129 up more; there are no such boards.
+/// Rule T2 alone would give 97 to 128 nodes a p of 7, and 129 to 256 one of 8.
 #[test]
-fn boards_above_the_largest() {
+fn boards_that_are_refused() {
     for board in [0, 97, 98, 127, 128, 129, 255, 256, 257, 65_536, u32::MAX] {
         assert_eq!(dimension(board), Err(1));
         assert_eq!(place(board, 0, 0), Err(1));
