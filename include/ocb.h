@@ -1,7 +1,7 @@
 /*
  * The optimistic cycle barrier: tells a node of a board when a cycle is over.
  *
- * Up to 256 nodes work in cycles. In a cycle nodes send each other work messages: a job is work for the node that takes
+ * Up to 96 nodes work in cycles. In a cycle nodes send each other work messages: a job is work for the node that takes
  * it, a note only tells it something. The cycle is over when every node has run out of work and no job or note is on
  * its way; then each node leaves it. A node counts what it sends and takes, passes its counts on in small frames while
  * it has nothing to do, and comes back to work whenever a job comes in. A note is counted like a job, and wakes nobody.
@@ -152,18 +152,22 @@ extern "C" {
 
 /*
  * Grows by 1 with each change that a caller can see. In 1 every state had 200 words, and no call was told how many; in 2
- * every work message was a job; in 3 a wait could name any clause that fails.
+ * every work message was a job; in 3 a wait could name any clause that fails; in 4 the largest board had more nodes, and a
+ * frame's fields had more words.
  */
-#define OCB_VERSION 4
+#define OCB_VERSION 5
 
 /* Nodes of the largest board, bytes of its longest frame. */
-#define OCB_NODES 256
-#define OCB_FRAME_BYTES 76
+#define OCB_NODES 96
+#define OCB_FRAME_BYTES 68
 
-/* The dimension of a board: the smallest p with nodes <= 2^p. Of a constant it is a constant. */
+/* The dimension of a board of up to OCB_NODES: the smallest p with nodes <= 2^p. Of a constant it is a constant. */
 #define OCB_DIMENSION(nodes) \
     ((nodes) <= 1 ? 0 : (nodes) <= 2 ? 1 : (nodes) <= 4 ? 2 : (nodes) <= 8 ? 3 : (nodes) <= 16 ? 4 : \
-     (nodes) <= 32 ? 5 : (nodes) <= 64 ? 6 : (nodes) <= 128 ? 7 : 8)
+     (nodes) <= 32 ? 5 : (nodes) <= 64 ? 6 : 7)
+
+/* Shells that a frame's fields have words for: those of the largest board. */
+#define OCB_SHELLS OCB_DIMENSION(OCB_NODES)
 
 /* Words of a node's state on a board of so many nodes: a state has the numbers that its board has, and no others. */
 #define OCB_STATE_WORDS(nodes) (8 + OCB_DIMENSION(nodes) * (OCB_DIMENSION(nodes) + 9))
@@ -186,7 +190,7 @@ extern "C" {
 /* Words that a barrier call, a place and a frame's fields take. */
 #define OCB_DETAIL_WORDS 5
 #define OCB_PLACE_WORDS 3
-#define OCB_FIELD_WORDS 23
+#define OCB_FIELD_WORDS (7 + 2 * OCB_SHELLS)
 
 /* Words of a state that a caller may read; only the functions write them. */
 enum {
@@ -217,7 +221,7 @@ enum {
     OCB_SELF = 3,       /* self: the other end is the node itself */
     OCB_RESTING = 4,    /* resting: send while idle; keep it for the next cycle */
     OCB_SENT_OUT = 5,   /* sent out: 65,535 sent in this cycle; keep it for the next */
-    OCB_TAKEN_FULL = 6, /* taken full: 16,711,425 taken in this cycle */
+    OCB_TAKEN_FULL = 6, /* taken full: 6,225,825 taken in this cycle */
     OCB_EARLY = 7,      /* early: of the next cycle; leave it on its link until OCB_LEFT, then hand it in again */
     OCB_FOREIGN = 8,    /* foreign: of another cycle; for a job or a note also of the one before */
     OCB_LENGTH = 9,     /* length: under 4 bytes, or not the frame's stated length */
@@ -328,8 +332,8 @@ uint32_t ocb_distance(uint32_t nodes, uint32_t a, uint32_t b, uint32_t found[1])
 /*
  * ---- Frames, for tools and tests: a kernel passes on what ocb_barrier writes and hands in what comes.
  *
- * Fields by word: pass, phase, dimension, sender, total sent, total taken, T, then sent by shell (8), taken by shell
- * (8). What a frame's pass, dimension or board does not have is 0.
+ * Fields by word: pass, phase, dimension, sender, total sent, total taken, T, then sent by shell (OCB_SHELLS), taken by
+ * shell (OCB_SHELLS). What a frame's pass, dimension or board does not have is 0.
  */
 
 /*

@@ -132,7 +132,7 @@ extern "C" {
 #define OCB_RECORDING_BYTES(sections, events) (2 + 4 * (sections) + OCB_EVENT_BYTES * (events))
 
 /* A replay's places for items: bytes of one, and how many are used at most. */
-#define OCB_PLACE_BYTES 76
+#define OCB_PLACE_BYTES 68
 #define OCB_PLACES 512
 
 /* Words that a recording's head takes. */

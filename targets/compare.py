@@ -2,7 +2,7 @@
 
 python3 targets/compare.py [long] [TARGET...]    all of table.py's targets by default
 
-Boards of 1, 2, 5, 16, 96 and 256 nodes over whole cycles past phase 255, with jobs, notes and slow links, and between the
+Boards of 1, 2, 5, 16, 61 and 96 nodes over whole cycles past phase 255, with jobs, notes and slow links, and between the
 calls of a board others, to every exported function, on damaged states and frames, with words too few or too many (play.c,
 others.c). The calls on a state are also held to the versions by hand of tests/bench. Each function must have been refused
 for every reason that the header gives, and for no other. Before that the targets' memory functions are

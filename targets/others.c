@@ -31,8 +31,8 @@ static uint32_t below(uint32_t bound)
 /* A number next to a limit, or any. */
 static uint32_t odd_number(void)
 {
-    static const uint32_t limits[] = {0,   1,   2,          3,           8,           255,
-                                      256, 257, SENT_LIMIT, TAKEN_LIMIT, FIELD_LIMIT, 0x80000000u};
+    static const uint32_t limits[] = {0,   1,   2,          3,           OCB_SHELLS,  OCB_NODES,  128,
+                                      255, 256, SENT_LIMIT, TAKEN_LIMIT, FIELD_LIMIT, 0x80000000u};
     uint32_t at = below(COUNT(limits) + 1);
     uint32_t high = below(1u << 16), low = below(1u << 16);
     if (at == COUNT(limits)) return high << 16 | low;
@@ -122,7 +122,7 @@ static void choose_numbers(struct call *call, const uint32_t *state)
     call->nodes = state[OCB_AT_NODES];
     call->node = state[OCB_AT_NUMBER];
     call->other = argument(call->nodes);
-    call->dimension = argument(OCB_DIMENSION(OCB_NODES));
+    call->dimension = argument(OCB_SHELLS);
     call->phase = (uint8_t)(state[OCB_AT_PHASE] + below(4) - 1);
     if (below(4) == 0) call->node = argument(call->nodes);
     if (below(4) == 0) call->nodes = argument(OCB_NODES);

@@ -2,6 +2,7 @@
 
 FOLDER has the other revision (git worktree add FOLDER REVISION). Its library is built there by its own commands, both are
 played on the emulated Cortex-M0 with this revision's schedule, and tables of instructions are printed: before / after = ratio.
+Calls beside the schedule are not made: they are next to limits, and the other revision may have others.
 """
 import pathlib
 import sys
@@ -11,6 +12,8 @@ import cortex_m0
 import sheet
 import build
 import tools
+
+ALONE = ["-DSCHEDULE_ALONE"]
 
 
 def archive_of(folder, level):
@@ -38,8 +41,8 @@ def main(words):
     tools.run([sys.executable, folder / "targets" / "build.py", cortex_m0.NAME], cwd=folder)
     by_hand = cortex_m0.prepare([cortex_m0.NAME])
     for level in build.LEVELS:
-        before = cortex_m0.measure(level, by_hand[level], archive_of(folder, level))
-        print_level(level, before, cortex_m0.measure(level, by_hand[level]))
+        before = cortex_m0.measure(level, by_hand[level], archive_of(folder, level), ALONE)
+        print_level(level, before, cortex_m0.measure(level, by_hand[level], words=ALONE))
 
 
 if __name__ == "__main__":

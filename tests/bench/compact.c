@@ -7,7 +7,6 @@
 
 #define HEAD_WORDS (OCB_AT_TOTAL + 1)
 #define SECOND_NUMBERS 2 /* of a pass 2 frame: T, total sent */
-#define MOST_SHELLS OCB_DIMENSION(OCB_NODES)
 
 /* ---- The words: the head, sent and taken by shell, and for each dimension a frame of pass 1 and one of pass 2 */
 
@@ -39,8 +38,8 @@ struct survey {
     uint32_t p;
     uint32_t total_sent; /* the node's own */
     uint32_t total_taken;
-    uint32_t second;                    /* the own sum of pass 2, for the position */
-    uint32_t sums[2 * MOST_SHELLS + 2]; /* those of pass 1 for the position; in pass 2 with every frame added */
+    uint32_t second;                   /* the own sum of pass 2, for the position */
+    uint32_t sums[2 * OCB_SHELLS + 2]; /* those of pass 1 for the position; in pass 2 with every frame added */
 };
 
 /* Adds numbers to sums; false where a sum comes above the limit. */

@@ -50,12 +50,12 @@ def compile_by_hand(level):
     return made
 
 
-def measure(level, by_hand, archive=None):
-    """What measure.c prints of an archive, this tree's by default: {(what, board, side, function): [calls, average, most,
-    deepest]}."""
+def measure(level, by_hand, archive=None, words=()):
+    """What measure.c, compiled with these words, prints of an archive, this tree's by default: {(what, board, side, function):
+    [calls, average, most, deepest]}."""
     bench = ["measure.c", "timed.S", "board.c", "sides.c"]
     files = [*(emulate.BENCH / name for name in bench), tools.HERE / "others.c", *by_hand.values(), archive or library(level)]
-    program = emulate.link(NAME, OUT / f"measure.{level}.elf", files)
+    program = emulate.link(NAME, OUT / f"measure.{level}.elf", files, words=words)
     figures = {}
     for line in emulate.run(NAME, program, EXACT).splitlines():
         what, board, side, function, *numbers = line.split()
@@ -125,7 +125,7 @@ def limits():
 def print_node():
     """What a node needs of RAM while it makes a barrier call."""
     header = limits()
-    boards = (5, 96, header["OCB_NODES"])
+    boards = (5, header["OCB_NODES"])
     rows = []
     for level in build.LEVELS:
         call = max(bounds(level).values())

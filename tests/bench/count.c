@@ -104,7 +104,7 @@ int main(int count, char **words)
 {
     uint32_t nodes = count == 2 ? (uint32_t)strtoul(words[1], NULL, 10) : 0;
     if (nodes < 2 || nodes > OCB_NODES) {
-        fputs("count P, with P from 2 to 256\n", stderr);
+        fprintf(stderr, "count P, with P from 2 to %d\n", OCB_NODES);
         return 2;
     }
     play_measured_board(nodes);

@@ -83,7 +83,7 @@ static void print_state(uint32_t nodes)
 
 int main(void)
 {
-    const uint32_t boards[] = {2, 5, 16, 96, OCB_NODES};
+    const uint32_t boards[] = {2, 5, 16, OCB_NODES};
     const size_t count = sizeof boards / sizeof *boards;
     for (size_t i = 0; i < count; i++) play_measured_board(boards[i]);
     for (size_t i = 0; i < count; i++) print_state(boards[i]);

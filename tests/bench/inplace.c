@@ -171,7 +171,7 @@ static bool state_stands(const struct inplace_node *n, struct survey *survey)
 static void make_fresh(struct inplace_node *n, uint32_t nodes, uint32_t number, uint8_t phase)
 {
     memset(n, 0, sizeof *n);
-    n->nodes = (uint16_t)nodes;
+    n->nodes = (uint8_t)nodes;
     n->number = (uint8_t)number;
     n->phase = phase;
     n->busy = 1;

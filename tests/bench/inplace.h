@@ -6,10 +6,9 @@
 #ifndef INPLACE_H
 #define INPLACE_H
 
-#include <stddef.h>
-#include <stdint.h>
+#include "ocb.h"
 
-#define INPLACE_SHELLS 8
+#define INPLACE_SHELLS OCB_SHELLS
 #define INPLACE_DETAILS 5
 
 /* The latest stored pass 1 frame of a dimension; all 0 where none is stored. */
@@ -29,7 +28,7 @@ struct inplace_second {
 };
 
 struct inplace_node {
-    uint16_t nodes;
+    uint8_t nodes;
     uint8_t number;
     uint8_t phase;
     uint8_t busy;

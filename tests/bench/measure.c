@@ -1,7 +1,7 @@
 /*
  * The program that measures calls on an emulated Cortex-M0: instructions of each call of the schedule, and how deep each
  * call, also the other ones of targets/others.c, writes into its stack. A fifth argument is the caller's stack, not the
- * call's.
+ * call's. -DSCHEDULE_ALONE makes no other calls.
  *
  * A call runs on a stack filled with a pattern, and SysTick tells its instructions: the emulator is told that one takes
  * 1,024 ns (-icount shift=10), and SysTick ticks at 16 MHz, so an instruction is 16.384 ticks and the count is exact.
@@ -99,9 +99,14 @@ void perform(enum side side, struct call *call)
 void saw(const struct states *before, const struct call *call, uint32_t answer)
 {
     (void)answer;
+#ifdef SCHEDULE_ALONE
+    (void)before;
+    (void)call;
+#else
     among_others = true;
     other_call(before->words, call);
     among_others = false;
+#endif
 }
 
 /* A line: what, the board, side and function; then calls, instructions on average and at most, bytes of stack. */
@@ -146,7 +151,7 @@ static void begin(void)
 
 int main(void)
 {
-    const uint32_t boards[] = {2, 5, 16, 96, OCB_NODES};
+    const uint32_t boards[] = {2, 5, 16, OCB_NODES};
     begin();
     for (uint32_t i = 0; i < sizeof boards / sizeof *boards; i++) measure_board(boards[i]);
     for (enum side side = 0; side < SIDES; side++)

@@ -6,10 +6,10 @@
 
 #include <stdbool.h>
 
-/* The limits that the header names, and what stands for no clause that fails. */
+/* The limits, those of the largest board, and what stands for no clause that fails. */
 #define SENT_LIMIT 65535u
-#define TAKEN_LIMIT 16711425u
-#define FIELD_LIMIT 16776960u
+#define TAKEN_LIMIT ((OCB_NODES - 1) * SENT_LIMIT)
+#define FIELD_LIMIT (OCB_NODES * SENT_LIMIT)
 #define NO_CLAUSE 7u
 
 /* ---- The tree */
@@ -105,6 +105,8 @@ static inline size_t frame_length(uint32_t pass, uint32_t k, uint32_t p)
 {
     return pass == 1 ? 12 + 8 * (size_t)(p - k) : 12;
 }
+
+_Static_assert(OCB_FRAME_BYTES == 12 + 8 * OCB_SHELLS, "the header's length is not that of the longest frame");
 
 /* Why a node of a board refuses a frame, its phase apart; OCB_DONE where it does not. */
 static inline uint32_t frame_refusal(uint32_t nodes, uint32_t number, uint32_t p, const uint8_t *bytes, size_t count)

@@ -8,7 +8,7 @@ sys.dont_write_bytecode = True
 import aims
 import sheet
 
-BOARDS = [2, 5, 16, 96, 256]
+BOARDS = [2, 5, 16, 96]
 CALLERS = [f"{side}_call" for side in sheet.SIDES]
 WAYS = ["O2", "O3", "words"]
 LIBRARY = sheet.ROOT / "target" / "staticlib" / "libbarrier_c.a"
@@ -194,7 +194,7 @@ def main():
     print_averages(costs["O2"])
     print_most(costs["O2"])
     print_ratios(costs)
-    print_cases(256, costs["O2"][256][0])
+    print_cases(BOARDS[-1], costs["O2"][BOARDS[-1]][0])
     print_shares(costs["O2"])
     print_depths(sheet.OUT / "depths")
     print_code()

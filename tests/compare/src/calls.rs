@@ -5,7 +5,7 @@ use crate::library::{self, at, c_array, Words};
 use crate::report::{held, must, same, Difference, Report};
 use model::node::{self, Answer, Barrier, Node, Work};
 use model::random::Random;
-use model::LONGEST;
+use model::{FIELD_LIMIT, LONGEST, NODES, SENT_LIMIT, TAKEN_LIMIT};
 
 /// Bytes of a pattern around a lent buffer.
 const GUARD: usize = 16;
@@ -175,7 +175,7 @@ fn waited(report: &mut Report, state: &Node, named: u32, again: impl FnOnce() ->
 /// Every call once on a copy of a state, with arguments good and bad.
 pub fn every(report: &mut Report, random: &mut Random, words: &Words, frames: &[Vec<u8>]) {
     report.count("states handed");
-    let nodes = words.first().map_or(1, |&nodes| nodes.clamp(1, 256));
+    let nodes = words.first().map_or(1, |&nodes| nodes.clamp(1, NODES));
     let other = match random.below(6) {
         0 => words.get(at::NUMBER).copied().unwrap_or(0),
         1 => nodes,
@@ -188,8 +188,8 @@ pub fn every(report: &mut Report, random: &mut Random, words: &Words, frames: &[
         must(take(report, &mut words.clone(), work, other, phase));
     }
     must(idle(report, &mut words.clone()));
-    must(barrier(report, &mut words.clone(), random.below(80) as usize));
-    must(barrier(report, &mut words.clone(), 80));
+    must(barrier(report, &mut words.clone(), random.below(LONGEST as u32 + 4) as usize));
+    must(barrier(report, &mut words.clone(), LONGEST + 4));
     for frame in frames {
         must(frame_in(report, &mut words.clone(), frame));
         must(frame_in(report, &mut words.clone(), &spoilt(random, frame)));
@@ -208,6 +208,24 @@ fn spoilt(random: &mut Random, frame: &[u8]) -> Vec<u8> {
     }
     frame
 }
+
+/// Numbers next to a limit of some word of a state, and numbers of nodes that no board has.
+const EDGES: [u32; 14] = [
+    NODES - 1,
+    NODES,
+    NODES + 1,
+    128,
+    129,
+    255,
+    256,
+    257,
+    SENT_LIMIT,
+    SENT_LIMIT + 1,
+    TAKEN_LIMIT,
+    TAKEN_LIMIT + 1,
+    FIELD_LIMIT,
+    FIELD_LIMIT + 1,
+];
 
 /// A state with one word changed, or with other words after it, or with fewer words.
 pub fn changed(random: &mut Random, words: &Words) -> Words {
@@ -232,7 +250,7 @@ fn change_one(random: &mut Random, words: &mut Words) {
         1 => 1,
         2 => word.wrapping_add(1),
         3 => word.wrapping_sub(1),
-        4 => [255, 256, 257, 65_535, 65_536, 16_711_425, 16_776_960, 16_776_961][random.below(8) as usize],
+        4 => EDGES[random.below(EDGES.len() as u32) as usize],
         5 => random.below(9),
         _ => random.draw() as u32,
     };
@@ -244,7 +262,7 @@ pub fn noise(random: &mut Random) -> Words {
     let any = random.below(4) == 0;
     let nodes = if any { random.draw() as u32 } else { 1 + random.below(6) };
     let count = match random.below(8) {
-        0 => random.below(150) as usize,
+        0 => random.below(library::words_for(NODES) as u32 + 6) as usize,
         _ => library::words_for(nodes),
     };
     let marks = library::marks(nodes);
@@ -281,9 +299,9 @@ pub fn fresh(report: &mut Report) {
             fresh_in(report, board, number, library::words_for(board));
         }
     }
-    for board in [1, 2, 3, 5, 16, 17, 96, 256, 257] {
+    for board in [1, 2, 3, 5, 16, 17, 33, 64, 65, 95, 96, 97, 128, 129, 256] {
         for number in [0, board - 1, board] {
-            for count in 0..=library::words_for(board) + 1 {
+            for count in 0..=library::words_for(board.min(NODES)) + 1 {
                 fresh_in(report, board, number, count);
             }
         }
@@ -304,6 +322,6 @@ fn fresh_in(report: &mut Report, board: u32, number: u32, count: usize) {
     let again = || format!("uint32_t state[{count} + 1]; ocb_fresh(state, {count}, {board}u, {number}u);");
     same("fresh", &(answer, words), &model, again);
     report.answer("fresh", answer);
-    let bad = board == 0 || board > 256;
+    let bad = board == 0 || board > NODES;
     report.order("fresh", &[("1", 1, bad), ("2", 2, number >= board), ("13", 13, few)], answer);
 }

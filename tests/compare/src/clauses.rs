@@ -289,7 +289,7 @@ fn search(report: &mut Report, random: &mut Random, fresh: Node, pass: u8, k: us
 /// All nodes of small boards, and of the others some and those in the middle.
 fn nodes() -> impl Iterator<Item = Node> {
     let some = |board: u32| (0..board).filter(move |node| board <= 16 || node % 7 == 0 || node.abs_diff(board / 2) < 2);
-    let boards = [2, 3, 5, 8, 16, 96, 129, 256].into_iter();
+    let boards = [2, 3, 5, 8, 16, 31, 64, 65, 95, 96].into_iter();
     boards.flat_map(move |board| some(board).map(move |number| node::fresh(board, number).expect("a node")))
 }
 

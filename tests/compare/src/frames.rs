@@ -4,7 +4,7 @@ use crate::library::{self, c_array};
 use crate::report::{same, Report};
 use model::frame::{self, Fields};
 use model::random::Random;
-use model::tree;
+use model::{tree, FIELD_WORDS, LONGEST, NODES, SHELLS};
 
 const LIMIT: u32 = model::FIELD_LIMIT;
 
@@ -50,7 +50,7 @@ fn spoilt(random: &mut Random, mut fields: Fields) -> Fields {
         2 => 1,
         _ => LIMIT + 1 + random.below(9),
     };
-    let shell = random.below(8) as usize;
+    let shell = random.below(SHELLS as u32) as usize;
     match random.below(9) {
         0 => fields.pass = random.below(5),
         1 => fields.dim = random.below(12),
@@ -88,12 +88,18 @@ pub fn write(report: &mut Report, nodes: u32, fields: &Fields, room: usize) -> (
     (answer, ours[lent][..written].to_vec())
 }
 
+/// Lent words for fields, and two of a pattern behind them.
+fn guarded(fields: [u32; FIELD_WORDS]) -> [u32; FIELD_WORDS + 2] {
+    std::array::from_fn(|at| fields.get(at).copied().unwrap_or(0xa5a5_a5a5))
+}
+
 pub fn read(report: &mut Report, nodes: u32, bytes: &[u8]) -> u32 {
-    let mut ours = [0xa5a5_a5a5; 23];
-    let answer = library::frame_read(nodes, bytes, &mut ours);
+    let lent = guarded([0xa5a5_a5a5; FIELD_WORDS]);
+    let mut ours = lent;
+    let answer = library::frame_read(nodes, bytes, ours.first_chunk_mut().expect("so many words"));
     let model = match frame::read(nodes, bytes) {
-        Ok(fields) => (0, library::field_words(&fields)),
-        Err(number) => (u32::from(number), [0xa5a5_a5a5; 23]),
+        Ok(fields) => (0, guarded(library::field_words(&fields))),
+        Err(number) => (u32::from(number), lent),
     };
     same("read frame", &(answer, ours), &model, || {
         let lent = format!("uint8_t bytes[] = {}; uint32_t fields[OCB_FIELD_WORDS];", c_array(bytes));
@@ -122,15 +128,15 @@ fn read_all(report: &mut Report, random: &mut Random, nodes: u32, bytes: &[u8]) 
 /// Words that are no byte where a frame has one: a phase gives 10 after 1 and before all else, the others what any other
 /// value that the board does not have gives.
 fn no_bytes(report: &mut Report) {
-    for nodes in [0, 1, 2, 256, 257] {
+    for nodes in [0, 1, 2, 95, 96, 97, 128, 129, 256] {
         for (at, word) in (0..4).flat_map(|at| [256, 257, 65_537, u32::MAX].map(|word| (at, word))) {
-            for room in [0, 76] {
+            for room in [0, LONGEST] {
                 let mut words = library::field_words(&Fields { pass: 1, sender: 1, ..Fields::default() });
                 words[at] = word;
-                let (mut bytes, mut length) = (library::pattern::<76>(), [0xa5a5_a5a5; 1]);
+                let (mut bytes, mut length) = (library::pattern::<LONGEST>(), [0xa5a5_a5a5; 1]);
                 let answer = library::frame_write(nodes, &words, &mut bytes[..room], &mut length);
                 let again = || format!("ocb_frame_write({nodes}u, {}, buffer, {room}, &length);", c_array(&words));
-                let mut theirs = library::pattern::<76>();
+                let mut theirs = library::pattern::<LONGEST>();
                 let refused = frame::write_words(nodes, &words, &mut theirs[..room]).expect_err("no frame");
                 let stays = (u32::from(refused), theirs, [0xa5a5_a5a5; 1]);
                 same("frame with a word that is no byte", &(answer, bytes, length), &stays, again);
@@ -143,16 +149,16 @@ fn no_bytes(report: &mut Report) {
 pub fn compare(report: &mut Report, random: &mut Random, rounds: u64) {
     no_bytes(report);
     for round in 0..rounds {
-        let nodes = if round % 3 == 0 { 2 + random.below(15) } else { 2 + random.below(255) };
+        let nodes = if round % 3 == 0 { 2 + random.below(15) } else { 2 + random.below(NODES - 1) };
         let fields = good(random, nodes);
         let room = random.below(90) as usize;
         write(report, nodes, &fields, room);
-        let (_, bytes) = write(report, nodes, &fields, 76 + room);
+        let (_, bytes) = write(report, nodes, &fields, LONGEST + room);
         read_all(report, random, nodes, &bytes);
         let fields = spoilt(random, fields);
-        write(report, nodes, &fields, 76);
+        write(report, nodes, &fields, LONGEST);
         let other = random.below(300);
-        write(report, other, &fields, 76);
+        write(report, other, &fields, LONGEST);
         read(report, other, &bytes);
         let noise: Vec<u8> = (0..random.below(90)).map(|_| random.below(9) as u8).collect();
         read(report, nodes, &noise);

@@ -2,7 +2,7 @@
 
 use model::frame::Fields;
 use model::node::{First, Node, Second, Work};
-use model::tree;
+use model::{tree, FIELD_WORDS, SHELLS};
 
 /// A state as the library holds it: as many words as its board needs, or more, or fewer.
 pub type Words = Vec<u32>;
@@ -85,11 +85,11 @@ pub fn barrier(state: &mut [u32], buffer: &mut [u8], details: &mut [u32; 5]) -> 
     unsafe { ocb_barrier(state.as_mut_ptr(), words, buffer.as_mut_ptr(), count, details.as_mut_ptr()) }
 }
 
-pub fn frame_write(nodes: u32, fields: &[u32; 23], buffer: &mut [u8], length: &mut [u32; 1]) -> u32 {
+pub fn frame_write(nodes: u32, fields: &[u32; FIELD_WORDS], buffer: &mut [u8], length: &mut [u32; 1]) -> u32 {
     unsafe { ocb_frame_write(nodes, fields.as_ptr(), buffer.as_mut_ptr(), buffer.len(), length.as_mut_ptr()) }
 }
 
-pub fn frame_read(nodes: u32, bytes: &[u8], fields: &mut [u32; 23]) -> u32 {
+pub fn frame_read(nodes: u32, bytes: &[u8], fields: &mut [u32; FIELD_WORDS]) -> u32 {
     unsafe { ocb_frame_read(nodes, bytes.as_ptr(), bytes.len(), fields.as_mut_ptr()) }
 }
 
@@ -211,7 +211,7 @@ pub fn words_of(node: &Node) -> Words {
 }
 
 /// The words from a place on as the shells from k on; the others are 0.
-fn shells(words: &[u32], place: usize, k: usize, p: usize) -> [u32; 8] {
+fn shells(words: &[u32], place: usize, k: usize, p: usize) -> [u32; SHELLS] {
     std::array::from_fn(|m| if (k..p).contains(&m) { words[place + m - k] } else { 0 })
 }
 
@@ -260,7 +260,7 @@ pub fn node_of(words: &[u32]) -> Option<Node> {
 }
 
 /// The words of a frame's fields.
-pub fn field_words(fields: &Fields) -> [u32; 23] {
+pub fn field_words(fields: &Fields) -> [u32; FIELD_WORDS] {
     let mut words = vec![
         fields.pass,
         u32::from(fields.phase),
@@ -272,5 +272,5 @@ pub fn field_words(fields: &Fields) -> [u32; 23] {
     ];
     words.extend(fields.sent);
     words.extend(fields.taken);
-    words.try_into().expect("23 words")
+    words.try_into().expect("so many words")
 }

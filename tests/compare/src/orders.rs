@@ -5,10 +5,14 @@ use crate::{calls, frames, library};
 use library::{at, Words};
 use model::frame::{stated_length, Fields};
 use model::node::Work;
-use model::{tree, FIELD_LIMIT, SENT_LIMIT, SHELLS, TAKEN_LIMIT};
+use model::{tree, FIELD_LIMIT, LONGEST, NODES, SENT_LIMIT, TAKEN_LIMIT};
 
-/// Boards and nodes: a neighbour, a messenger and a hermit, one alone in dimension 0, and large boards.
-pub const PLACES: [(u32, u32); 7] = [(2, 0), (3, 2), (5, 2), (5, 3), (6, 2), (96, 47), (256, 77)];
+/// Boards and nodes: a neighbour, a messenger and a hermit, one alone in dimension 0, and boards of every dimension.
+pub const PLACES: [(u32, u32); 10] =
+    [(2, 0), (3, 2), (5, 2), (5, 3), (6, 2), (16, 9), (31, 15), (64, 27), (95, 77), (96, 47)];
+
+/// Numbers of nodes that no board has: none, and more than there may be, with the dimension of the largest board too.
+const NO_BOARDS: [u32; 6] = [0, NODES + 1, 128, 129, 256, u32::MAX];
 
 /// Differences of phases with something to tell: now, early, foreign, late.
 const DIFFERENCES: [u8; 6] = [0, 1, 2, 128, 254, 255];
@@ -199,7 +203,7 @@ fn reader(report: &mut Report, board: u32, number: u32) {
         order.extend(parts.reading(board, p));
         let answer = frames::read(report, board, &parts.bytes(p));
         report.order("frame reader", &order, answer);
-        for none in [0, 257, u32::MAX] {
+        for none in NO_BOARDS {
             order[0].2 = true;
             let answer = frames::read(report, none, &parts.bytes(p));
             report.order("frame reader", &order, answer);
@@ -210,7 +214,7 @@ fn reader(report: &mut Report, board: u32, number: u32) {
 fn writer(report: &mut Report, board: u32, number: u32) {
     let p = tree::dimension(board).expect("a board");
     for (pass, dim) in [(0, 0), (1, 0), (1, p - 1), (1, p), (2, 0), (2, p - 1), (2, 255), (3, 0)] {
-        for sender in [number, board - 1, board.min(255), 255] {
+        for sender in [number, board - 1, board, 255] {
             for total_sent in [0, FIELD_LIMIT, FIELD_LIMIT + 1, u32::MAX] {
                 let fields = Fields { pass, dim, sender, total_sent, ..Fields::default() };
                 let stands = (pass == 1 || pass == 2) && dim < p;
@@ -225,9 +229,11 @@ fn writer(report: &mut Report, board: u32, number: u32) {
                     ];
                     let (answer, _) = frames::write(report, board, &fields, room);
                     report.order("frame writer", &order, answer);
-                    order[0].2 = true;
-                    let (answer, _) = frames::write(report, 257, &fields, room);
-                    report.order("frame writer", &order, answer);
+                    for none in NO_BOARDS {
+                        order[0].2 = true;
+                        let (answer, _) = frames::write(report, none, &fields, room);
+                        report.order("frame writer", &order, answer);
+                    }
                 }
             }
         }
@@ -249,13 +255,13 @@ fn phases(report: &mut Report) {
 
 /// A valid state with each of its numbers, one after the other, set to each boundary.
 pub fn boundaries(report: &mut Report, state: &Words) {
-    let limits = [2, 255, 256, SENT_LIMIT, TAKEN_LIMIT, FIELD_LIMIT, u32::MAX - 1];
+    let limits = [2, NODES, 128, 255, 256, SENT_LIMIT, TAKEN_LIMIT, FIELD_LIMIT, u32::MAX - 1];
     for place in 0..state.len() {
         for number in limits.iter().flat_map(|&limit| [limit - 1, limit, limit + 1]).chain([0]) {
             let mut changed = state.clone();
             changed[place] = number;
             must(calls::idle(report, &mut changed.clone()));
-            must(calls::barrier(report, &mut changed, SHELLS * 10));
+            must(calls::barrier(report, &mut changed, LONGEST + 4));
             report.count("states with a number at a boundary");
         }
     }

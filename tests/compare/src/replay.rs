@@ -3,6 +3,7 @@
 use crate::report::{must, Report};
 use crate::runs::Pair;
 use crate::script::event_of;
+use model::NODES;
 use std::io::Read;
 
 /// The number in a line of one word and a number.
@@ -20,8 +21,8 @@ pub fn replay() {
     let mut text = String::new();
     std::io::stdin().read_to_string(&mut text).expect("a script");
     let lines: Vec<&str> = text.lines().collect();
-    let size = number_in(lines.first(), "nodes").filter(|size| (1..=256).contains(size));
-    let size = size.unwrap_or_else(|| refuse("the first line is not 'nodes P' with P from 1 to 256"));
+    let size = number_in(lines.first(), "nodes").filter(|size| (1..=u64::from(NODES)).contains(size));
+    let size = size.unwrap_or_else(|| refuse(&format!("the first line is not 'nodes P' with P from 1 to {NODES}")));
     let mut pair = Pair::new(size as u32);
     let mut report = Report::default();
     println!("node answer phase pass dim flag busy");

@@ -208,7 +208,7 @@ pub fn compare(report: &mut Report, random: &mut Random, scale: u64) {
         run(report, random, size, 1_500 * scale, &LOSSY);
         phases(report, random, size, 300 * scale, 1 + size % 2);
     }
-    for (size, last) in [(33, 280), (96, 262), (256, 258)] {
+    for (size, last) in [(31, 280), (64, 270), (95, 262), (96, 262)] {
         run(report, random, size, 2_000 * scale, &EVEN);
         phases(report, random, size, last * scale, 1);
     }

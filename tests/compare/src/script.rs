@@ -1,6 +1,6 @@
 //! A run as a script: lines of rule S3, and named lines for what these cannot say.
 //!
-//! - `b A room N`: a barrier call with a buffer of N bytes, where N is not 76.
+//! - `b A room N`: a barrier call with a buffer of N bytes, where N is not the length of the longest frame.
 //! - `lose A B N`: the N-th item on the link from A to B, the oldest being the 0-th, is lost.
 //! - `s A B` and `t A B` with B not below P. The rehearsal program answers 17 to all of these.
 

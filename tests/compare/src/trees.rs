@@ -1,8 +1,9 @@
-//! Every tree of 1 to 256 nodes, and lookups that are refused.
+//! The tree of every board, and lookups that are refused.
 
 use crate::library;
 use crate::report::{same, Report};
 use model::tree::{self, Place};
+use model::NODES;
 
 /// The number of a lookup and what it leaves in lent words that held a pattern.
 fn expected<const N: usize>(answer: Result<[u32; N], u8>) -> (u32, [u32; N]) {
@@ -37,7 +38,7 @@ fn place(report: &mut Report, nodes: u32, node: u32, k: u32) {
     same("place", &(answer, found), &model, || format!("ocb_place({nodes}u, {k}u, {node}u, found);"));
     report.count("places");
     report.answer("place", answer);
-    let bad = nodes == 0 || nodes > 256;
+    let bad = nodes == 0 || nodes > NODES;
     let deep = !bad && tree::dimension(nodes).is_ok_and(|p| k >= p);
     report.order("place", &[("1", 1, bad), ("2", 2, node >= nodes), ("10", 10, deep)], answer);
 }
@@ -49,12 +50,12 @@ fn distance(report: &mut Report, nodes: u32, a: u32, b: u32) {
     same("distance", &(answer, found), &model, || format!("ocb_distance({nodes}u, {a}u, {b}u, found);"));
     report.count("distances");
     report.answer("distance", answer);
-    let bad = nodes == 0 || nodes > 256;
+    let bad = nodes == 0 || nodes > NODES;
     report.order("distance", &[("1", 1, bad), ("2", 2, a >= nodes || b >= nodes), ("3", 3, a == b)], answer);
 }
 
 pub fn compare(report: &mut Report) {
-    let odd = [0, 1, 2, 7, 8, 9, 255, 256, 257, 65_535, 65_536, u32::MAX - 1, u32::MAX];
+    let odd = [0, 1, 2, 6, 7, 8, 9, 95, 96, 97, 128, 129, 255, 256, 257, 65_535, 65_536, u32::MAX - 1, u32::MAX];
     for nodes in (0..=300).chain(odd) {
         dimension(report, nodes);
         for a in odd {
@@ -64,7 +65,7 @@ pub fn compare(report: &mut Report) {
             }
         }
     }
-    for nodes in 1..=256 {
+    for nodes in 1..=NODES {
         for a in 0..nodes {
             for k in 0..9 {
                 place(report, nodes, a, k);

@@ -78,9 +78,9 @@ struct Past {
 }
 
 impl Board {
-    /// Wants `size` from 1 to 256.
+    /// Wants `size` from 1 to `NODES`.
     pub fn new(size: u32) -> Board {
-        let fresh = |number| node::fresh(size, number).expect("a node of a board of 1 to 256");
+        let fresh = |number| node::fresh(size, number).expect("a node of a board");
         Board {
             nodes: (0..size).map(fresh).collect(),
             phases: vec![0; size as usize],

@@ -1,6 +1,6 @@
 //! Frames (rule F1 to rule F6): fields, writer, reader, and the timing of phase bytes.
 
-use crate::{no, tree, FIELD_LIMIT, SHELLS};
+use crate::{no, tree, FIELD_LIMIT, FIELD_WORDS, SHELLS};
 
 /// The fields of a frame. Shells stand by their own number; numbers that the frame lacks are 0.
 #[derive(Clone, Copy, Debug, Default, PartialEq, Eq)]
@@ -71,7 +71,7 @@ pub fn write(board: u32, fields: &Fields, buffer: &mut [u8]) -> Result<usize, u8
 }
 
 /// The frame writer on the words of a frame (rule C6 and rule C7): a phase above 255 gives 10, after 1.
-pub fn write_words(board: u32, words: &[u32; 23], buffer: &mut [u8]) -> Result<usize, u8> {
+pub fn write_words(board: u32, words: &[u32; FIELD_WORDS], buffer: &mut [u8]) -> Result<usize, u8> {
     tree::dimension(board)?;
     let Ok(phase) = u8::try_from(words[1]) else {
         return Err(no::FIELD);
@@ -86,8 +86,8 @@ pub fn write_words(board: u32, words: &[u32; 23], buffer: &mut [u8]) -> Result<u
         t: words[6],
         ..Fields::default()
     };
-    fields.sent.copy_from_slice(&words[7..15]);
-    fields.taken.copy_from_slice(&words[15..]);
+    fields.sent.copy_from_slice(&words[7..7 + SHELLS]);
+    fields.taken.copy_from_slice(&words[7 + SHELLS..]);
     write(board, &fields, buffer)
 }
 

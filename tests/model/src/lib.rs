@@ -4,7 +4,7 @@
 //!
 //! What is easily read otherwise:
 //!
-//! - Tallies (rule R5): the total sent is at most 65,535 and the total taken at most 16,711,425. A
+//! - Tallies (rule R5): the total sent is at most 65,535 and the total taken at most 6,225,825. A
 //!   tally of a shell without nodes (an alone step) is bounded like any other.
 //! - T (rule R5): 0 in pass 1; in pass 2 the number that clause 4 compares, which is the own total sent
 //!   and those of all stored pass 1 frames.
@@ -33,7 +33,7 @@
 //!   item off.
 //! - Removal (rule S6): the places in use above the gap move down whole, and the place that was the
 //!   last in use keeps what it had. Places lent beyond 512 are not touched. The number of places is
-//!   the smallest of 512, the headers lent and the whole 76-byte parts of the buffer lent.
+//!   the smallest of 512, the headers lent and the whole 68-byte parts of the buffer lent.
 //! - Recordings (rule K2): there is at least one section, and any of them may be empty; the offset of an empty
 //!   one is where its body would begin. Lengths are 2 more than a multiple of 4, so that the longest has
 //!   59,998 bytes. The test never looks at an answer.
@@ -71,17 +71,23 @@ pub mod no {
     pub const DIFFERS: u8 = 19;
 }
 
+/// How many nodes the largest board has, N of rule N3.
+pub const NODES: u32 = 96;
+
 /// How many messages a node may send in a phase, S of rule N3.
 pub const SENT_LIMIT: u32 = 65_535;
 
-/// How many it may take: S from each of 255 other nodes.
-pub const TAKEN_LIMIT: u32 = 16_711_425;
+/// How many it may take: S from each of the other nodes of the largest board.
+pub const TAKEN_LIMIT: u32 = (NODES - 1) * SENT_LIMIT;
 
-/// The largest number in a frame, and the largest sum.
-pub const FIELD_LIMIT: u32 = 16_776_960;
+/// The largest number in a frame, and the largest sum: S from each node of the largest board.
+pub const FIELD_LIMIT: u32 = NODES * SENT_LIMIT;
 
-/// The largest board has dimension 8, so no node has more shells.
-pub const SHELLS: usize = 8;
+/// The largest board has dimension 7, so no node has more shells.
+pub const SHELLS: usize = 7;
 
 /// The length of the longest frame (rule F3).
-pub const LONGEST: usize = 76;
+pub const LONGEST: usize = 68;
+
+/// The words of a frame's fields (rule C6): seven numbers, then sent and taken by shell.
+pub const FIELD_WORDS: usize = 7 + 2 * SHELLS;

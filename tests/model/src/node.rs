@@ -1,7 +1,7 @@
 //! The node (rule N1 to rule N17): its state, the state test, the clauses and the calls.
 
 use crate::frame::{self, Fields, Timing};
-use crate::{no, tree, FIELD_LIMIT, SENT_LIMIT, SHELLS, TAKEN_LIMIT};
+use crate::{no, tree, FIELD_LIMIT, NODES, SENT_LIMIT, SHELLS, TAKEN_LIMIT};
 
 /// A place for the latest stored pass 1 frame of a dimension. Shells stand by their own number.
 #[derive(Clone, Copy, Debug, Default, PartialEq, Eq, Hash)]
@@ -21,7 +21,7 @@ pub struct Second {
     pub total_sent: u32,
 }
 
-/// A node's state with room for eight shells and dimensions (rule N1). P is `board`.
+/// A node's state with room for the shells and dimensions of the largest board (rule N1). P is `board`.
 #[derive(Clone, Copy, Debug, PartialEq, Eq, Hash)]
 pub struct Node {
     pub board: u32,
@@ -115,9 +115,9 @@ impl Node {
         sum(&self.taken)
     }
 
-    /// The dimension p. Wants P 1 to 256.
+    /// The dimension p. Wants P from 1 to `NODES`.
     fn p(&self) -> u32 {
-        tree::dimension(self.board).expect("P 1 to 256")
+        tree::dimension(self.board).expect("a board")
     }
 
     /// The node awaited in dimension k; none where k is not below p. Wants P and number in bounds.
@@ -146,9 +146,9 @@ pub fn state_stands(node: &Node) -> bool {
         && earlier_steps_agree(node)
 }
 
-/// A board of 1 to 256 nodes, and one of its numbers.
+/// A board of 1 to `NODES` nodes, and one of its numbers.
 fn name_stands(node: &Node) -> bool {
-    (1..=256).contains(&node.board) && node.number < node.board
+    (1..=NODES).contains(&node.board) && node.number < node.board
 }
 
 /// A pass and a dimension of the board; where p is 0, pass 1 and dimension 0.

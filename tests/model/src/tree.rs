@@ -1,6 +1,6 @@
 //! The tree (rule T1 to rule T6): dimension, runs, places, partners and distance.
 
-use crate::no;
+use crate::{no, NODES};
 
 /// The nodes first to last.
 #[derive(Clone, Copy, Debug, PartialEq, Eq)]
@@ -40,7 +40,7 @@ impl Run {
 
 /// Rule T2: the smallest number p with P ≤ 2^p.
 pub fn dimension(board: u32) -> Result<u32, u8> {
-    if board == 0 || board > 256 {
+    if board == 0 || board > NODES {
         return Err(no::BOARD);
     }
     let mut p = 0;

@@ -4,7 +4,7 @@ use model::frame::{read, stated_length, write, Fields};
 use model::node::{
     barrier, failing, frame_in, fresh, idle, send, take, Answer, Barrier, First, Node, Second, Work,
 };
-use model::{FIELD_LIMIT, LONGEST, SENT_LIMIT, TAKEN_LIMIT};
+use model::{FIELD_LIMIT, LONGEST, NODES, SENT_LIMIT, SHELLS, TAKEN_LIMIT};
 
 fn first(conditions: &[(bool, u8)]) -> Option<u8> {
     conditions.iter().find(|(met, _)| *met).map(|(_, number)| *number)
@@ -19,15 +19,15 @@ fn refusal(answer: Answer) -> Option<u8> {
 
 #[test]
 fn fresh_order_of_refusals() {
-    for board in [0, 1, 2, 256, 257, u32::MAX] {
-        for number in [0, 1, 2, 255, 256, 257, u32::MAX] {
-            let expected = first(&[(board == 0 || board > 256, 1), (number >= board, 2)]);
+    for board in [0, 1, 2, 95, 96, 97, 128, 129, 256, 257, u32::MAX] {
+        for number in [0, 1, 2, 94, 95, 96, 97, 255, 256, 257, u32::MAX] {
+            let expected = first(&[(board == 0 || board > NODES, 1), (number >= board, 2)]);
             assert_eq!(fresh(board, number).err(), expected);
         }
     }
-    let node = fresh(256, 255).unwrap();
+    let node = fresh(96, 95).unwrap();
     assert_eq!((node.phase, node.busy, node.pass, node.dim, node.flag, node.t), (0, true, 1, 0, true, 0));
-    assert_eq!((node.sent, node.taken), ([0; 8], [0; 8]));
+    assert_eq!((node.sent, node.taken), ([0; SHELLS], [0; SHELLS]));
 }
 
 /// Send: 13, 2, 3, 4, 5 (rule R3).

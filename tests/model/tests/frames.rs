@@ -3,15 +3,22 @@
 use model::frame::{read, stated_length, timing, write, write_words, Fields, Timing};
 use model::random::Random;
 use model::tree::dimension;
-use model::{FIELD_LIMIT, LONGEST, SHELLS};
+use model::{FIELD_LIMIT, FIELD_WORDS, LONGEST, NODES, SENT_LIMIT, SHELLS, TAKEN_LIMIT};
+
+/// Rule N3, and what follows from it.
+#[test]
+fn limits_of_the_build() {
+    assert_eq!((NODES, SENT_LIMIT, TAKEN_LIMIT, FIELD_LIMIT), (96, 65_535, 6_225_825, 6_291_360));
+    assert_eq!((SHELLS, LONGEST, FIELD_WORDS), (7, 68, 21));
+}
 
 #[test]
 fn lengths_of_boards_to_try() {
-    assert_eq!(stated_length(8, 1, 0), 76);
+    assert_eq!(stated_length(7, 1, 0), 68);
     assert_eq!(stated_length(3, 1, 2), 20);
-    assert_eq!(stated_length(8, 2, 0), 12);
+    assert_eq!(stated_length(7, 2, 0), 12);
     assert_eq!(stated_length(1, 2, 0), 12);
-    assert_eq!(stated_length(8, 1, 0), LONGEST);
+    assert_eq!(stated_length(7, 1, 0), LONGEST);
 }
 
 #[test]
@@ -20,13 +27,13 @@ fn bytes_of_a_pass_1_frame() {
     fields.sent[1] = 0x0001_0203;
     fields.sent[2] = 4;
     fields.taken[1] = 5;
-    fields.taken[2] = 0x00ff_0006;
+    fields.taken[2] = 0x005f_0006;
     fields.total_sent = 0x0000_0700;
     fields.total_taken = FIELD_LIMIT;
     let mut buffer = [0xaa; 30];
     assert_eq!(write(6, &fields, &mut buffer), Ok(28));
     let expected = [
-        1, 7, 1, 5, 3, 2, 1, 0, 4, 0, 0, 0, 5, 0, 0, 0, 6, 0, 0xff, 0, 0, 7, 0, 0, 0, 0xff, 0xff, 0, 0xaa,
+        1, 7, 1, 5, 3, 2, 1, 0, 4, 0, 0, 0, 5, 0, 0, 0, 6, 0, 0x5f, 0, 0, 7, 0, 0, 0xa0, 0xff, 0x5f, 0, 0xaa,
         0xaa,
     ];
     assert_eq!(buffer, expected);
@@ -41,6 +48,39 @@ fn bytes_of_a_pass_2_frame() {
     assert_eq!(write(2, &fields, &mut buffer), Ok(12));
     assert_eq!(buffer, [2, 255, 0, 1, 2, 1, 0, 0, 3, 0, 0, 0, 0xaa]);
     assert_eq!(read(2, &buffer[..12]), Ok(fields));
+}
+
+/// The longest frame, from its words (rule C6), into a byte too few, as many as it has, and one more.
+#[test]
+fn bytes_of_the_longest_frame() {
+    let mut words = [0; FIELD_WORDS];
+    words[..7].copy_from_slice(&[1, 7, 0, 64, 300, 500, 0]);
+    let mut expected = vec![1, 7, 0, 64];
+    for shell in 0..7 {
+        (words[7 + shell], words[14 + shell]) = (100 + shell as u32, 200 + shell as u32);
+        expected.extend([100 + shell as u8, 0, 0, 0]);
+    }
+    for shell in 0..7 {
+        expected.extend([200 + shell, 0, 0, 0]);
+    }
+    expected.extend([44, 1, 0, 0, 244, 1, 0, 0]);
+    assert_eq!(expected.len(), 68);
+    for board in [65, 95, 96] {
+        let mut buffer = [0xaa; 69];
+        assert_eq!(write_words(board, &words, &mut buffer[..67]), Err(14));
+        assert_eq!(buffer, [0xaa; 69]);
+        for room in [68, 69] {
+            assert_eq!(write_words(board, &words, &mut buffer[..room]), Ok(68));
+            assert_eq!((&buffer[..68], buffer[68]), (&expected[..], 0xaa));
+        }
+        assert_eq!((read(board, &buffer[..67]), read(board, &buffer)), (Err(9), Err(9)));
+        let fields = read(board, &buffer[..68]).unwrap();
+        assert_eq!((fields.sent[6], fields.taken[0], fields.taken[6]), (106, 200, 206));
+    }
+    for board in [97, 128, 129, 256] {
+        assert_eq!(write_words(board, &words, &mut [0; 69]), Err(1));
+        assert_eq!(read(board, &expected), Err(1));
+    }
 }
 
 /// Fields that the writer accepts for a board of at least two nodes.
@@ -76,7 +116,7 @@ fn random_fields(random: &mut Random, board: u32) -> Fields {
 fn what_is_written_is_read() {
     let mut random = Random::new(1);
     for round in 0..40_000 {
-        let board = 2 + round % 255;
+        let board = 2 + round % (NODES - 1);
         let fields = random_fields(&mut random, board);
         let room = LONGEST + random.below(4) as usize;
         let mut buffer = vec![0xa5; room];
@@ -93,7 +133,7 @@ fn what_is_read_is_written() {
     let mut random = Random::new(2);
     let (mut accepted, mut refused) = (0, 0);
     for round in 0..60_000 {
-        let board = 2 + round % 255;
+        let board = 2 + round % (NODES - 1);
         let mut buffer = vec![0; LONGEST];
         let length = write(board, &random_fields(&mut random, board), &mut buffer).unwrap();
         let mut bytes = buffer[..length].to_vec();
@@ -119,13 +159,13 @@ fn first(conditions: &[(bool, u8)]) -> Option<u8> {
 /// Frame writer: 1, 10 step, 10 numbers, 2, 14 (rule R3).
 #[test]
 fn writer_order_of_refusals() {
-    for board in [0, 1, 2, 6, 256, 257, u32::MAX] {
+    for board in [0, 1, 2, 6, 64, 95, 96, 97, 128, 129, 256, 257, u32::MAX] {
         let p = dimension(board).unwrap_or(0);
         for pass in [0, 1, 2, 3, 257, u32::MAX] {
-            for dim in [0, 1, 2, 7, 8, 256, u32::MAX] {
+            for dim in [0, 1, 2, 5, 6, 7, 8, 256, u32::MAX] {
                 for number in [0, FIELD_LIMIT, FIELD_LIMIT + 1, u32::MAX] {
-                    for sender in [0, 1, 5, 6, 255, 256, u32::MAX] {
-                        for room in [0, 11, 12, 27, 28, 75, 76, 77] {
+                    for sender in [0, 1, 5, 6, 95, 96, 255, 256, u32::MAX] {
+                        for room in [0, 11, 12, 27, 28, 67, 68, 69] {
                             let fields = Fields {
                                 pass,
                                 phase: 9,
@@ -137,7 +177,7 @@ fn writer_order_of_refusals() {
                             let odd = pass == 0 || pass > 2 || dim >= p;
                             let short = !odd && room < stated_length(p, pass, dim);
                             let expected = first(&[
-                                (board == 0 || board > 256, 1),
+                                (board == 0 || board > NODES, 1),
                                 (odd, 10),
                                 (number > FIELD_LIMIT, 10),
                                 (sender >= board, 2),
@@ -159,20 +199,21 @@ fn writer_order_of_refusals() {
 /// Words above 255 where a frame has a byte: a phase gives 10 after 1, the others what the writer gives (rule C7).
 #[test]
 fn words_that_are_no_byte() {
-    for (board, sender) in [(0, 1), (1, 10), (2, 2), (6, 2), (256, 2), (257, 1)] {
+    let refused = [0, 97, 128, 129, 256, 257].map(|board| (board, 1));
+    for (board, sender) in [(1, 10), (2, 2), (6, 2), (95, 2), (96, 2)].into_iter().chain(refused) {
         let others = if sender == 1 { 1 } else { 10 };
         for (at, expected) in [(0, others), (1, others), (2, others), (3, sender)] {
             for word in [256, 257, 65_537, u32::MAX] {
-                let mut words = [0; 23];
+                let mut words = [0; FIELD_WORDS];
                 (words[0], words[3]) = (1, 1);
                 words[at] = word;
-                let mut buffer = [0x5a; 76];
+                let mut buffer = [0x5a; LONGEST];
                 assert_eq!(write_words(board, &words, &mut buffer), Err(expected));
-                assert_eq!(buffer, [0x5a; 76]);
+                assert_eq!(buffer, [0x5a; LONGEST]);
             }
         }
     }
-    let mut words = [0; 23];
+    let mut words = [0; FIELD_WORDS];
     (words[0], words[1], words[3], words[4], words[6]) = (2, 257, 9, 3, 258);
     assert_eq!(write_words(2, &words, &mut []), Err(10));
     (words[1], words[3]) = (255, 1);
@@ -209,19 +250,21 @@ fn writer_wants_the_other_numbers_0() {
 #[test]
 fn each_number_at_its_limit() {
     let mut buffer = [0; LONGEST];
-    for (pass, dim) in [(1, 0), (1, 1), (1, 2), (2, 0), (2, 1), (2, 2)] {
-        let base = Fields { pass, phase: 0, dim, sender: 0, ..Fields::default() };
-        let length = write(6, &base, &mut buffer).unwrap();
-        for word in 0..(length - 4) / 4 {
-            for (number, expected) in [
-                (FIELD_LIMIT - 1, None),
-                (FIELD_LIMIT, None),
-                (FIELD_LIMIT + 1, Some(10)),
-                (u32::MAX, Some(10)),
-            ] {
-                let mut bytes = buffer[..length].to_vec();
-                bytes[4 + 4 * word..8 + 4 * word].copy_from_slice(&number.to_le_bytes());
-                assert_eq!(read(6, &bytes).err(), expected);
+    for (board, pass) in [(6, 1), (6, 2), (96, 1), (96, 2)] {
+        for dim in 0..dimension(board).unwrap() {
+            let base = Fields { pass, phase: 0, dim, sender: 0, ..Fields::default() };
+            let length = write(board, &base, &mut buffer).unwrap();
+            for word in 0..(length - 4) / 4 {
+                for (number, expected) in [
+                    (FIELD_LIMIT - 1, None),
+                    (FIELD_LIMIT, None),
+                    (FIELD_LIMIT + 1, Some(10)),
+                    (u32::MAX, Some(10)),
+                ] {
+                    let mut bytes = buffer[..length].to_vec();
+                    bytes[4 + 4 * word..8 + 4 * word].copy_from_slice(&number.to_le_bytes());
+                    assert_eq!(read(board, &bytes).err(), expected);
+                }
             }
         }
     }
@@ -230,12 +273,12 @@ fn each_number_at_its_limit() {
 /// Frame reader: 1, 9 under 4 bytes, 10 step, 9 length, 10 numbers, 2 (rule R3).
 #[test]
 fn reader_order_of_refusals() {
-    for board in [0, 1, 2, 6, 256, 257, u32::MAX] {
+    for board in [0, 1, 2, 6, 64, 95, 96, 97, 128, 129, 256, 257, u32::MAX] {
         let p = dimension(board).unwrap_or(0);
         for pass in [0u8, 1, 2, 3, 255] {
-            for dim in [0u8, 1, 2, 3, 7, 8, 255] {
-                for sender in [0u8, 1, 2, 5, 6, 255] {
-                    for length in (0..=30).chain([75, 76, 77, 100]) {
+            for dim in [0u8, 1, 2, 3, 6, 7, 8, 255] {
+                for sender in [0u8, 1, 2, 5, 6, 95, 96, 255] {
+                    for length in (0..=30).chain([67, 68, 69, 100]) {
                         for number in [0, FIELD_LIMIT, FIELD_LIMIT + 1] {
                             let mut bytes = vec![pass, 3, dim, sender];
                             while bytes.len() < length {
@@ -245,7 +288,7 @@ fn reader_order_of_refusals() {
                             let odd = !(1..=2).contains(&pass) || u32::from(dim) >= p;
                             let stated = if odd { 0 } else { stated_length(p, pass.into(), dim.into()) };
                             let expected = first(&[
-                                (board == 0 || board > 256, 1),
+                                (board == 0 || board > NODES, 1),
                                 (length < 4, 9),
                                 (odd, 10),
                                 (length != stated, 9),

@@ -67,6 +67,8 @@ fn scripts_that_stop() {
         ("nodes 2", 17, 1),
         ("nodes 0\n", 1, 1),
         ("nodes 17\n", 1, 1),
+        ("nodes 96\n", 1, 1),
+        ("nodes 97\n", 1, 1),
         ("nodes 256\n", 1, 1),
         ("nodes 999\n", 1, 1),
         ("nodes 17", 17, 1),

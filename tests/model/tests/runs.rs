@@ -157,8 +157,8 @@ fn round(board: &mut Board) {
 }
 
 #[test]
-fn boards_up_to_256() {
-    for size in [17, 31, 32, 33, 100, 129, 255, 256] {
+fn boards_up_to_the_largest() {
+    for size in [17, 31, 32, 33, 61, 63, 64, 65, 95, 96] {
         let mut board = Board::new(size);
         for at in 0..size {
             let other = (at * 7 + 3) % size;

@@ -4,7 +4,7 @@ use model::node::{
     agrees, barrier, failing, frame_in, fresh, idle, lowest_failing, own_sum_pass_2, own_sums, send,
     state_stands, take, Answer, Barrier, First, Node, Second, Work,
 };
-use model::{FIELD_LIMIT, LONGEST, SENT_LIMIT, TAKEN_LIMIT};
+use model::{FIELD_LIMIT, LONGEST, NODES, SENT_LIMIT, SHELLS, TAKEN_LIMIT};
 
 /// Node 0 of a board of 4 at (2, 1), all steps agreeing, T = 4.
 fn late_state() -> Node {
@@ -60,7 +60,7 @@ fn the_late_state_stands_and_leaves() {
 fn changes_that_give_13() {
     let changes: [fn(&mut Node); 50] = [
         |n| n.board = 0,
-        |n| n.board = 257,
+        |n| n.board = NODES + 1,
         |n| n.board = u32::MAX,
         |n| n.number = 4,
         |n| n.number = u32::MAX,
@@ -76,14 +76,14 @@ fn changes_that_give_13() {
         |n| n.t = u32::MAX,
         |n| n.sent[0] = 0,
         |n| n.sent[0] = u32::MAX,
-        |n| n.sent = [u32::MAX; 8],
-        |n| n.taken = [u32::MAX; 8],
+        |n| n.sent = [u32::MAX; SHELLS],
+        |n| n.taken = [u32::MAX; SHELLS],
         |n| n.sent[1] = 1,
         |n| n.sent[2] = 1,
-        |n| n.sent[7] = 1,
+        |n| n.sent[SHELLS - 1] = 1,
         |n| n.taken[0] = 1,
         |n| n.taken[2] = 1,
-        |n| n.taken[7] = 1,
+        |n| n.taken[SHELLS - 1] = 1,
         |n| n.first[0] = First::default(),
         |n| n.first[0].present = false,
         |n| n.first[0].sent[0] = 1,
@@ -91,7 +91,7 @@ fn changes_that_give_13() {
         |n| n.first[0].sent[1] = 1,
         |n| n.first[0].taken[1] = 1,
         |n| n.first[0].sent[2] = 1,
-        |n| n.first[0].taken[7] = 1,
+        |n| n.first[0].taken[SHELLS - 1] = 1,
         |n| n.first[0].total_sent = 3,
         |n| n.first[0].total_taken = 0,
         |n| n.first[1] = First::default(),
@@ -99,9 +99,9 @@ fn changes_that_give_13() {
         |n| n.first[1].taken[0] = 1,
         |n| n.first[1].total_taken = 3,
         |n| n.first[2].present = true,
-        |n| n.first[7].present = true,
+        |n| n.first[SHELLS - 1].present = true,
         |n| n.first[3].total_sent = 1,
-        |n| n.first[6].sent[6] = 1,
+        |n| n.first[5].sent[5] = 1,
         |n| n.second[0] = Second::default(),
         |n| n.second[0].t = 3,
         |n| n.second[1].t = FIELD_LIMIT + 1,
@@ -132,6 +132,21 @@ fn changes_that_stand() {
     }
     // Clause 3 of the step (2, 0) before the position.
     assert_13(changed(late_state(), |n| n.second[0].total_sent = FIELD_LIMIT));
+}
+
+/// A fresh node of the largest board stands, and with one node more on the board it does not, though p would be
+/// the same up to 128 nodes.
+#[test]
+fn the_largest_board() {
+    for number in [0, 47, 95] {
+        let node = fresh(96, number).unwrap();
+        assert!(state_stands(&node));
+        assert_eq!(idle(node).1, Answer::Done);
+        for board in [97, 98, 127, 128, 129, 255, 256, 257, u32::MAX] {
+            assert_13(Node { board, ..node });
+        }
+        assert_13(Node { number: 96, ..node });
+    }
 }
 
 #[test]
@@ -183,7 +198,7 @@ fn an_alone_step_stores_nothing() {
         assert!(state_stands(&stored_at(node, 1, k)));
         assert!(state_stands(&stored_at(node, 2, k)));
     }
-    for k in [0, 3, 7] {
+    for k in [0, 3, SHELLS - 1] {
         assert_13(stored_at(node, 1, k));
         assert_13(stored_at(node, 2, k));
     }

@@ -1,13 +1,23 @@
 //! The tree: the boards to try, facts for every P, and the order of refusals.
 
 use model::tree::{awaited, dimension, distance, place, receivers, run, Place};
+use model::{NODES, SHELLS};
 
 #[test]
 fn dimensions_of_boards_to_try() {
-    let p: Vec<_> = [1, 2, 3, 5, 256].into_iter().map(|board| dimension(board).unwrap()).collect();
-    assert_eq!(p, [0, 1, 2, 3, 8]);
-    for board in [0, 257, 65_536, u32::MAX] {
+    let boards = [1, 2, 3, 4, 5, 8, 9, 16, 17, 32, 33, 64, 65, 95, 96];
+    let p: Vec<_> = boards.into_iter().map(|board| dimension(board).unwrap()).collect();
+    assert_eq!(p, [0, 1, 2, 2, 3, 3, 4, 4, 5, 5, 6, 6, 7, 7, 7]);
+    assert_eq!(dimension(NODES), Ok(SHELLS as u32));
+}
+
+/// Rule T2 alone would give 97 to 128 nodes a p of 7, and 129 to 256 one of 8.
+#[test]
+fn boards_that_are_refused() {
+    for board in [0, 97, 98, 127, 128, 129, 255, 256, 257, 65_536, u32::MAX] {
         assert_eq!(dimension(board), Err(1));
+        assert_eq!(place(board, 0, 0), Err(1));
+        assert_eq!(distance(board, 0, 1), Err(1));
     }
 }
 
@@ -32,7 +42,7 @@ fn distances_of_boards_to_try() {
 
 #[test]
 fn dimension_is_the_smallest_for_every_board() {
-    for board in 1..=256 {
+    for board in 1..=NODES {
         let p = dimension(board).unwrap();
         assert!(board <= 1 << p && (p == 0 || board > 1 << (p - 1)));
     }
@@ -41,7 +51,7 @@ fn dimension_is_the_smallest_for_every_board() {
 /// Runs follow each other without gaps, and each lies in the run of the dimension above.
 #[test]
 fn runs_cover_every_board() {
-    for board in 1..=256 {
+    for board in 1..=NODES {
         let p = dimension(board).unwrap();
         for k in 0..p {
             for node in 0..board {
@@ -64,7 +74,7 @@ fn runs_cover_every_board() {
 /// Who awaits a node is who gets its frame, for every board, node and dimension.
 #[test]
 fn receivers_are_those_that_await() {
-    for board in 1..=256 {
+    for board in 1..=NODES {
         for k in 0..dimension(board).unwrap() {
             let mut awaiting = vec![vec![]; board as usize];
             for node in 0..board {
@@ -86,7 +96,7 @@ fn receivers_are_those_that_await() {
 /// A node is alone in dimension 0 only, and never in the last one (rule T5).
 #[test]
 fn alone_in_dimension_0_only() {
-    for board in 1..=256 {
+    for board in 1..=NODES {
         let p = dimension(board).unwrap();
         for node in 0..board {
             for k in 0..p {
@@ -100,7 +110,7 @@ fn alone_in_dimension_0_only() {
 /// A hermit awaits the next node, which names it after a neighbour of its own.
 #[test]
 fn hermits_and_messengers() {
-    for board in 1..=256 {
+    for board in 1..=NODES {
         for k in 0..dimension(board).unwrap() {
             for node in 0..board {
                 match place(board, node, k).unwrap() {
@@ -126,7 +136,7 @@ fn hermits_and_messengers() {
 
 #[test]
 fn distance_is_the_largest_dimension_of_different_runs() {
-    for board in [2, 3, 5, 6, 7, 11, 16, 23, 100, 255, 256] {
+    for board in [2, 3, 5, 6, 7, 11, 16, 23, 33, 61, 64, 65, 95, 96] {
         let p = dimension(board).unwrap();
         for a in 0..board {
             for b in (0..board).filter(|&b| b != a) {
@@ -142,18 +152,18 @@ fn distance_is_the_largest_dimension_of_different_runs() {
 /// Lookups: 1, 2, then 10 for a place and 3 for a distance (rule R3).
 #[test]
 fn order_of_refusals() {
-    let values = [0, 1, 2, 3, 5, 6, 7, 8, 9, 16, 255, 256, 257, 65_536, u32::MAX];
+    let values = [0, 1, 2, 3, 5, 6, 7, 8, 9, 16, 95, 96, 97, 128, 129, 255, 256, 257, 65_536, u32::MAX];
     for board in values {
         for node in values {
             for third in values {
                 let p = dimension(board).unwrap_or(0);
-                let by_k = first(&[(board == 0 || board > 256, 1), (node >= board, 2), (third >= p, 10)]);
+                let by_k = first(&[(board == 0 || board > NODES, 1), (node >= board, 2), (third >= p, 10)]);
                 assert_eq!(place(board, node, third).err(), by_k);
                 assert_eq!(run(board, node, third).err(), by_k);
                 assert_eq!(awaited(board, node, third).err(), by_k);
                 assert_eq!(receivers(board, node, third).err(), by_k);
                 let stranger = node >= board || third >= board;
-                let by_pair = first(&[(board == 0 || board > 256, 1), (stranger, 2), (node == third, 3)]);
+                let by_pair = first(&[(board == 0 || board > NODES, 1), (stranger, 2), (node == third, 3)]);
                 assert_eq!(distance(board, node, third).err(), by_pair);
             }
         }
