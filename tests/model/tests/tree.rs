@@ -11,7 +11,7 @@ fn dimensions_of_boards_to_try() {
     assert_eq!(dimension(NODES), Ok(SHELLS as u32));
 }
 
-/// Rule T2 alone would give 97 to 128 nodes a p of 7, and 129 to 256 one of 8.
+/// Rule T2 alone would give 97 to 128 nodes a p of 7, and 129 nodes one of 8.
 #[test]
 fn boards_that_are_refused() {
     for board in [0, 97, 98, 127, 128, 129, 255, 256, 257, 65_536, u32::MAX] {
