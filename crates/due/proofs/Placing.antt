@@ -1,9 +1,9 @@
--- Who is named at a place that was looked up is one byte.
+-- Who is named at a place that was looked up is a number of the largest board.
 use mathlib.Core.Path.{_≡_, refl, subst}
 use mathlib.Core.List.{List·Memᴰ, List·Memᴰ·not-nil}
 use Prim.Native.Nat.{ℕ, _<_}
 use native.Mathlib.Omega.{arith}
-use Rattle.base.specs.Limits.{Limits, Fits}
+use Rattle.base.specs.Limits.{Limits, Fits, base}
 use Rattle.base.specs.Refusal.{Answered, refused, found}
 use Rattle.tree.specs.Tree.{Place, place, sendsTo, receivers}
 use Rattle.tree.specs.Lookups.{placeLookup}
@@ -16,10 +16,10 @@ module _ (L : Limits) (fit : Fits L) (P k a b : ℕ) where
   unfolding receivers
   sends x e i = subst (λ y. List·Memᴰ b (sendsTo y)) e i
 
-  pub receivers-low : List·Memᴰ b (toWhom (placeLookup L P k a)) → b < 256
+  pub receivers-low : List·Memᴰ b (toWhom (placeLookup L P k a)) → b < base .nodes
   receivers-low m = go (placeLookup L P k a) refl m
     where
-      go : (r : Answered Place) → placeLookup L P k a ≡ r → List·Memᴰ b (toWhom r) → b < 256
+      go : (r : Answered Place) → placeLookup L P k a ≡ r → List·Memᴰ b (toWhom r) → b < base .nodes
       go (refused x) e i = absurd (List·Memᴰ·not-nil i)
       go (found x) e i =
           let q = place-known L P k a x e in

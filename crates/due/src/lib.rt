@@ -4,7 +4,7 @@ ghost use mathlib.Core.List.{List·Memᴰ};
 ghost use Prim.Native.Nat.{ℕ, _≤_, _<_};
 ghost use lib.ListN.{length};
 ghost use Rattle.base.specs.Choice.{choose};
-ghost use Rattle.base.specs.Limits.{limitsOf};
+ghost use Rattle.base.specs.Limits.{base, limitsOf};
 ghost use Rattle.tree.specs.Lookups.{placedAnswer};
 ghost use Rattle.node.specs.Barrier.{isEmpty};
 ghost use Rattle.layout.specs.Places.{headWords};
@@ -34,7 +34,7 @@ fn place_of(b: Bounds, s: &[u32]) -> Placed
 
 // The receivers of a node at a place.
 fn whom_of(placed: Placed) -> Whom
-    requires { ⌜ ((b : ℕ) → List·Memᴰ b (toWhom (placedAnswer placed)) → b < 256) ⌝ }
+    requires { ⌜ ((b : ℕ) → List·Memᴰ b (toWhom (placedAnswer placed)) → b < base .nodes) ⌝ }
     ensures { λ r. ⌜ whomList r ≡ toWhom (placedAnswer placed) ⌝ }
 {
     match placed {

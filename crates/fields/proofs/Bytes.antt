@@ -9,7 +9,7 @@ use lib.Dec.{ltb, leb}
 use lib.ListN.{length, getD, length-append}
 use borrow.Author.Tests.{leb-false, lt-ltb, le-ltb}
 use Rattle.base.specs.Choice.{choose, list}
-use Rattle.base.specs.Limits.{Limits, Fits, width}
+use Rattle.base.specs.Limits.{Limits, Fits, base, width}
 use Rattle.base.specs.Refusal.{Refusal, Answered, Check, refused, found, when, inOrder}
 use Rattle.base.proofs.Laws.{choose-yes, choose-no, Passes, order-stops, stops-before, checks-stop, checks-known}
 use Rattle.tree.specs.Tree.{dimension}
@@ -222,7 +222,7 @@ module _ (L : Limits) (P : ℕ) (ws buf : List ℕ) where
     step = rw (sym (good .1)) (good .0 .1 .1 .0)
 
     -- the numbers are those that the bytes have room for
-    pub tested-low : Fits L → (getD ws atDim 0 < p) × (p ≤ width) × (getD ws atPhase 0 < 256) × (getD ws atSender 0 < 256)
+    pub tested-low : Fits L → (getD ws atDim 0 < p) × (p ≤ width) × (getD ws atPhase 0 < 256) × (getD ws atSender 0 < base .nodes)
     tested-low fit =
         let b = good .0 .0 in (
           step-known p (getD ws atPass 0) (getD ws atDim 0) step .1,

@@ -4,7 +4,7 @@
 ghost use mathlib.Core.Path.{_≡_};
 ghost use Prim.Native.Nat.{_≤_, _<_};
 ghost use lib.ListN.{length, getD};
-ghost use Rattle.base.specs.Limits.{limitsOf, width};
+ghost use Rattle.base.specs.Limits.{base, limitsOf, width};
 ghost use Rattle.tree.specs.Lookups.{foundAnswer};
 ghost use Rattle.frame.specs.Frame.{over};
 ghost use Rattle.wire.specs.Wire.{putAt, putNumbers};
@@ -28,7 +28,7 @@ fn put_head(pass: u8, fields: &[u32], buf: &mut [u8])
     requires { ⌜ (length (now fields) ≡ fieldsEnd)
         × (getD (now fields) atDim 0 ≤ width)
         × (getD (now fields) atPhase 0 < 256)
-        × (getD (now fields) atSender 0 < 256) ⌝ }
+        × (getD (now fields) atSender 0 < base .nodes) ⌝ }
     ensures { λ r. ⌜ now (buf .exit) ≡ putAt (now (buf .entry)) 0 (headWith pass (now (fields .entry))) ⌝ }
 {
     wire::put_head(
@@ -54,7 +54,7 @@ fn put_first(p: u32, fields: &[u32], buf: &mut [u8]) -> Found
         × (getD (now fields) atDim 0 ≤ p)
         × (p ≤ width)
         × (getD (now fields) atPhase 0 < 256)
-        × (getD (now fields) atSender 0 < 256) ⌝ }
+        × (getD (now fields) atSender 0 < base .nodes) ⌝ }
     ensures answer { λ r.
         ⌜ foundAnswer r
         ≡ putAnswer (bytesWith 1 (now (fields .entry)) (firstNumbers p (now (fields .entry))))
@@ -85,7 +85,7 @@ fn put_second(fields: &[u32], buf: &mut [u8]) -> Found
     requires { ⌜ (length (now fields) ≡ fieldsEnd)
         × (getD (now fields) atDim 0 ≤ width)
         × (getD (now fields) atPhase 0 < 256)
-        × (getD (now fields) atSender 0 < 256) ⌝ }
+        × (getD (now fields) atSender 0 < base .nodes) ⌝ }
     ensures answer { λ r.
         ⌜ foundAnswer r
         ≡ putAnswer (bytesWith 2 (now (fields .entry)) (secondNumbers (now (fields .entry))))

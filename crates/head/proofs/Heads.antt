@@ -109,11 +109,11 @@ module _ (L : Limits) (ws : List ℕ) where
   short l p = omega (arith, p .long, first-above (dimsOf ws) (dimsOf ws))
 
 -- the pass is 1 or 2
-pass-low : (n : Node) → positionOk n ≡ true → n .pass < 256
+pass-low : (n : Node) → positionOk n ≡ true → n .pass < 3
 unfolding positionOk
 pass-low n = go (eqb (dims n) 0)
   where
-    one : (s t : Bool) → eqb (n .pass) 1 ≡ s → eqb (n .pass) 2 ≡ t → either s t ≡ true → n .pass < 256
+    one : (s t : Bool) → eqb (n .pass) 1 ≡ s → eqb (n .pass) 2 ≡ t → either s t ≡ true → n .pass < 3
     one true t a b e = let q = eqb-true (n .pass) 1 a in omega arith
     one false true a b e = let q = eqb-true (n .pass) 2 b in omega arith
     one false false a b e = clash (sym e)
@@ -122,7 +122,7 @@ pass-low n = go (eqb (dims n) 0)
         → choose t (both (eqb (n .pass) 1) (eqb (n .dim) 0))
         (both (either (eqb (n .pass) 1) (eqb (n .pass) 2)) (ltb (n .dim) (dims n)))
         ≡ true
-        → n .pass < 256
+        → n .pass < 3
     go true e = let q = eqb-true (n .pass) 1 (both-true (eqb (n .pass) 1) (eqb (n .dim) 0) e .0) in omega arith
     go false e =
         one (eqb (n .pass) 1) (eqb (n .pass) 2) refl refl
@@ -184,7 +184,7 @@ module _ (L : Limits) (ws : List ℕ) (p : ℕ) (b : Boarded L ws p) where
         }
 
     module _ (f : headTested limit p ws ≡ true) where
-      pub pass-small : word ws atPass < 256
+      pub pass-small : word ws atPass < 3
       pass-small = omega (arith, pass-is ws, pass-low n (head-passes f .position))
 
       pub some-head : (s : Spot)

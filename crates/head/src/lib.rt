@@ -120,7 +120,7 @@ fn is_alone(b: Bounds, nodes: u32, number: u32) -> bool
 }
 
 fn spot_at(b: Bounds, s: &[u32], p: u32) -> Spot
-    requires { ⌜ (headWords ≤ length (now s)) × (word (now s) atPass < 256) ⌝ }
+    requires { ⌜ (headWords ≤ length (now s)) × (word (now s) atPass < 3) ⌝ }
     ensures { λ r.
         ⌜ r
         ≡ spotAt (limitsOf b) p (word (now (s .entry)) atNodes) (word (now (s .entry)) atNumber) (word (now (s .entry)) atPass)

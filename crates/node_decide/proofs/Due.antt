@@ -126,10 +126,11 @@ module _ (L : Limits) (fit : Fits L) (ws sums : List ℕ) (p total : ℕ) (h : L
   unfolding unpacked
   head-is pass l i =
       let low : k < 256 = omega (arith, few) in
+      let known : n .number < 256 = omega (arith, number-low L fit ws sums p total h) in
       pass
       ∷ mod-eq-of-lt (lies L fit ws sums p total h .phase) i
       ∷ mod-eq-of-lt low i
-      ∷ mod-eq-of-lt (number-low L fit ws sums p total h) i
+      ∷ mod-eq-of-lt known i
       ∷ l
 
   pub due-is : dueBytes ws sums p total ≡ frameBytes (dims n) (frameDue n)

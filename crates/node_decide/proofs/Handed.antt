@@ -6,7 +6,7 @@ use Prim.Native.Nat.{ℕ, _≤_, _<_}
 use native.Mathlib.Omega.{arith}
 use lib.ListN.{length}
 use borrow.Author.Tests.{eq-eqb, ne-eqb}
-use Rattle.base.specs.Limits.{Limits, Fits, width}
+use Rattle.base.specs.Limits.{Limits, Fits, base, width}
 use Rattle.base.proofs.Laws.{choose-yes, choose-no}
 use Rattle.tree.proofs.Lookups.{board-good}
 use Rattle.node.specs.Sums.{dims, Field, Has, own, ownIssued}
@@ -46,7 +46,7 @@ module _ (L : Limits) (fit : Fits L) (ws sums : List ℕ) (p total : ℕ) (h : L
   unfolding unpacked
   low-dims = let e : p ≡ dimsOf ws = h .dims in omega (arith, e, few L fit ws (lies .board))
 
-  pub number-low : word ws atNumber < 256
+  pub number-low : word ws atNumber < base .nodes
   unfolding unpacked
   number-low = omega (arith, held .number, board-good L (n .nodes) (held .board), fit .nodes)
 

@@ -58,5 +58,5 @@ pub record Storable (p : ℕ) (ws bs : List ℕ) : Type 0 where
   pub few : p ≤ width
   pub dim : getD bs 2 0 < p
   pub head : 4 ≤ length bs
-  pub position : (word ws atDim < 256) × (headWords ≤ length ws)
+  pub position : (word ws atDim < width) × (headWords ≤ length ws)
   pub room : framePlace p (getD bs 0 0) (getD bs 2 0) + length (frameWords bs) ≤ length ws

@@ -18,7 +18,7 @@ const MARK: usize = layout::MARK as usize;
 
 // A step, counted through both passes.
 fn step_of(p: u32, pass: u32, dim: u32) -> u32
-    requires { ⌜ (p ≤ width) × (dim < 256) ⌝ }
+    requires { ⌜ (p ≤ width) × (dim < width) ⌝ }
     ensures { λ r. ⌜ r ≡ stepNumber p pass dim ⌝ }
 {
     if pass == 1 { dim } else { p + dim }

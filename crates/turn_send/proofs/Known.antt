@@ -33,16 +33,16 @@ refused-not : {A : Type 0} (x : ℕ) → refused x ≡ done → A
 refused-not x q = let z : _≡_ {A = ℕ} 0 1 = cc in absurd (omega arith)
 
 -- who is sent work by a node is a number of its board
-to-board : (n : Node) (b : ℕ) → send base n b .answer ≡ done → b < 256
+to-board : (n : Node) (b : ℕ) → send base n b .answer ≡ done → b < base .nodes
 to-board n b e = go (send-way base n b) e
   where
-    go : {g : Given Outcome} → SendWay base n b g → g .answer ≡ done → b < 256
+    go : {g : Given Outcome} → SendWay base n b g → g .answer ≡ done → b < base .nodes
     go (SendWay.refused x s) q = refused-not x q
     go (SendWay.done v h o w r) q = let p = board-good base (n .nodes) (valid-known base n v .board) in omega arith
 
 -- who sends is in a state, and so is its board
 pub sender-known : (s m : State) (b : ℕ) → onState (λ n. send base n b) s ≡ keep m done
-    → (isWhole base (s .words) ≡ true) × (b < 256)
+    → (isWhole base (s .words) ≡ true) × (b < base .nodes)
 unfolding onState
 sender-known s m b e =
     let k = go (isWhole base (s .words)) (send base (unpacked (s .words)) b .answer) _ (ap (λ g. g .answer) e) in

@@ -36,7 +36,7 @@ returns c bytes e =
 -- the state and the receiver of work that is sent
 known : (c : tie.After-enum-told)
     → let node = c .before .before .before in
-    (isWhole base (node .state-at .result .words) ≡ true) × (node .before .args .b < 256)
+    (isWhole base (node .state-at .result .words) ≡ true) × (node .before .args .b < base .nodes)
 known c =
     let asked = c .before .before in
     sender-known _ _ _ (given-as (asked .send-to .result) _ _ (asked .send-to .ensures) (c .enum-told .given .1))
