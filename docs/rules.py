@@ -52,6 +52,17 @@ HEADLINE = {
     "crates/replayed/specs/Run.antt": ["pub same : map (λ t. record { line = t .line; answer = t .answer }) told ≡ recorded r",
                                        "pub isRun : IsRun (r .nodes) told"],
     "crates/replayed/proofs/Whole.antt": ["pub every-replay : EveryReplay"],
+    # the limits of the largest build, and every board to try
+    "crates/starred/specs/Rows.antt": [
+        "limit (base .nodes) 96", "∷ limit (base .sends) 65535", "∷ limit (takenLimit base) 6225825",
+        "∷ limit (fieldLimit base) 6291360", "∷ limit width 7", "∷ dimension 1 (found 0)", "∷ dimension 2 (found 1)",
+        "∷ dimension 3 (found 2)", "∷ dimension 5 (found 3)", "∷ dimension 96 (found 7)",
+        "∷ dimension 0 (refused (number Refusal.board))", "∷ dimension 97 (refused (number Refusal.board))",
+        "∷ place 6 0 2 (found alone)", "∷ place 6 1 2 (found (messenger 0 1))", "∷ place 6 2 2 (found (neighbour 5))",
+        "∷ place 5 2 2 (found (hermit 3))", "∷ distance 6 1 2 (found 1)", "∷ distance 6 2 5 (found 2)", "∷ firstLength 7 0 68",
+        "∷ firstLength 3 2 20", "∷ phases 0 255 Late", "∷ phases 255 0 Early"],
+    "crates/layout/specs/Places.antt": ["mostWords = 120"],
+    "crates/under_way/specs/Frames.antt": ["placeSize = 68"],
     "crates/starred/proofs/Starred.antt": ["pub starred : All table"],
     # the one walk, and the loop that carries it
     "crates/walked/specs/Laws.antt": [
