@@ -263,6 +263,28 @@ def check_stack():
         raise played.Trouble(f"include/ocb.h: a call takes up to {most} bytes by docs/COST.md, more than OCB_STACK_BYTES")
 
 
+def check_limits():
+    """The limits that stand in words are those of the header, and what follows from them."""
+    numbers = played.header()
+    nodes, longest, version = (numbers[name] for name in ("OCB_NODES", "OCB_FRAME_BYTES", "OCB_VERSION"))
+    sends = int(re.search(r"sent out: ([\d,]+) sent", played.header_text())[1].replace(",", ""))
+    taken, [words] = (nodes - 1) * sends, played.state_words([nodes])
+    said = {
+        "include/ocb.h": [f"Up to {nodes} nodes", f"taken full: {taken:,} taken"],
+        "docs/BARRIER.md": [f"so {longest} at most", f"P is 0 or above {nodes}", f"{taken:,} taken in this cycle | {nodes - 1} nodes",
+                            f"more than {nodes} nodes can send, {sends:,} each", f"every board of 1 to {nodes} nodes"],
+        "docs/RULES.md": [f"A board has 1 to {nodes} nodes", f"| N | {nodes} |", f"| S | {sends:,} |", f"| (N − 1) · S | {taken:,} |",
+                          f"| N · S | {nodes * sends:,} |", f"above N ({nodes})", f"or more ({sends:,})", f"or more ({taken:,})",
+                          f"The longest frame of any board has {longest} bytes", f"a caller can see; it is {version}."],
+        "targets/cortex-m0/README.md": [f"{words} ({4 * words} bytes) for 65 to {nodes}, the largest"],
+    }
+    for name, parts in said.items():
+        text = " ".join((played.ROOT / name).read_text(encoding="utf-8").split())
+        for part in parts:
+            if part not in text:
+                raise played.Trouble(f"{name}: by include/ocb.h it should say '{part}'")
+
+
 def check_named(page, text):
     """What a page names is there."""
     for path in PATH.findall(text):
@@ -301,6 +323,7 @@ def wanted():
     check_names(text)
     check_recordings(recordings)
     check_stack()
+    check_limits()
     check_paths(text, made)
     files = {PICTURES / f"{name}.svg": picture for name, picture in made.items()}
     files[PAGE], files[RECORDINGS] = text, recordings
