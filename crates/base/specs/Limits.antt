@@ -29,10 +29,11 @@ pub record Fits (L : Limits) : Type 0 where
   pub nodes : L .nodes ≤ base .nodes
   pub sends : L .sends ≤ base .sends
 
--- The pair that a call is handed. A byte can hold more than the highest number of a node in the largest build, and then stands for
--- that number, so that every pair that is handed fits.
+-- The highest number of a node, as a call is handed it. A byte can hold more than the largest build has, and then stands for the highest
+-- there, so that every pair fits.
 abbrev pub lastOf : Bounds → ℕ
 lastOf b = choose (ltb (b .last) (base .nodes)) (b .last) (base .nodes - 1)
 
+-- the pair that a call is handed
 abbrev pub limitsOf : Bounds → Limits
 limitsOf b = record { nodes = suc (lastOf b); sends = b .sends }
