@@ -153,9 +153,9 @@ extern "C" {
 /*
  * Grows by 1 with each change that a caller can see. In 1 every state had 200 words, and no call was told how many; in 2
  * every work message was a job; in 3 a wait could name any clause that fails; in 4 the largest board had more nodes, and a
- * frame's fields had more words.
+ * frame's fields had more words; in 5 tallies and stored frames had no names.
  */
-#define OCB_VERSION 5
+#define OCB_VERSION 6
 
 /* Nodes of the largest board, bytes of its longest frame. */
 #define OCB_NODES 96
@@ -170,7 +170,7 @@ extern "C" {
 #define OCB_SHELLS OCB_DIMENSION(OCB_NODES)
 
 /* Words of a node's state on a board of so many nodes: a state has the numbers that its board has, and no others. */
-#define OCB_STATE_WORDS(nodes) (8 + OCB_DIMENSION(nodes) * (OCB_DIMENSION(nodes) + 9))
+#define OCB_STATE_WORDS(nodes) (OCB_AT_TALLIES + OCB_DIMENSION(nodes) * (OCB_DIMENSION(nodes) + 9))
 
 /*
  * Frames that are on one link at once, at most, where idle nodes of the board have taken so many jobs and notes in the
@@ -201,8 +201,27 @@ enum {
     OCB_AT_PASS = 4,      /* the position: pass 1 or 2 */
     OCB_AT_DIMENSION = 5, /* its dimension */
     OCB_AT_FLAG = 6,      /* 1 where its frame is not sent yet */
-    OCB_AT_TOTAL = 7      /* the agreed total T; 0 in pass 1 */
+    OCB_AT_TOTAL = 7,     /* the agreed total T; 0 in pass 1 */
+    OCB_AT_TALLIES = 8    /* from here on tallies and stored frames */
 };
+
+/*
+ * Also words that a caller may read, on a board of so many nodes: for a bench, or a lamp that shows counts. shell and k are
+ * below OCB_DIMENSION(nodes).
+ *
+ * The tallies of a shell, of jobs and notes sent to its nodes and taken from them.
+ */
+#define OCB_AT_SENT(nodes, shell) (OCB_AT_TALLIES + (shell))
+#define OCB_AT_TAKEN(nodes, shell) (OCB_AT_TALLIES + OCB_DIMENSION(nodes) + (shell))
+
+/*
+ * The latest frame that has come for dimension k of pass 1 and of pass 2. The word is 1 where one is stored, and the
+ * frame's numbers follow in their order: in pass 1 sent for the shells from k up, taken for the same, total sent, total
+ * taken; in pass 2 T, total sent. Where it is 0, so are they.
+ */
+#define OCB_AT_FIRST(nodes, k) \
+    (OCB_AT_TALLIES + 2 * OCB_DIMENSION(nodes) + (k) * (2 * OCB_DIMENSION(nodes) + 7 - (k)))
+#define OCB_AT_SECOND(nodes, k) (OCB_AT_FIRST(nodes, k) + 2 * (OCB_DIMENSION(nodes) - (k)) + 3)
 
 /* What a call answers where it does not refuse. */
 enum {

@@ -1,7 +1,7 @@
 /*
- * Holds the headers' numbers to the libraries: the largest board and the dimension and state of every board, the longest
- * frame, the words that calls take, and the places of a replay. Each must be enough, and no more than is needed.
- * Ends with status 1 where one is not.
+ * Holds the headers' numbers to the libraries: the largest board and the dimension and state of every board, where a state
+ * has its tallies and stored frames, the longest frame, the words that calls take, and the places of a replay. Each must be
+ * enough, and no more than is needed. Ends with status 1 where one is not.
  */
 #include "ocb.h"
 #include "ocb_recording.h"
@@ -39,6 +39,55 @@ static void check_board(uint32_t nodes)
     hold(ocb_fresh(state, words - 1, nodes, nodes - 1) == OCB_STATE, "OCB_STATE_WORDS, one fewer");
     hold(ocb_fresh(state, words, nodes, nodes - 1) == OCB_DONE, "OCB_STATE_WORDS");
     hold_words(state, words, "OCB_STATE_WORDS, written");
+}
+
+/* So many jobs each way to and from a node: they are counted in the words of its shell. */
+static void check_tallies(uint32_t *state, uint32_t nodes, uint32_t number, uint32_t other)
+{
+    uint32_t words = OCB_STATE_WORDS(nodes), shell, sent, taken;
+    hold(ocb_distance(nodes, number, other, &shell) == OCB_DONE, "a distance");
+    sent = state[OCB_AT_SENT(nodes, shell)];
+    taken = state[OCB_AT_TAKEN(nodes, shell)];
+    hold(ocb_send(state, words, other) == OCB_DONE, "a send");
+    for (int i = 0; i < 2; i++) hold(ocb_take(state, words, other, 0) == OCB_DONE, "a take");
+    hold(state[OCB_AT_SENT(nodes, shell)] == sent + 1, "OCB_AT_SENT");
+    hold(state[OCB_AT_TAKEN(nodes, shell)] == taken + 2, "OCB_AT_TAKEN");
+}
+
+/* A frame of the awaited node, with another number in each of its fields: it is stored in its order. */
+static void check_stored(uint32_t *state, uint32_t nodes, uint32_t pass, uint32_t k, uint32_t awaited)
+{
+    uint32_t at = pass == 1 ? OCB_AT_FIRST(nodes, k) : OCB_AT_SECOND(nodes, k), number = 0, length;
+    uint32_t fields[OCB_FIELD_WORDS] = {pass, 0, k, awaited};
+    uint8_t bytes[OCB_FRAME_BYTES];
+    if (pass == 1)
+        for (uint32_t shell = k; shell < OCB_DIMENSION(nodes); shell++) {
+            fields[7 + shell] = 1000 + shell;
+            fields[7 + OCB_SHELLS + shell] = 2000 + shell;
+        }
+    fields[4] = 3000 + k;
+    fields[5] = pass == 1 ? 4000 + k : 0;
+    fields[6] = pass == 2 ? 5000 + k : 0;
+    hold(state[at] == 0, "OCB_AT_FIRST, OCB_AT_SECOND: nothing is stored");
+    hold(ocb_frame_write(nodes, fields, bytes, sizeof bytes, &length) == OCB_DONE, "a frame for a step");
+    hold(ocb_frame_in(state, OCB_STATE_WORDS(nodes), bytes, length) == OCB_DONE, "a frame that comes in");
+    hold(state[at] == 1, "OCB_AT_FIRST, OCB_AT_SECOND: a frame is stored");
+    for (uint32_t byte = 4; byte < length; byte += 4) {
+        number++;
+        hold(state[at + number] == (bytes[byte] | (uint32_t)bytes[byte + 1] << 8), "the numbers of a stored frame");
+    }
+}
+
+static void check_held(uint32_t nodes, uint32_t number)
+{
+    uint32_t state[OCB_STATE_WORDS(OCB_NODES)], place[OCB_PLACE_WORDS];
+    hold(ocb_fresh(state, OCB_STATE_WORDS(nodes), nodes, number) == OCB_DONE, "a node");
+    for (uint32_t other = 0; other < nodes; other++)
+        if (other != number) check_tallies(state, nodes, number, other);
+    for (uint32_t k = 0; k < OCB_DIMENSION(nodes); k++) {
+        hold(ocb_place(nodes, k, number, place) == OCB_DONE, "a place");
+        for (uint32_t pass = 1; pass <= 2 && place[0] != 0; pass++) check_stored(state, nodes, pass, k, place[1]);
+    }
 }
 
 /* The longest frame, with another number in each of its fields, written and read again. */
@@ -95,6 +144,8 @@ static void check_places(void)
 int main(void)
 {
     for (uint32_t nodes = 0; nodes <= 300; nodes++) check_board(nodes);
+    for (uint32_t nodes = 1; nodes <= OCB_NODES; nodes++)
+        for (uint32_t number = 0; number < nodes; number++) check_held(nodes, number);
     check_frame();
     check_answers();
     check_places();
