@@ -233,12 +233,17 @@ def names():
     return {int(value): name.lower().replace("_", " ") for name, value in found}
 
 
-def state_words(boards):
-    """The words of a state on boards of so many nodes, by the header's macro."""
-    lines = "".join(f'printf("%d\\n", OCB_STATE_WORDS({nodes}));' for nodes in boards)
+def macros(expressions):
+    """The numbers that C expressions over the names of include/ocb.h give."""
+    lines = "".join(f'printf("%d\\n", {words});' for words in expressions)
     text = f'#include <stdio.h>\n#include "ocb.h"\nint main(void) {{ {lines} return 0; }}\n'
     with tempfile.TemporaryDirectory() as folder:
-        program = pathlib.Path(folder) / "words"
+        program = pathlib.Path(folder) / "numbers"
         compiler = ["gcc", "-std=c11", f"-I{ROOT / 'include'}", "-x", "c", "-", "-o", str(program)]
         subprocess.run(compiler, input=text.encode(), check=True)
-        return [int(line) for line in output(program, "")]
+        return [int(line) for line in output(program, b"")]
+
+
+def state_words(boards):
+    """The words of a state on boards of so many nodes."""
+    return macros([f"OCB_STATE_WORDS({nodes})" for nodes in boards])
