@@ -50,4 +50,12 @@ TARGETS = {
         sources=("riscv32imc/start.S", "memory.c"),
         packages={"riscv64-unknown-elf-gcc": "gcc-riscv64-unknown-elf", "qemu-system-riscv32": "qemu-system-misc"},
     ),
+    "wasm32": WebAssembly(
+        triple="wasm32-unknown-unknown",
+        layout="e-m:e-p:32:32-p10:8:8-p20:8:8-i64:64-i128:128-n32:64-S128-ni:1:10:20",
+        # what engines have had since 2021: a copy is one instruction, so that the library needs nothing from outside
+        clang=("--target=wasm32-unknown-unknown", "-mcpu=mvp", "-mbulk-memory", "-mbulk-memory-opt"),
+        engine=("node",),
+        packages={"node": "nodejs"},
+    ),
 }

@@ -1,4 +1,4 @@
-"""What the targets' commands run: the kit's compiler, and Debian's packages for the emulated machines.
+"""What the targets' commands run: the kit's compiler, and Debian's packages: emulators, their compilers, node.
 
 python3 targets/tools.py install [TARGET...]    installs the packages whose programs are missing, and says so; where that
                                                 cannot be done, one line names them and the status is 1
@@ -65,7 +65,7 @@ def missing(names):
 def need(names):
     packages = missing(names)
     if packages:
-        raise Trouble(f"the emulated machines' tools are missing: install the Debian packages {' '.join(packages)}")
+        raise Trouble(f"what runs the targets is missing: install the Debian packages {' '.join(packages)}")
 
 
 def install(names):
@@ -81,7 +81,7 @@ def install(names):
             except FileNotFoundError:
                 break
     if missing(names):
-        raise Trouble(f"the emulated machines' tools cannot be had: apt-get does not install {' '.join(missing(names))}"
+        raise Trouble(f"what runs the targets cannot be had: apt-get does not install {' '.join(missing(names))}"
                       " (target/targets/install.log says why)")
     print("targets: installed", *packages)
 
