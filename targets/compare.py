@@ -63,7 +63,7 @@ def play(name, level, words):
     folder = tools.OUT / name / level
     if isinstance(TARGETS[name], WebAssembly):
         program = wasm.link_callers(name, folder / "play.wasm", PLAYED, words)
-        return wasm.run(name, "play.mjs", [folder / wasm.LIBRARY, program])
+        return wasm.run(name, "play.mjs", [folder / wasm.LIBRARY, program]).decode()
     program = emulate.link(name, folder / "play.elf", [*PLAYED, folder / build.ARCHIVE.name], words=words)
     return emulate.run(name, program)
 
@@ -91,9 +91,9 @@ def play_scripts(name, level):
     """The program rehearse prints of each script what is kept of it."""
     scripts = sorted(path for path in SCRIPTS.iterdir() if path.is_file())
     for script in scripts:
-        with script.open() as given:
+        with script.open("rb") as given:
             printed = wasm.run(name, "rehearse.mjs", [tools.OUT / name / level / wasm.PROGRAM], stdin=given)
-        if printed.encode() != (SCRIPTS / "printed" / script.name).read_bytes():
+        if printed != (SCRIPTS / "printed" / script.name).read_bytes():
             raise tools.Trouble(f"{name}, -{level}: {wasm.PROGRAM} prints something else of {script.name}")
     print(f"{name}, -{level}: {wasm.PROGRAM}, {len(scripts)} scripts played, printed as on x86-64")
 

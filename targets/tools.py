@@ -23,14 +23,18 @@ class Trouble(Exception):
 
 
 def run(words, **more):
-    """What a command writes; its own words where it fails."""
+    """What a command writes, as text; its own words where it fails."""
+    return run_bytes(words, **more).decode()
+
+
+def run_bytes(words, **more):
     words = [str(word) for word in words]
     try:
-        done = subprocess.run(words, stdout=subprocess.PIPE, stderr=subprocess.PIPE, text=True, **more)
+        done = subprocess.run(words, stdout=subprocess.PIPE, stderr=subprocess.PIPE, **more)
     except FileNotFoundError:
         raise Trouble(f"{words[0]} is missing") from None
     if done.returncode != 0:
-        sys.stderr.write(done.stdout + done.stderr)
+        sys.stderr.write((done.stdout + done.stderr).decode(errors="replace"))
         raise Trouble(f"{pathlib.Path(words[0]).name} ended with status {done.returncode}")
     return done.stdout
 

@@ -119,9 +119,9 @@ def link_callers(name, path, files, words):
 
 
 def run(name, script, files, **more):
-    """What a script of the target's folder prints, run by the engine on files of WebAssembly."""
+    """The bytes that a script of the target's folder prints, run by the engine on files of WebAssembly."""
     command = [*TARGETS[name].engine, tools.HERE / name / script, *files]
     try:
-        return tools.run(command, timeout=emulate.SECONDS, **more)
+        return tools.run_bytes(command, timeout=emulate.SECONDS, **more)
     except subprocess.TimeoutExpired:
         raise tools.Trouble(f"{files[-1].name} does not end") from None
