@@ -1,4 +1,4 @@
-"""Programs for a target: compiled by its C compiler without a C library, and run in its emulator."""
+"""Programs for a core: compiled by its C compiler without a C library, and run in its emulator."""
 import subprocess
 import sys
 

@@ -1,6 +1,7 @@
-"""Makes the module that the kit compiles for x86-64 one for another target: retarget.py TARGET LEVEL < MODULE > MADE
+"""Makes a module that the kit compiles for x86-64 one for another target: retarget.py TARGET LEVEL KIND < MODULE > MADE
 
-TARGET is a row of table.py and LEVEL is Os, O2 or O3. The module is text, as clang prints it without running a pass.
+TARGET is a row of table.py, LEVEL is Os, O2 or O3, and KIND says what the module is of, the library or the program
+rehearse. The module is text, as clang prints it without running a pass.
 
 Why the changed module means the same. The kit's backend lays out memory by itself: a place is a number, a pointer or an
 array of bytes, a field is an offset in bytes, a load or store states its size and alignment, a copy its size. So the
@@ -27,16 +28,23 @@ bytes on the target, so nothing but a load or a store may touch it. Offsets of 6
 computed; they are below the size of an object, hence below 2^32. A target must be little-endian, with pointers of 32
 bits and a stack aligned to 8 bytes, and its C compiler must hand over numbers of 32 bits as they are.
 
+A program exports main, which takes nothing, and has read and write from outside. Their counts and answers keep the 64
+bits that they have in the module: a file of WebAssembly states the types of what it imports, and the host's functions
+are written for these. A C library for 32 bits would have others, so a program is made for WebAssembly alone. read and
+write are lent bytes, among which no pointer is, by Rattle's types. A program also fills places with zeros; a byte that
+is filled counts as part of a number.
+
 Whatever this does not cover is refused, with its line: the lists below name all that a module may have.
 """
 import collections
+import functools
 import math
 import pathlib
 import re
 import sys
 
 sys.dont_write_bytecode = True
-from table import TARGETS
+from table import TARGETS, WebAssembly
 
 HEADER = pathlib.Path(__file__).resolve().parent.parent / "include" / "ocb.h"
 LEVELS = {"Os": " optsize", "O2": "", "O3": ""}
@@ -47,25 +55,26 @@ FACTS = {
     "target triple": "x86_64-unknown-linux-gnu",
 }
 ATTRIBUTES = 'attributes #0 = { nounwind "probe-stack"="inline-asm" "target-cpu"="x86-64" }'
-OTHER_ATTRIBUTES = re.compile(r"attributes #[1-9]\d* = \{ (?:nocallback|nofree|nosync|nounwind|speculatable|willreturn"
-                              r"|memory\([\w: ,]+\)| )+ \}")
+OTHER_ATTRIBUTES = re.compile(r"attributes #[1-9]\d* = \{ (?:nobuiltin|nocallback|nofree|nosync|nounwind|speculatable"
+                              r"|willreturn|memory\([\w: ,]+\)| )+ \}")
 
 # No instruction turns a pointer into a number or looks at one, and no type is wider than 64 bits.
-OPCODES = set("alloca load store getelementptr call ret br switch unreachable icmp add sub mul udiv urem and xor zext"
+OPCODES = set("alloca load store getelementptr call ret br switch unreachable icmp add sub mul udiv urem and or xor zext"
               " trunc".split())
-INTRINSICS = {"llvm.memmove.p0.p0.i64", "llvm.ctlz.i32"}
+INTRINSICS = {"llvm.memmove.p0.p0.i64", "llvm.memset.p0.i64", "llvm.ctlz.i32"}
 SIZES = {"i1": 1, "i8": 1, "i16": 2, "i32": 4, "i64": 8, "ptr": 8}  # bytes of a place
 LOOSE = re.compile(r"[{<]|\b(?:asm|float|double|half|bfloat|fp128|addrspace|volatile|atomic|inttoptr|ptrtoint|bitcast)\b")
 KIND = "(?:i1|i8|i16|i32|i64|ptr)"
 ARGUMENT = rf"{KIND} (?:%[\w.]+|-?\d+|true|false)"
-CALL = re.compile(rf'call (?:noundef )?(?:zeroext )?(?:void|{KIND}) @(?!llvm\.memmove)("[^"]+"|[\w.]+)'
+CALL = re.compile(rf'call (?:noundef )?(?:zeroext )?(?:void|{KIND}) @(?!llvm\.mem)("[^"]+"|[\w.]+)'
                   rf"\(((?:{ARGUMENT}(?:, {ARGUMENT})*)?)\)$", re.M)
 FORMS = {
     "alloca": re.compile(rf"= alloca (?:{KIND}|\[\d+ x i8\]), align \d+$"),
     "load": re.compile(rf"= load {KIND}, ptr %[\w.]+, align \d+(?:, !(?:noundef|range) !\d+)*$"),
     "store": re.compile(rf"  store {KIND} [^ ,]+, ptr %[\w.]+, align \d+$"),
     "getelementptr": re.compile(r"= getelementptr (?:inbounds nuw )?i8, ptr %[\w.]+, i64 (?:\d+|%[\w.]+)$"),
-    "call": re.compile(CALL.pattern + r"|@llvm\.memmove\.p0\.p0\.i64\(ptr %[\w.]+, ptr %[\w.]+, i64 \d+, i1 false\)$"),
+    "call": re.compile(CALL.pattern + r"|@llvm\.memmove\.p0\.p0\.i64\(ptr %[\w.]+, ptr %[\w.]+, i64 \d+, i1 false\)$"
+                       r"|@llvm\.memset\.p0\.i64\(ptr %[\w.]+, i8 0, i64 \d+, i1 false\)$"),
 }
 NAMED = re.compile(r"(?:define|declare|  (?:%[\w.]+ = )?call) [\w ]*@[^@]*")
 PARAMETER = rf"{KIND} noundef(?: zeroext)? %a\d+"
@@ -73,6 +82,11 @@ INTERNAL = re.compile(rf'define internal (?:noundef (?:zeroext )?{KIND}|void) @"
                       rf"\((?:{PARAMETER}(?:, {PARAMETER})*)?\) #0 \{{$")
 BODY = re.compile(r"^define .*?^}", re.M | re.S)
 OUTER = re.compile(r"$|;|source_filename = |}$|define |declare |attributes #|target |!llvm\.ident = |!\d+ = !\{|[\w.]+:")
+
+# What a program has around it.
+MAIN = "define i32 @main() #0 {"
+OUTSIDE = {name: f"declare noundef i64 @{name}(i32 noundef, ptr noundef, i64 noundef) #1" for name in ("read", "write")}
+OUTSIDE_CALL = re.compile(r"  %[\w.]+ = call i64 @\w+\(i32 [^ ,]+, ptr %[\w.]+, i64 [^ ,]+\)")
 
 
 class Refused(Exception):
@@ -106,8 +120,6 @@ def check_names(number, line):
     for name in re.findall(r"@(llvm\.[\w.]+)", line):
         if name not in INTRINSICS:
             refuse(number, line, "an intrinsic that was not looked at")
-    if line.startswith("declare") and "@llvm." not in line:
-        refuse(number, line, "a function from outside")
 
 
 def check_instruction(number, line):
@@ -122,6 +134,8 @@ def check_instruction(number, line):
         refuse(number, line, "pointers are compared")
     if opcode[1] in FORMS and not FORMS[opcode[1]].search(line):
         refuse(number, line, f"a form of {opcode[1]} that was not looked at")
+    if re.search(rf"@(?:{'|'.join(OUTSIDE)})\(", line) and not OUTSIDE_CALL.fullmatch(line):
+        refuse(number, line, "a call to the outside that was not looked at")
 
 
 def check(number, line):
@@ -147,9 +161,11 @@ class Slots:
         self.fields = {name: (base, int(offset)) for name, base, offset in fields}
         self.kinds = {}
         for kind, place in re.findall(r"load (\w+), ptr (%[\w.]+)", body):
-            self.use(place, kind)
+            self.use(place, SIZES[kind], kind)
         for kind, place in re.findall(r"store (\w+) [^ ,]+, ptr (%[\w.]+)", body):
-            self.use(place, kind)
+            self.use(place, SIZES[kind], kind)
+        for place, kind, count in re.findall(r"@llvm\.memset\S*\(ptr (%[\w.]+), (i8) 0, i64 (\d+)", body):
+            self.use(place, int(count), kind)
         self.computed = set(re.findall(r"(%[\w.]+) = getelementptr (?:[a-z]+ )*i8, ptr %[\w.]+, i64 %", body))
         self.check_pointers(body)
         self.copies = re.findall(r"@llvm\.memmove\S*\(ptr [^%]*(%[\w.]+), ptr [^%]*(%[\w.]+), i64 (\d+)", body)
@@ -171,9 +187,9 @@ class Slots:
             offset += further
         return place, offset
 
-    def use(self, place, kind):
+    def use(self, place, count, kind):
         base, offset = self.at(place)
-        for byte in range(offset, offset + SIZES[kind]):
+        for byte in range(offset, offset + count):
             self.kinds.setdefault((base, byte), set()).add("pointer" if kind == "ptr" else "number")
 
     def copy(self, to, source, count):
@@ -197,9 +213,14 @@ class Slots:
                 raise Refused(f"a pointer at a computed place: {base} in {self.head}")
 
 
+@functools.cache  # a function is the same for all targets and levels
+def check_body(body):
+    Slots(body).check()
+
+
 def check_slots(text):
     for body in BODY.findall(text):
-        Slots(body).check()
+        check_body(body)
 
 
 # ---- What is changed
@@ -224,11 +245,10 @@ def exported(number, line, listed):
 class Module:
     """A module on its way to another target, line by line."""
 
-    def __init__(self, target, level):
+    def __init__(self, target, level, names):
         self.made = {"target datalayout": target.layout, "target triple": target.triple}
         self.attributes = "attributes #0 = { nounwind%s }" % LEVELS[level]
-        self.exports = exports()
-        self.missing = {*FACTS, *self.exports, "attributes #0"}
+        self.missing = {*FACTS, "attributes #0", *names}
         self.widened = []
         self.lines = []
 
@@ -249,11 +269,6 @@ class Module:
         self.missing.discard("attributes #0")
         return self.attributes
 
-    def define(self, number, line):
-        line, self.widened = exported(number, line, self.exports)
-        self.missing.discard(re.search(r"@(\w+)", line)[1])
-        return line
-
     def take(self, number, line):
         check(number, line)
         if line.startswith("target "):
@@ -262,6 +277,8 @@ class Module:
             line = self.attribute(number, line)
         elif re.match(r"define (?!internal )", line):
             line = self.define(number, line)
+        elif re.match(r"declare (?!.*@llvm\.)", line):
+            self.declare(number, line)
         self.lines.append(line)
         if line == "start:":
             self.lines += self.widened
@@ -271,6 +288,43 @@ class Module:
         if self.missing or self.widened:
             raise Refused(f"not found: {', '.join(sorted(self.missing)) or 'the start of a function'}")
         return "\n".join(self.lines)
+
+
+class Library(Module):
+    """The library's: it exports what the header has, and needs nothing from outside."""
+
+    def __init__(self, target, level):
+        self.exports = exports()
+        super().__init__(target, level, self.exports)
+
+    def define(self, number, line):
+        line, self.widened = exported(number, line, self.exports)
+        self.missing.discard(re.search(r"@(\w+)", line)[1])
+        return line
+
+    def declare(self, number, line):
+        refuse(number, line, "a function from outside")
+
+
+class Program(Module):
+    """A program's: it exports main, and needs read and write from outside."""
+
+    def __init__(self, target, level):
+        super().__init__(target, level, ["main", *OUTSIDE])
+
+    def define(self, number, line):
+        if line != MAIN:
+            refuse(number, line, "an exported function that is not main")
+        self.missing.discard("main")
+        return line
+
+    def declare(self, number, line):
+        if line not in OUTSIDE.values():
+            refuse(number, line, "a function from outside that was not looked at")
+        self.missing.discard(re.search(r"@(\w+)", line)[1])
+
+
+KINDS = {"library": Library, "program": Program}
 
 
 # ---- Alignment
@@ -291,6 +345,8 @@ class Alignment:
     def __init__(self, text):
         self.bodies = {name_of(body): body for body in BODY.findall(text)}
         self.parameters = {name: self.start(body) for name, body in self.bodies.items()}
+        for name, parameters in re.findall(r"^declare .*@(\w+)\((.*)\)", text, re.M):  # from outside
+            self.parameters[name] = dict.fromkeys(range(len(parameters.split(","))), 1)
         while any([self.lower(name) for name in self.bodies]):
             pass
 
@@ -335,19 +391,26 @@ def align_copies(text):
     return BODY.sub(lambda body: alignment.stated(body[0]), text)
 
 
-def retarget(text, target, level):
+def retarget(text, target, level, kind="library"):
     """The module for a target. It is checked as the kit wrote it; the copies' alignment comes last."""
-    module = Module(target, level)
+    if kind == "program" and not isinstance(target, WebAssembly):
+        raise Refused("a program is made for WebAssembly alone")
+    module = KINDS[kind](target, level)
     for number, line in enumerate(text.split("\n"), 1):
         module.take(number, line)
     check_slots(text)
     return align_copies(module.whole())
 
 
-if __name__ == "__main__":
-    if len(sys.argv) != 3 or sys.argv[1] not in TARGETS or sys.argv[2] not in LEVELS:
-        sys.exit(f"retarget.py {'|'.join(TARGETS)} {'|'.join(LEVELS)} < MODULE > MADE")
+def main(words):
+    lists = [TARGETS, LEVELS, KINDS]
+    if len(words) != len(lists) or any(word not in names for word, names in zip(words, lists)):
+        sys.exit(f"retarget.py {' '.join('|'.join(names) for names in lists)} < MODULE > MADE")
     try:
-        sys.stdout.write(retarget(sys.stdin.read(), TARGETS[sys.argv[1]], sys.argv[2]))
+        sys.stdout.write(retarget(sys.stdin.read(), TARGETS[words[0]], *words[1:]))
     except Refused as refused:
         sys.exit(f"retarget: {refused}")
+
+
+if __name__ == "__main__":
+    main(sys.argv[1:])

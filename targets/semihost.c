@@ -1,4 +1,7 @@
-/* machine.h for an emulated target: the emulator prints and ends the run, by its semihosting calls. */
+/*
+ * machine.h for an emulated target: the emulator prints and ends the run, by its semihosting calls. For WebAssembly the
+ * two calls are a function from outside, which wasm32/play.mjs has.
+ */
 #include "machine.h"
 
 #define SYS_WRITE0 0x04
@@ -7,6 +10,9 @@
 
 void finish(uint32_t status);
 
+#ifdef __wasm__
+void semihost(uint32_t operation, const void *argument);
+#else
 static void semihost(uint32_t operation, const void *argument)
 {
 #ifdef __arm__
@@ -28,6 +34,7 @@ static void semihost(uint32_t operation, const void *argument)
                      : "memory");
 #endif
 }
+#endif
 
 void print(const char *text)
 {

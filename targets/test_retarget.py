@@ -1,7 +1,7 @@
-"""Tests retarget.py on modules that it must refuse: the real one, each with a small edit, and the reason for the refusal.
-The alignment that it finds is tested on small modules.
+"""Tests retarget.py on modules that it must refuse: the real ones, of the library and of the program, each with a small
+edit, and the reason for the refusal. The alignment that it finds is tested on small modules.
 
-python3 targets/test_retarget.py    wants the module that build.py keeps in target/targets/module
+python3 targets/test_retarget.py    wants the modules that build.py keeps in target/targets/module
 """
 import re
 import sys
@@ -10,7 +10,7 @@ sys.dont_write_bytecode = True
 import build
 import retarget
 import tools
-from table import TARGETS
+from table import TARGETS, WebAssembly
 
 # The start of a function that is lent two places, %a0 and %a1.
 INSIDE = r"^(define internal void @\"[\w:]+\"\(ptr noundef %a0, ptr noundef %a1\) #0 \{\nstart:\n)"
@@ -19,6 +19,7 @@ INSIDE = r"^(define internal void @\"[\w:]+\"\(ptr noundef %a0, ptr noundef %a1\
 LENT = '@"base::of_build"'
 
 # An edit: what it makes, the pattern of the line that it changes (the first that is found), its new text, the reason.
+# These are of both modules.
 EDITS = [
     ("another triple", r'^target triple = ".*"', 'target triple = "aarch64-unknown-linux-gnu"', "not the target that"),
     ("another layout", r'^target datalayout = "e', 'target datalayout = "E', "not the target that"),
@@ -26,7 +27,7 @@ EDITS = [
     ("no attributes", r"^attributes #0 = .*\n", "", "not found: attributes #0"),
     ("another attribute", r"^attributes #0 = \{ nounwind", 'attributes #0 = { nounwind "frame-pointer"="all"',
      "not the attributes that"),
-    ("an attribute of an intrinsic", r"^attributes #1 = \{ nocallback", 'attributes #1 = { "target-cpu"="x86-64"',
+    ("an attribute of an intrinsic", r"^attributes (#[1-9]) = \{ nocallback", r'attributes \1 = { "target-cpu"="x86-64"',
      "attributes that were not looked at"),
     ("a global", r"^define ", "@table = internal constant [4 x i8] zeroinitializer\n\ndefine ", "a global"),
     ("a named type", r"^define ", "%pair = type { i32, i32 }\n\ndefine ", "a global, a named type"),
@@ -62,18 +63,6 @@ EDITS = [
     ("a function in the notes", r"^!1 = !\{\}", "!1 = !{ptr @ocb_send}", "a function is named outside"),
     ("an argument more", INSIDE, r"\1  call void %s(ptr %%a0, ptr %%a1)\n" % LENT, "a call that no function is for"),
     ("a call of no function", INSIDE, r'\1  call void @"base::no_such"(ptr %a0)\n', "a call that no function is for"),
-    ("an export that no header has", r"^define internal noundef i32 ", "define noundef i32 ", "a head of an exported"),
-    ("an export of another name", r"^(define .*)@ocb_send\(", r"\1@ocb_forget(", "the header does not have"),
-    ("an unknown number of 64 bits", r"(@ocb_send\(ptr noundef %a0, i64 noundef %a1,) i32", r"\1 i64",
-     "parameters that are not those"),
-    ("a count missing", r"(@ocb_frame_in\(ptr noundef %a0, i64 noundef %a1, ptr noundef %a2), i64 noundef %a3", r"\1",
-     "parameters that are not those"),
-    ("a count of bytes of 32 bits", r"(@ocb_frame_in\(.*) i64 noundef", r"\1 i32 noundef", "parameters that are not those"),
-    ("a count of words of 32 bits", r"(@ocb_frame_in\(ptr noundef %a0,) i64 noundef", r"\1 i32 noundef",
-     "parameters that are not those"),
-    ("a narrow answer", r"^define noundef i32 @ocb_idle", "define noundef i8 @ocb_idle", "not of 32 bits"),
-    ("an answer by memory", r"^define noundef i32 @ocb_idle", "define void @ocb_idle", "a head of an exported"),
-    ("an export missing", r"^define noundef i32 @ocb_idle\(.*?^}\n", "", "not found: ocb_idle"),
     ("a slot for both", INSIDE, r"\1  store ptr %a0, ptr %a1, align 8\n  %n = load i64, ptr %a1, align 8\n",
      "used as a pointer and as a number"),
     ("half a pointer", INSIDE, r"\1  store ptr %a0, ptr %a1, align 8\n  %f = getelementptr i8, ptr %a1, i64 4\n"
@@ -88,6 +77,50 @@ EDITS = [
      r"  call void @llvm.memmove.p0.p0.i64(ptr %a0, ptr %p, i64 8, i1 false)\n", "the place of a pointer is lent or copied"),
     ("the place of a pointer lent", INSIDE, r"\1  %p = alloca ptr, align 8\n  store ptr %p, ptr %a0, align 8\n",
      "the place of a pointer is lent or copied"),
+    ("a place filled with another number", INSIDE, r"\1  call void @llvm.memset.p0.i64(ptr %a0, i8 1, i64 8, i1 false)\n",
+     "a form of call"),
+    ("a place filled to a computed size", INSIDE, r"\1  call void @llvm.memset.p0.i64(ptr %a0, i8 0, i64 %n, i1 false)\n",
+     "a form of call"),
+    ("a pointer filled with zeros", INSIDE, r"\1  store ptr %a0, ptr %a1, align 8\n"
+     r"  %f = getelementptr i8, ptr %a1, i64 4\n  call void @llvm.memset.p0.i64(ptr %f, i8 0, i64 1, i1 false)\n",
+     "used as a pointer and as a number"),
+    ("the place of a pointer filled with zeros", INSIDE, r"\1  %p = alloca ptr, align 8\n"
+     r"  call void @llvm.memset.p0.i64(ptr %p, i8 0, i64 8, i1 false)\n", "the place of a pointer is lent or copied"),
+]
+
+# Edits of the library's module.
+LIBRARY_EDITS = [
+    ("an export that no header has", r"^define internal noundef i32 ", "define noundef i32 ", "a head of an exported"),
+    ("an export of another name", r"^(define .*)@ocb_send\(", r"\1@ocb_forget(", "the header does not have"),
+    ("an unknown number of 64 bits", r"(@ocb_send\(ptr noundef %a0, i64 noundef %a1,) i32", r"\1 i64",
+     "parameters that are not those"),
+    ("a count missing", r"(@ocb_frame_in\(ptr noundef %a0, i64 noundef %a1, ptr noundef %a2), i64 noundef %a3", r"\1",
+     "parameters that are not those"),
+    ("a count of bytes of 32 bits", r"(@ocb_frame_in\(.*) i64 noundef", r"\1 i32 noundef", "parameters that are not those"),
+    ("a count of words of 32 bits", r"(@ocb_frame_in\(ptr noundef %a0,) i64 noundef", r"\1 i32 noundef",
+     "parameters that are not those"),
+    ("a narrow answer", r"^define noundef i32 @ocb_idle", "define noundef i8 @ocb_idle", "not of 32 bits"),
+    ("an answer by memory", r"^define noundef i32 @ocb_idle", "define void @ocb_idle", "a head of an exported"),
+    ("an export missing", r"^define noundef i32 @ocb_idle\(.*?^}\n", "", "not found: ocb_idle"),
+    ("read from outside", r"^declare ", f"{retarget.OUTSIDE['read']}\n\ndeclare ", "a function from outside"),
+]
+
+# Edits of the program's module.
+PROGRAM_EDITS = [
+    ("an export besides main", r"^define internal noundef i64 @\"libc::read\"", "define noundef i64 @read_in",
+     "an exported function that is not main"),
+    ("an export of the library", r"^define i32 @main", "define noundef i32 @ocb_idle", "an exported function that is not main"),
+    ("a main with parameters", r"@main\(\)", "@main(i32 noundef %a0, ptr noundef %a1)", "an exported function that is not main"),
+    ("a narrow answer of main", r"^define i32 @main", "define i8 @main", "an exported function that is not main"),
+    ("no main", r"^define i32 @main\(.*?^}\n", "", "not found: main"),
+    ("a count of 32 bits from outside", r"(@write\(i32 noundef, ptr noundef,) i64 noundef", r"\1 i32 noundef",
+     "a function from outside"),
+    ("an answer of 32 bits from outside", r"^declare noundef i64 @read", "declare noundef i32 @read", "a function from outside"),
+    ("no read", r"^declare .*@read\(.*\n", "", "not found: read"),
+    ("a count of 32 bits to the outside", r"(call i64 @read\(i32 %\w+, ptr %\w+,) i64", r"\1 i32", "a call to the outside"),
+    ("a number for an address to the outside", r"(call i64 @write\(i32 %\w+,) ptr", r"\1 i64", "a call to the outside"),
+    ("an argument less to the outside", r"(call i64 @write\(i32 %\w+, ptr %\w+), i64 %\w+", r"\1", "a call to the outside"),
+    ("a narrow answer from the outside", r"call i64 @write", "call i32 @write", "a call to the outside"),
 ]
 
 # Small modules: what is tested, the alignment that the parameter %a of @"in" must have, and the lines of ocb_out, which C
@@ -131,17 +164,28 @@ def check_counts(made):
             raise tools.Trouble(f"retarget: other counts than those known: {found}")
 
 
-def try_edit(text, target, name, pattern, new, reason):
-    edited, count = re.subn(pattern, new, text, count=1, flags=re.M | re.S if "?" in pattern else re.M)
-    if count != 1 or edited == text:
-        raise tools.Trouble(f"retarget: the module has no place for an edit: {name}")
+def check_lines(text, made):
+    """Of a program nothing changes but the lines of the target, the attributes and the copies."""
+    for old, new in zip(text.split("\n"), made.split("\n"), strict=True):
+        if old != new and not re.match(r"target |attributes #0 |  call void @llvm\.memmove\.", old):
+            raise tools.Trouble(f"retarget: another line than those known: {new}")
+
+
+def must_refuse(text, target, kind, name, reason):
     try:
-        retarget.retarget(edited, target, "O2")
+        retarget.retarget(text, target, "O2", kind)
     except retarget.Refused as refused:
         if reason in str(refused):
             return
         raise tools.Trouble(f"retarget: {name}: refused for another reason: {refused}") from None
     raise tools.Trouble(f"retarget: {name}: not refused")
+
+
+def try_edit(text, target, kind, name, pattern, new, reason):
+    edited, count = re.subn(pattern, new, text, count=1, flags=re.M | re.S if "?" in pattern else re.M)
+    if count != 1 or edited == text:
+        raise tools.Trouble(f"retarget: the module has no place for an edit: {name}")
+    must_refuse(edited, target, kind, name, reason)
 
 
 def small_function(head, lines):
@@ -163,18 +207,42 @@ def try_alignment(name, wanted, outer, inner, by):
         raise tools.Trouble(f"retarget: {name}: another alignment than {wanted}")
 
 
-def test(names):
-    path = build.MODULE / "module.ll"
+def kept(part):
+    path = build.MODULE / f"{part.crate}.ll"
     if not path.exists():
         raise tools.Trouble("no module is kept: python3 targets/build.py keeps it")
-    text = path.read_text(encoding="utf-8")
+    return path.read_text(encoding="utf-8")
+
+
+def test_library(names):
+    """How many wrong modules were tried."""
+    text = kept(build.LIBRARY)
     for name in names:
         check_counts(retarget.retarget(text, TARGETS[name], "O2"))
-    for edit in EDITS:
-        try_edit(text, TARGETS[names[0]], *edit)  # the same for all: a row has no say in what is refused
+    for edit in EDITS + LIBRARY_EDITS:
+        try_edit(text, TARGETS[names[0]], "library", *edit)  # the same for all: a row has no say in what is refused
+    return len(EDITS + LIBRARY_EDITS)
+
+
+def test_program(target):
+    """How many wrong modules were tried; two are right ones, for another kind and for another target."""
+    text = kept(build.PROGRAM)
+    check_lines(text, retarget.retarget(text, target, "O2", "program"))
+    for edit in EDITS + PROGRAM_EDITS:
+        try_edit(text, target, "program", *edit)
+    must_refuse(kept(build.LIBRARY), target, "program", "the library as a program", "an exported function that is not main")
+    must_refuse(text, TARGETS["cortex-m0"], "program", "a program for a core", "for WebAssembly alone")
+    return len(EDITS + PROGRAM_EDITS) + 2
+
+
+def test(names):
+    tried = test_library(names)
+    for name in names:
+        if isinstance(TARGETS[name], WebAssembly):
+            tried += test_program(TARGETS[name])
     for case in ALIGNED:
         try_alignment(*case)
-    print(f"retarget: {len(EDITS)} wrong modules refused, {len(ALIGNED)} alignments found")
+    print(f"retarget: {tried} wrong modules refused, {len(ALIGNED)} alignments found")
 
 
 if __name__ == "__main__":

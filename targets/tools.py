@@ -1,4 +1,4 @@
-"""What the targets' commands run: the kit's compiler, and Debian's packages for the emulated machines.
+"""What the targets' commands run: the kit's compiler, and Debian's packages: emulators, their compilers, node.
 
 python3 targets/tools.py install [TARGET...]    installs the packages whose programs are missing, and says so; where that
                                                 cannot be done, one line names them and the status is 1
@@ -23,14 +23,18 @@ class Trouble(Exception):
 
 
 def run(words, **more):
-    """What a command writes; its own words where it fails."""
+    """What a command writes, as text; its own words where it fails."""
+    return run_bytes(words, **more).decode()
+
+
+def run_bytes(words, **more):
     words = [str(word) for word in words]
     try:
-        done = subprocess.run(words, stdout=subprocess.PIPE, stderr=subprocess.PIPE, text=True, **more)
+        done = subprocess.run(words, stdout=subprocess.PIPE, stderr=subprocess.PIPE, **more)
     except FileNotFoundError:
         raise Trouble(f"{words[0]} is missing") from None
     if done.returncode != 0:
-        sys.stderr.write(done.stdout + done.stderr)
+        sys.stderr.write((done.stdout + done.stderr).decode(errors="replace"))
         raise Trouble(f"{pathlib.Path(words[0]).name} ended with status {done.returncode}")
     return done.stdout
 
@@ -65,7 +69,7 @@ def missing(names):
 def need(names):
     packages = missing(names)
     if packages:
-        raise Trouble(f"the emulated machines' tools are missing: install the Debian packages {' '.join(packages)}")
+        raise Trouble(f"what runs the targets is missing: install the Debian packages {' '.join(packages)}")
 
 
 def install(names):
@@ -81,7 +85,7 @@ def install(names):
             except FileNotFoundError:
                 break
     if missing(names):
-        raise Trouble(f"the emulated machines' tools cannot be had: apt-get does not install {' '.join(missing(names))}"
+        raise Trouble(f"what runs the targets cannot be had: apt-get does not install {' '.join(missing(names))}"
                       " (target/targets/install.log says why)")
     print("targets: installed", *packages)
 

@@ -213,8 +213,8 @@ def print_needs():
 
 def print_lines():
     """The lines of the module that are changed for the target, as a difference. The commonest copy stands for all."""
-    old, new = ((folder / name).read_text(encoding="utf-8").splitlines()
-                for folder, name in ((build.MODULE, "module.ll"), (library("Os").parent, f"{build.CRATE}.ll")))
+    old, new = ((folder / f"{build.CRATE}.ll").read_text(encoding="utf-8").splitlines()
+                for folder in (build.MODULE, library("Os").parent))
     lines = [line for line in difflib.unified_diff(old, new, n=0, lineterm="")
              if not line.startswith(("---", "+++", "@@")) and line[1:] != "start:"]
     copies = list(zip(*([line for line in lines if line[0] == sign and COPY in line] for sign in "-+")))
