@@ -60,34 +60,44 @@ def chosen(words):
     return list(words) or list(TARGETS)
 
 
-def missing(names):
+def packages_of(names):
+    """The programs that the targets need, each with its Debian package."""
+    return {program: package for name in names for program, package in TARGETS[name].packages.items()}
+
+
+def missing(programs):
     """The Debian packages of programs that are not there."""
-    wanted = {program: package for name in names for program, package in TARGETS[name].packages.items()}
-    return sorted({package for program, package in wanted.items() if not shutil.which(program)})
+    return sorted({package for program, package in programs.items() if not shutil.which(program)})
 
 
 def need(names):
-    packages = missing(names)
+    packages = missing(packages_of(names))
     if packages:
         raise Trouble(f"what runs the targets is missing: install the Debian packages {' '.join(packages)}")
 
 
+def fetch(programs):
+    """Installs the packages of programs that are not there; those that were missing, and those that still are."""
+    packages = missing(programs)
+    if packages:
+        OUT.mkdir(parents=True, exist_ok=True)
+        quiet = {**os.environ, "DEBIAN_FRONTEND": "noninteractive"}
+        with open(OUT / "install.log", "w", encoding="utf-8") as log:
+            for words in (["update"], ["install", "-y", "--no-install-recommends", *packages]):
+                try:
+                    subprocess.run(["apt-get", *APT, *words], env=quiet, stdin=subprocess.DEVNULL, stdout=log, stderr=log)
+                except FileNotFoundError:
+                    break
+    return packages, missing(programs)
+
+
 def install(names):
-    packages = missing(names)
-    if not packages:
-        return
-    OUT.mkdir(parents=True, exist_ok=True)
-    quiet = {**os.environ, "DEBIAN_FRONTEND": "noninteractive"}
-    with open(OUT / "install.log", "w", encoding="utf-8") as log:
-        for words in (["update"], ["install", "-y", "--no-install-recommends", *packages]):
-            try:
-                subprocess.run(["apt-get", *APT, *words], env=quiet, stdin=subprocess.DEVNULL, stdout=log, stderr=log)
-            except FileNotFoundError:
-                break
-    if missing(names):
-        raise Trouble(f"what runs the targets cannot be had: apt-get does not install {' '.join(missing(names))}"
+    packages, lacking = fetch(packages_of(names))
+    if lacking:
+        raise Trouble(f"what runs the targets cannot be had: apt-get does not install {' '.join(lacking)}"
                       " (target/targets/install.log says why)")
-    print("targets: installed", *packages)
+    if packages:
+        print("targets: installed", *packages)
 
 
 def main(act, words):

@@ -1,5 +1,5 @@
-// A board of up to 16 nodes, played from a script as rehearse plays it. What a node does is up to the library; the items on the
-// links are kept here, oldest first.
+// A board of up to 16 nodes, played from a script as rehearse plays it. What a node does is up to the library; the
+// items on the links are kept here, oldest first.
 
 const NODES = 16, PLACES = 512, SCRIPT = 4096; // the rehearsal's limits: nodes, items under way, bytes of a script
 const KINDS = { s: "job", t: "note" }; // what a line sends
@@ -21,7 +21,8 @@ const textOf = ({ act, a, b }) => [act, a, b].filter((part) => part !== null).jo
 
 // ---- Playing
 
-// A board that has just started. left: how often each node has left a cycle; sent: by step the line that sent its frame last.
+// A board that has just started. left: how often each node has left a cycle; sent: by step the line that sent its frame
+// last.
 function opening(library, size) {
   const states = Array.from({ length: size }, (_, node) => library.fresh(size, node).state);
   return { size, states, items: [], event: null, sent: new Map(), left: new Array(size).fill(0) };
@@ -32,7 +33,8 @@ function withReply(stage, event, reply) {
   event.answer = reply.answer;
   event.after = reply.state;
   const states = stage.states.map((state, node) => (node === event.node ? reply.state : state));
-  const left = stage.left.map((count, node) => count + (node === event.node && reply.answer === OCB.OCB_LEFT ? 1 : 0));
+  const leaves = (node) => node === event.node && reply.answer === OCB.OCB_LEFT;
+  const left = stage.left.map((count, node) => count + (leaves(node) ? 1 : 0));
   return { ...stage, event, states, left };
 }
 
@@ -42,7 +44,8 @@ function sends(library, stage, event) {
   const reply = library.send(event.before, event.b);
   if (reply.answer !== OCB.OCB_DONE) return withReply(stage, event, reply);
   if (stage.items.length === PLACES) return crowded(stage, event);
-  const item = { line: event.line, from: event.a, to: event.b, kind: KINDS[event.act], phase: event.before[OCB.OCB_AT_PHASE], frame: null };
+  const { line, a: from, b: to } = event, kind = KINDS[event.act], phase = event.before[OCB.OCB_AT_PHASE];
+  const item = { line, from, to, kind, phase, frame: null };
   return { ...withReply(stage, event, reply), items: [...stage.items, item] };
 }
 
@@ -51,11 +54,13 @@ function calls(library, stage, event) {
   if (reply.answer === OCB.OCB_WAITS) event.clause = clause;
   if (reply.answer !== OCB.OCB_SENT) return withReply(stage, event, reply);
   if (PLACES - stage.items.length < count) return crowded(stage, event);
-  const phase = event.before[OCB.OCB_AT_PHASE], bytes = reply.bytes.slice(0, length), fields = library.fields(stage.size, bytes);
-  const step = [event.node, phase, fields[FIELDS.pass], fields[FIELDS.dimension]].join(" ");
-  event.frame = { to: [one, other].slice(0, count), bytes, fields, earlier: stage.sent.get(step) ?? 0 };
-  const items = event.frame.to.map((to) => ({ line: event.line, from: event.node, to, kind: "frame", phase, frame: event.frame }));
-  const sent = new Map(stage.sent).set(step, event.line);
+  const { line, node } = event, phase = event.before[OCB.OCB_AT_PHASE];
+  const bytes = reply.bytes.slice(0, length), fields = library.fields(stage.size, bytes);
+  const step = [node, phase, fields[FIELDS.pass], fields[FIELDS.dimension]].join(" ");
+  const frame = { to: [one, other].slice(0, count), bytes, fields, earlier: stage.sent.get(step) ?? 0 };
+  event.frame = frame;
+  const items = frame.to.map((to) => ({ line, from: node, to, kind: "frame", phase, frame }));
+  const sent = new Map(stage.sent).set(step, line);
   return { ...withReply(stage, event, reply), sent, items: [...stage.items, ...items] };
 }
 
@@ -73,7 +78,8 @@ function delivers(library, stage, event) {
 // The board after an event { act, a, b } of a line; .event has what happened.
 function played(library, stage, { act, a, b }, line) {
   const node = act === "d" ? b : a, before = stage.states[node];
-  const event = { line, act, a, b, node, text: textOf({ act, a, b }), before, after: before, clause: null, frame: null, item: null };
+  const text = textOf({ act, a, b });
+  const event = { line, act, a, b, node, text, before, after: before, clause: null, frame: null, item: null };
   if (act === "i") return withReply(stage, event, library.idle(before));
   return { s: sends, t: sends, b: calls, d: delivers }[act](library, stage, event);
 }
@@ -112,4 +118,7 @@ function printedOf({ stages, stop }) {
 }
 
 // The script of stages.
-const scriptOf = (stages) => [`nodes ${stages[0].size}`, ...stages.slice(1).map((stage) => stage.event.text)].map((line) => line + "\n").join("");
+function scriptOf(stages) {
+  const lines = [`nodes ${stages[0].size}`, ...stages.slice(1).map((stage) => stage.event.text)];
+  return lines.map((line) => line + "\n").join("");
+}

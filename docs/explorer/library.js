@@ -1,7 +1,7 @@
 "use strict";
-// The proved library and the proved program rehearse, as WebAssembly, with arrays for pointers; and what the words of a state
-// say. DATA.header has the numbers of include/ocb.h by name, DATA.boards by the nodes of a board where its states have what.
-// Nothing here or in board.js, sums.js, plan.js, words.js and address.js wants a browser.
+// The proved library and the proved program rehearse, as WebAssembly, with arrays for pointers; and what the words of a
+// state say. DATA.header has the numbers of include/ocb.h by name, DATA.boards by the nodes of a board where its states
+// have what. Nothing here or in board.js, sums.js, plan.js, words.js and address.js wants a browser.
 
 const OCB = DATA.header;
 const FIELDS = { pass: 0, phase: 1, dimension: 2, sender: 3, totalSent: 4, totalTaken: 5, total: 6, shells: 7 };
@@ -80,8 +80,12 @@ function stateOf(words) {
   const byShell = (list, k) => [...new Array(k).fill(0), ...list];
   const first = (at, k) => {
     const n = shells - k, list = numbers(at, 2 * n + 2);
-    return list && { sent: byShell(list.slice(0, n), k), taken: byShell(list.slice(n, 2 * n), k),
-      totalSent: list[2 * n], totalTaken: list[2 * n + 1] };
+    return list && {
+      sent: byShell(list.slice(0, n), k),
+      taken: byShell(list.slice(n, 2 * n), k),
+      totalSent: list[2 * n],
+      totalTaken: list[2 * n + 1],
+    };
   };
   const second = (at) => {
     const list = numbers(at, 2);

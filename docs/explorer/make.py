@@ -1,11 +1,12 @@
 #!/usr/bin/env python3
 """Makes docs/explorer.html, a page that plays boards with the proved code: one file, which loads nothing.
 
-python3 docs/explorer/make.py          writes it
-python3 docs/explorer/make.py check    makes it in memory and ends with status 1 where it is not what docs/explorer.html has
+python3 docs/explorer/make.py          builds the proved code as WebAssembly (targets/build.py wasm32), and writes the page
+python3 docs/explorer/make.py join     writes it from what is built
+python3 docs/explorer/make.py check    joins it in memory and ends with status 1 where docs/explorer.html is another
 
-In the page are the WebAssembly files that `python3 targets/build.py wasm32` builds, the scripts of the repository, the words for
-answers and refusals from docs/BARRIER.md, and from include/ocb.h the numbers, and where a state has its tallies and frames.
+In the page are barrier.wasm and rehearse.wasm, the scripts of the repository, the words for answers and refusals from
+docs/BARRIER.md, and from include/ocb.h the numbers, and where a state has its tallies and stored frames.
 """
 import base64
 import hashlib
@@ -16,11 +17,13 @@ import sys
 
 sys.dont_write_bytecode = True
 HERE = pathlib.Path(__file__).resolve().parent
-sys.path.insert(0, str(HERE.parent))
+sys.path[:0] = [str(HERE.parent), str(HERE.parent.parent / "targets")]
 import played
+import tools
+import wasm
 
 PAGE = played.ROOT / "docs" / "explorer.html"
-BUILT = played.ROOT / "target" / "targets" / "wasm32" / "Os"
+BUILT = tools.OUT / "wasm32" / "Os"
 CODE = ["library.js", "board.js", "sums.js", "plan.js", "address.js", "words.js", "drawing.js"]
 NODES = 16  # of the largest board that rehearse plays
 ROW = re.compile(r"^\| (\d+) \| `OCB_\w+` \| ([a-z ]+) \| (.*) \|$", re.MULTILINE)
@@ -69,11 +72,12 @@ def header():
 
 def data():
     answers, refusals = tables()
-    files = {name: played.read(BUILT / f"{name}.wasm") for name in ("barrier", "rehearse")}
-    made = " ".join(f"{name}.wasm: {len(held):,} bytes, SHA-256 {hashlib.sha256(held).hexdigest()}." for name, held in files.items())
+    files = {name: played.read(BUILT / name) for name in (wasm.LIBRARY, wasm.PROGRAM)}
+    sums = [f"{name}: {len(held):,} bytes, SHA-256 {hashlib.sha256(held).hexdigest()}." for name, held in files.items()]
     scripts = {path.name: path.read_text(encoding="utf-8") for path in sorted(played.SCRIPTS.iterdir()) if path.is_file()}
-    found = {"header": header(), "boards": boards(), "answers": answers, "refusals": refusals, "scripts": scripts, "made": made}
-    found.update((name, base64.b64encode(held).decode()) for name, held in files.items())
+    found = {"header": header(), "boards": boards(), "answers": answers, "refusals": refusals, "scripts": scripts,
+             "made": " ".join(sums)}
+    found.update((name.split(".")[0], base64.b64encode(held).decode()) for name, held in files.items())
     return "const DATA = " + json.dumps(found, ensure_ascii=False).replace("</", "<\\/") + ";\n"
 
 
@@ -86,19 +90,22 @@ def page():
     return text
 
 
-def main(words):
-    if words not in ([], ["check"]):
-        sys.exit("python3 docs/explorer/make.py [check]")
-    try:
-        made = page().encode("utf-8")
-        if words and played.read(PAGE) != made:
-            raise played.Trouble("docs/explorer.html is not what docs/explorer/make.py makes now: make it anew")
-    except played.Trouble as trouble:
-        sys.exit(f"explorer: {trouble}")
-    if not words:
+def act(word):
+    if word == "make":
+        tools.run([sys.executable, tools.HERE / "build.py", "wasm32"])
+    made = page().encode("utf-8")
+    if word != "check":
         PAGE.write_bytes(made)
-    print(f"explorer: docs/explorer.html, {len(made):,} bytes, {'as it is made now' if words else 'made'}")
+    elif played.read(PAGE) != made:
+        raise played.Trouble("docs/explorer.html is not what docs/explorer/make.py makes now: make it anew")
+    print(f"explorer: docs/explorer.html, {len(made):,} bytes, {'as it is made now' if word == 'check' else 'made'}")
 
 
 if __name__ == "__main__":
-    main(sys.argv[1:])
+    asked = sys.argv[1:] or ["make"]
+    if asked not in (["make"], ["join"], ["check"]):
+        sys.exit("python3 docs/explorer/make.py [join|check]")
+    try:
+        act(*asked)
+    except (played.Trouble, tools.Trouble) as trouble:
+        sys.exit(f"explorer: {trouble}")

@@ -1,9 +1,21 @@
 // The page: what is shown, and what a click does.
 
 let library, rehearse;
-// All stages of the script, how many of its events are played, what stopped it and its bytes then, the preset that it is, a text
-// that has no first line to play, slow links, whether every row of the chart is shown, and the timer of a run.
-const show = { stages: [], at: 0, stop: null, bytes: null, preset: "", rejected: null, note: "", slow: new Set(), all: false, timer: null };
+// All stages of the script, how many of its events are played, what stopped it and its bytes then, the preset that it
+// is, a text that has no first line to play, slow links, whether every row of the chart is shown, and the timer of a
+// run.
+const show = {
+  stages: [],
+  at: 0,
+  stop: null,
+  bytes: null,
+  preset: "",
+  rejected: null,
+  note: "",
+  slow: new Set(),
+  all: false,
+  timer: null,
+};
 const ROWS = 120; // of the chart, unless all are asked for
 const PACE = 900; // milliseconds between two events of a run
 const $ = (id) => document.getElementById(id);
@@ -17,13 +29,15 @@ function make(tag, attributes, ...inside) {
     if (name === "onclick") element.addEventListener("click", value);
     else if (value !== false) element.setAttribute(name, value);
   }
-  element.append(...inside.filter((part) => part !== null).map((part) => (part instanceof Node ? part : String(part))));
+  const parts = inside.filter((part) => part !== null);
+  element.append(...parts.map((part) => (part instanceof Node ? part : String(part))));
   return element;
 }
 
 function tableOf(caption, heads, rows) {
   const cells = (tag, list) => make("tr", {}, ...list.map((cell) => make(tag, {}, cell)));
-  return make("table", {}, caption && make("caption", {}, caption), cells("th", heads), ...rows.map((row) => cells("td", row)));
+  const title = caption && make("caption", {}, caption);
+  return make("table", {}, title, cells("th", heads), ...rows.map((row) => cells("td", row)));
 }
 
 function fill(select, entries, value = select.value) {
@@ -135,24 +149,48 @@ function address() {
   return addressOf({ preset: "", text, line: null });
 }
 
-function drawSaid() {
-  const stage = stageNow(), { event } = stage, last = show.stages.length - 1, inside = [];
+// Where the steps stand, and which of them can be taken.
+function drawSteps() {
+  const last = show.stages.length - 1;
   $("at").max = last;
   $("at").value = show.at;
   $("count").textContent = `${show.at} of ${last} events`;
-  for (const [ids, stop] of [[["first", "back"], 0], [["forward", "last"], last]]) for (const id of ids) $(id).disabled = show.at === stop;
+  for (const id of ["first", "back"]) $(id).disabled = show.at === 0;
+  for (const id of ["forward", "last"]) $(id).disabled = show.at === last;
   $("run").setAttribute("aria-pressed", String(show.timer !== null));
   $("run").disabled = last === 0;
-  if (event === null) {
-    inside.push(make("div", {}, make("b", {}, `A board of ${stage.size} has started: ${stage.size === 1 ? "its node is" : "all nodes are"} busy, in phase 0.`)));
-    inside.push(make("div", { class: "quiet" }, "Let something happen at a node, play the cycle to its end, or take a script."));
-  } else {
-    const what = make("b", { class: isRefused(event.answer) ? "bad" : "" }, capital(eventWords(event)));
-    inside.push(make("div", {}, make("span", { class: "quiet" }, `Line ${event.line}, `), make("code", {}, event.text), ": ", what,
-      make("span", { class: "quiet" }, ` (answer ${event.answer})`)), make("div", { class: "quiet" }, moreWords(library, stage, event)));
-  }
+}
+
+function saidAtStart({ size }) {
+  const nodes = size === 1 ? "its node is" : "all nodes are";
+  const next = "Let something happen at a node, play the cycle to its end, or take a script.";
+  return [
+    make("div", {}, make("b", {}, `A board of ${size} has started: ${nodes} busy, in phase 0.`)),
+    make("div", { class: "quiet" }, next),
+  ];
+}
+
+function saidOfEvent(stage) {
+  const { event } = stage, quiet = (words) => make("span", { class: "quiet" }, words);
+  const what = make("b", { class: isRefused(event.answer) ? "bad" : "" }, capital(eventWords(event)));
+  const line = [quiet(`Line ${event.line}, `), make("code", {}, event.text), ": ", what];
+  return [
+    make("div", {}, ...line, quiet(` (answer ${event.answer})`)),
+    make("div", { class: "quiet" }, moreWords(library, stage, event)),
+  ];
+}
+
+function saidOfStop() {
+  const message = $("printed").textContent.trim().split("\n").at(-1);
+  return make("div", { class: "bad" }, "rehearse says: ", make("code", {}, message), ` (${stopWords()})`);
+}
+
+function drawSaid() {
+  const stage = stageNow(), last = show.stages.length - 1;
+  drawSteps();
+  const inside = stage.event === null ? saidAtStart(stage) : saidOfEvent(stage);
   const stopped = show.rejected !== null || (show.stop !== null && show.at === last);
-  if (stopped) inside.push(make("div", { class: "bad" }, "rehearse says: ", make("code", {}, $("printed").textContent.trim().split("\n").at(-1)), ` (${stopWords()})`));
+  if (stopped) inside.push(saidOfStop());
   if (show.note) inside.push(make("div", { class: "bad" }, show.note));
   $("said").replaceChildren(...inside);
 }
@@ -165,18 +203,34 @@ function stopWords() {
   return why === OCB.OCB_BOARD ? `${word}: a board has 1 to ${NODES} nodes here` : `${word}: ${when}`;
 }
 
-function nodeCard(stage, a) {
-  const state = stateOf(stage.states[a]);
-  const press = (act, words, title) => make("button", { id: `${act}-${a}`, title, onclick: () => add([{ act, a, b: null }]) }, words);
+// What a node is in: the head of its card.
+function nodeHead(state, a) {
+  const pill = make("span", { class: `pill${state.busy ? " busy" : ""}` }, state.busy ? "busy" : "idle");
+  const step = `phase ${state.phase}, ${namedStep(state)}, flag ${state.flag}, T ${state.total}`;
+  return make("div", { class: "row" }, make("b", {}, `Node ${a}`), pill, make("span", { class: "quiet" }, step));
+}
+
+// What can happen at a node.
+function nodeButtons(stage, a) {
+  const button = (act, title, words, receiver) => {
+    const onclick = () => add([{ act, a, b: receiver() }]);
+    return make("button", { id: `${act}-${a}`, title, onclick }, words);
+  };
   const to = make("select", { id: `to-${a}`, "aria-label": `receiver of node ${a}` });
   fill(to, stage.states.map((_, b) => [b, b === a ? `${b}, itself` : b]), receivers.get(a) ?? (a + 1) % stage.size);
   to.addEventListener("change", () => receivers.set(a, Number(to.value)));
-  const send = (act) => make("button", { id: `${act}-${a}`, title: `${act} ${a} …`, onclick: () => add([{ act, a, b: Number(to.value) }]) }, capital(KINDS[act]));
-  return make("div", { class: `card${stage.event?.node === a ? " just" : ""}`, role: "group", "aria-label": `node ${a}` },
-    make("div", { class: "row" }, make("b", {}, `Node ${a}`), make("span", { class: `pill${state.busy ? " busy" : ""}` }, state.busy ? "busy" : "idle"),
-      make("span", { class: "quiet" }, `phase ${state.phase}, ${namedStep(state)}, flag ${state.flag}, T ${state.total}`)),
+  const press = (act, words) => button(act, `${act} ${a}`, words, () => null);
+  const send = (act) => button(act, `${act} ${a} …`, capital(KINDS[act]), () => Number(to.value));
+  const parts = [press("i", "Out of work"), press("b", "Barrier call"), send("s"), send("t"), "to", to];
+  return make("div", { class: "row" }, ...parts);
+}
+
+function nodeCard(stage, a) {
+  const names = `card${stage.event?.node === a ? " just" : ""}`;
+  return make("div", { class: names, role: "group", "aria-label": `node ${a}` },
+    nodeHead(stateOf(stage.states[a]), a),
     make("div", { class: "quiet" }, standing(library, stage, a)),
-    make("div", { class: "row" }, press("i", "Out of work", `i ${a}`), press("b", "Barrier call", `b ${a}`), send("s"), send("t"), "to", to));
+    nodeButtons(stage, a));
 }
 
 const receivers = new Map(); // the receiver that is chosen at each node
@@ -186,30 +240,40 @@ function drawNodes() {
   $("nodes").replaceChildren(...stage.states.map((_, a) => nodeCard(stage, a)));
 }
 
-const itemWords = (item) => (item.frame === null ? item.kind : `frame of ${frameStep(item.frame)}`) + `, line ${item.line}`;
-const itemClass = (item) => (item.frame === null ? item.kind : item.frame.fields[FIELDS.pass] === 1 ? "first" : "second");
+const itemWords = (item) =>
+  (item.frame === null ? item.kind : `frame of ${frameStep(item.frame)}`) + `, line ${item.line}`;
+const itemClass = (item) =>
+  (item.frame === null ? item.kind : item.frame.fields[FIELDS.pass] === 1 ? "first" : "second");
 
 function linkRow(items) {
   const [{ from, to }] = items, link = linkOf(items[0]), slow = show.slow.has(link);
-  return make("div", { class: "link row" }, make("b", {}, `${from} → ${to}`),
-    make("button", { id: `d-${from}-${to}`, title: `d ${from} ${to}`, onclick: () => add([{ act: "d", a: from, b: to }]) }, "Deliver"),
+  const deliver = () => add([{ act: "d", a: from, b: to }]);
+  return make("div", { class: "link row" },
+    make("b", {}, `${from} → ${to}`),
+    make("button", { id: `d-${from}-${to}`, title: `d ${from} ${to}`, onclick: deliver }, "Deliver"),
     ...items.slice(0, 6).map((item) => make("span", { class: `item ${itemClass(item)}` }, itemWords(item))),
     items.length > 6 ? make("span", { class: "quiet" }, `and ${items.length - 6} more`) : null,
     make("button", { id: `slow-${from}-${to}`, "aria-pressed": String(slow), onclick: () => markSlow(link) }, "slow"));
 }
 
+function slowLink(link) {
+  const [from, to] = link.split(" "), words = `${from} → ${to} is slow: not any more`;
+  return make("button", { id: `quick-${from}-${to}`, onclick: () => markSlow(link) }, words);
+}
+
 function drawLinks() {
-  const { items, size } = stageNow(), links = oldestItems(stageNow()).map((oldest) => items.filter((item) => linkOf(item) === linkOf(oldest)));
-  $("links").replaceChildren(...(links.length > 0 ? links.map(linkRow) : [make("span", { class: "quiet" }, "Nothing is under way.")]));
-  for (const [id, node] of [["slow-from", 0], ["slow-to", 1]]) fill($(id), Array.from({ length: size }, (_, at) => [at, at]), $(id).value || node);
-  $("slow-links").replaceChildren(...[...show.slow].map((link) => {
-    const [from, to] = link.split(" ");
-    return make("button", { id: `quick-${from}-${to}`, onclick: () => markSlow(link) }, `${from} → ${to} is slow: not any more`);
-  }));
+  const { items, size } = stageNow(), entries = Array.from({ length: size }, (_, at) => [at, at]);
+  const onLink = (oldest) => items.filter((item) => linkOf(item) === linkOf(oldest));
+  const rows = oldestItems(stageNow()).map((oldest) => linkRow(onLink(oldest)));
+  const none = make("span", { class: "quiet" }, "Nothing is under way.");
+  $("links").replaceChildren(...(rows.length > 0 ? rows : [none]));
+  for (const [id, node] of [["slow-from", 0], ["slow-to", 1]]) fill($(id), entries, $(id).value || node);
+  $("slow-links").replaceChildren(...[...show.slow].map(slowLink));
 }
 
 function drawChart() {
-  const stages = playedNow(), hidden = stages.length - 1 - ROWS, first = show.all || hidden <= 0 ? 2 : hidden + 2;
+  const stages = playedNow(), hidden = stages.length - 1 - ROWS;
+  const first = show.all || hidden <= 0 ? 2 : hidden + 2;
   const [titles, rows] = chartOf(stages, first), button = $("all-rows");
   button.hidden = hidden <= 0;
   button.textContent = show.all ? `Show the last ${ROWS} events alone` : `Show the ${hidden} events before these too`;
@@ -217,16 +281,30 @@ function drawChart() {
   $("chart").scrollTop = $("chart").scrollHeight;
 }
 
+// The nodes of a node's shell k, in words.
+function shellWords(stage, node, k) {
+  const others = stage.states.map((_, other) => other).filter((other) => other !== node);
+  return nodesWords(others.filter((other) => library.distance(stage.size, node, other) === k));
+}
+
+// The stored frames of a step of both passes.
+function keptFrames(k, first, second) {
+  const upper = (list) => list.slice(k).join(" ");
+  const firstWords = ({ sent, taken, totalSent, totalTaken }) =>
+    `pass 1: sent ${upper(sent)}, taken ${upper(taken)}, totals ${totalSent} and ${totalTaken}`;
+  const secondWords = ({ total, totalSent }) => `pass 2: T ${total}, total sent ${totalSent}`;
+  return make("div", {},
+    first && make("div", {}, firstWords(first)),
+    second && make("div", {}, secondWords(second)),
+    first || second ? null : "none");
+}
+
 // Tallies and stored frames of a node, a row for each shell.
 function keptTable(stage, node) {
-  const state = stateOf(stage.states[node]), shells = state.sent.map((_, k) => k);
-  if (shells.length === 0) return make("p", { class: "quiet" }, "A board of one has no other node to count for.");
-  const upper = (list, k) => list.slice(k).join(" ");
-  const first = (k, frame) => frame && make("div", {}, `pass 1: sent ${upper(frame.sent, k)}, taken ${upper(frame.taken, k)}, totals ${frame.totalSent} and ${frame.totalTaken}`);
-  const second = (frame) => frame && make("div", {}, `pass 2: T ${frame.total}, total sent ${frame.totalSent}`);
-  const frames = (k) => make("div", {}, first(k, state.first[k]), second(state.second[k]), state.first[k] || state.second[k] ? null : "none");
-  const nodes = (k) => nodesWords(stage.states.map((_, b) => b).filter((b) => b !== node && library.distance(stage.size, node, b) === k));
-  return tableOf(`Node ${node}`, ["Shell", "Sent", "Taken", "Stored frames"], shells.map((k) => [`${k}: ${nodes(k)}`, state.sent[k], state.taken[k], frames(k)]));
+  const { sent, taken, first, second } = stateOf(stage.states[node]);
+  if (sent.length === 0) return make("p", { class: "quiet" }, "A board of one has no other node to count for.");
+  const row = (_, k) => [`${k}: ${shellWords(stage, node, k)}`, sent[k], taken[k], keptFrames(k, first[k], second[k])];
+  return tableOf(`Node ${node}`, ["Shell", "Sent", "Taken", "Stored frames"], sent.map(row));
 }
 
 function drawKept() {
@@ -235,28 +313,33 @@ function drawKept() {
 }
 
 function drawPartners() {
-  const stage = stageNow(), { size } = stage, all = stage.states.map((_, node) => node), ks = DATA.boards[size].sent.map((_, k) => k);
-  const inside = $("places").querySelector("div"), shell = (a, k) => nodesWords(all.filter((b) => b !== a && library.distance(size, a, b) === k));
+  const stage = stageNow(), { size } = stage, inside = $("places").querySelector("div");
+  const all = stage.states.map((_, node) => node), ks = DATA.boards[size].sent.map((_, k) => k);
   if (ks.length === 0) {
     $("partners").textContent = "A board of one has no steps: its node leaves when it is idle.";
     return inside.replaceChildren();
   }
   $("partners").innerHTML = partnersOf(library, stage);
+  const heads = (name) => ["Node", ...ks.map((k) => `${name} ${k}`)];
+  const rows = (words) => all.map((node) => [node, ...ks.map((k) => words(node, k))]);
   inside.replaceChildren(
-    tableOf("Places", ["Node", ...ks.map((k) => `Dimension ${k}`)], all.map((a) => [a, ...ks.map((k) => placeWords(library.place(size, k, a)))])),
-    tableOf("Shells", ["Node", ...ks.map((k) => `Shell ${k}`)], all.map((a) => [a, ...ks.map((k) => shell(a, k))])));
+    tableOf("Places", heads("Dimension"), rows((node, k) => placeWords(library.place(size, k, node)))),
+    tableOf("Shells", heads("Shell"), rows((node, k) => shellWords(stage, node, k))));
 }
 
 // The script, what rehearse prints for it, and whether the page shows the same.
 function drawScript() {
   const stages = playedNow(), stop = show.at === show.stages.length - 1 ? show.stop : null;
-  const bytes = show.rejected ?? (stop === null ? bytesOf(scriptOf(stages)) : show.bytes), printed = rehearse(bytes);
+  const bytes = show.rejected ?? (stop === null ? bytesOf(scriptOf(stages)) : show.bytes);
+  const printed = rehearse(bytes);
   const own = show.rejected === null ? { stages, stop } : stagesOf(library, show.rejected);
   if (document.activeElement !== $("script")) $("script").value = new TextDecoder().decode(bytes);
   const same = printed === printedOf(own);
   $("printed").textContent = printed;
   $("printed").scrollTop = $("printed").scrollHeight;
-  $("same").textContent = same ? "What the page shows is the same, line by line." : "What the page shows is something else: do not trust it.";
+  $("same").textContent = same
+    ? "What the page shows is the same, line by line."
+    : "What the page shows is something else: do not trust it.";
   $("same").className = same ? "quiet" : "bad";
 }
 
@@ -274,8 +357,8 @@ function draw() {
   }
 }
 
-// Elements are made anew: the one that had the focus has it again. Where it is gone, as the button of a link that is empty now,
-// or can't have it any more, its neighbour has it.
+// Elements are made anew: the one that had the focus has it again. Where it is gone, as the button of a link that is
+// empty now, or can't have it any more, its neighbour has it.
 function keepFocus(id) {
   if (!id || document.activeElement?.id === id) return;
   const usable = (element) => element !== null && !element.disabled && element;
@@ -286,7 +369,8 @@ function keepFocus(id) {
 // ---- The start
 
 function setLooks() {
-  const wish = $("colours").value, dark = wish === "" ? matchMedia("(prefers-color-scheme: dark)").matches : wish === "dark";
+  const wish = $("colours").value;
+  const dark = wish === "" ? matchMedia("(prefers-color-scheme: dark)").matches : wish === "dark";
   document.documentElement.dataset.colours = dark ? "dark" : "light";
   document.documentElement.style.fontSize = `${$("text-size").value}px`;
 }
@@ -302,26 +386,62 @@ function pressed(event) {
   const own = event.target.closest("input, select, textarea, [tabindex]") !== null;
   if (own || event.altKey || event.ctrlKey || event.metaKey || moves[event.key] === undefined) return;
   event.preventDefault();
+  jump(moves[event.key]);
+}
+
+function markChosen() {
+  const from = $("slow-from").value, to = $("slow-to").value;
+  if (from !== to) markSlow(`${from} ${to}`);
+}
+
+function allRows() {
+  show.all = !show.all;
+  draw();
+}
+
+// To a moment that is chosen by hand.
+function jump(at) {
   stopRun();
-  go(moves[event.key]);
+  go(at);
+}
+
+function playPreset() {
+  const preset = $("preset").value;
+  if (preset) play(bytesOf(DATA.scripts[preset]), { preset });
+}
+
+async function openFile() {
+  if ($("load").files.length > 0) play(new Uint8Array(await $("load").files[0].arrayBuffer()));
+  $("load").value = "";
+}
+
+function jumpToRow({ target }) {
+  const row = target.closest("[data-line]");
+  if (row) jump(row.dataset.line - 1);
 }
 
 function listen() {
   const clicks = {
-    anew: () => play(bytesOf(`nodes ${$("size").value}\n`)), first: () => go(0), back: () => go(show.at - 1), forward: () => go(show.at + 1),
-    last: () => go(Infinity), run, happen, end, save, copy: copyLink, play: () => play(bytesOf($("script").value)),
-    slow: () => $("slow-from").value !== $("slow-to").value && markSlow(`${$("slow-from").value} ${$("slow-to").value}`),
-    "all-rows": () => { show.all = !show.all; draw(); },
+    anew: () => play(bytesOf(`nodes ${$("size").value}\n`)),
+    first: () => go(0),
+    back: () => go(show.at - 1),
+    forward: () => go(show.at + 1),
+    last: () => go(Infinity),
+    run,
+    happen,
+    end,
+    save,
+    copy: copyLink,
+    play: () => play(bytesOf($("script").value)),
+    slow: markChosen,
+    "all-rows": allRows,
   };
   for (const [id, act] of Object.entries(clicks)) $(id).addEventListener("click", act);
   $("event").addEventListener("keydown", (event) => event.key === "Enter" && happen());
-  $("at").addEventListener("input", () => { stopRun(); go(Number($("at").value)); });
-  $("preset").addEventListener("change", () => $("preset").value && play(bytesOf(DATA.scripts[$("preset").value]), { preset: $("preset").value }));
-  $("load").addEventListener("change", async () => {
-    if ($("load").files.length > 0) play(new Uint8Array(await $("load").files[0].arrayBuffer()));
-    $("load").value = "";
-  });
-  $("chart").addEventListener("click", ({ target }) => { const row = target.closest("[data-line]"); if (row) { stopRun(); go(row.dataset.line - 1); } });
+  $("at").addEventListener("input", () => jump(Number($("at").value)));
+  $("preset").addEventListener("change", playPreset);
+  $("load").addEventListener("change", openFile);
+  $("chart").addEventListener("click", jumpToRow);
   for (const id of ["colours", "text-size"]) $(id).addEventListener("change", setLooks);
   matchMedia("(prefers-color-scheme: dark)").addEventListener("change", setLooks);
   document.addEventListener("keydown", pressed);

@@ -1,5 +1,5 @@
-// The events that end a cycle, chosen as slow, fast or random links would have them. Each choice is tried on the board first, so
-// that no barrier call is made that would wait, and no early item is delivered.
+// The events that end a cycle, chosen as slow, fast or random links would have them. Each choice is tried on the board
+// first, so that no barrier call is made that would wait, and no early item is delivered.
 
 // Numbers below a bound from a seed, the same on every machine.
 function drawing(seed) {
@@ -36,7 +36,8 @@ function choices(library, stage) {
 function chosen({ deliveries, calls }, { speed, slow }, below) {
   const isSlow = ({ event }) => slow.has(`${event.a} ${event.b}`);
   const late = deliveries.filter(isSlow), quick = deliveries.filter((one) => !isSlow(one));
-  if (speed === "random" && quick.length + calls.length > 0) return [...quick, ...calls][below(quick.length + calls.length)];
+  const soon = [...quick, ...calls];
+  if (speed === "random" && soon.length > 0) return soon[below(soon.length)];
   const order = speed === "slow" ? [calls, quick, late] : [quick, calls, late];
   return order.find((list) => list.length > 0)?.[0];
 }

@@ -1,5 +1,6 @@
-// The own sums of a node at its step, and the clauses of that step with the numbers that each compares. The library decides; this
-// shows with what. That both agree is tested: a frame that is sent has these sums, and a wait names the first clause that fails.
+// The own sums of a node at its step, and the clauses of that step with the numbers that each compares. The library
+// decides; this shows with what. That both agree is tested: a frame that is sent has these sums, and a wait names the
+// first clause that fails.
 
 const added = (list) => list.reduce((sum, number) => sum + number, 0);
 
@@ -16,8 +17,9 @@ function sumsOf(state) {
   };
 }
 
-// The clauses of a node's step in their order, each with what it compares: [number, words, number, words, number]. Without a
-// stored frame there are none to compare. Clause 3, a sum above the limit, fails in no run from fresh nodes and is left out.
+// The clauses of a node's step in their order, each with what it compares: [number, words, number, words, number].
+// Without a stored frame there are none to compare. Clause 3, a sum above the limit, fails in no run from fresh nodes
+// and is left out.
 function clausesOf(state) {
   const own = sumsOf(state), k = state.dimension, last = k + 1 === state.first.length;
   const frame = state.pass === 1 ? state.first[k] : state.second[k];

@@ -12,7 +12,12 @@ const isRefused = (answer) => answer !== OCB.OCB_DONE && answer !== OCB.OCB_EARL
 const nodesWords = (list) => (list.length > 2 ? `${list[0]} to ${list.at(-1)}` : joined(list) || "none");
 
 function placeWords([kind, awaited, hermit]) {
-  return ["alone", `hermit, awaits ${awaited}`, `neighbour of ${awaited}`, `neighbour of ${awaited} and messenger to ${hermit}`][kind];
+  return [
+    "alone",
+    `hermit, awaits ${awaited}`,
+    `neighbour of ${awaited}`,
+    `neighbour of ${awaited} and messenger to ${hermit}`,
+  ][kind];
 }
 
 // The nodes whose counts are together at a node before dimension k: its run.
@@ -24,7 +29,8 @@ function runOf(library, size, k, node) {
 // Whether a delivery moved its node to an earlier step of the same cycle.
 function fellBack({ item, before, after }) {
   const [was, is] = [stateOf(before), stateOf(after)];
-  return item !== null && is.phase === was.phase && (is.pass < was.pass || (is.pass === was.pass && is.dimension < was.dimension));
+  const isEarlier = is.pass < was.pass || (is.pass === was.pass && is.dimension < was.dimension);
+  return item !== null && is.phase === was.phase && isEarlier;
 }
 
 // ---- What happened
@@ -40,11 +46,17 @@ function deliveryWords(event) {
   return came + (effects.length > 0 ? `, which ${effects.join(" and ")}` : "");
 }
 
+function sentWords({ node, frame }) {
+  const again = frame.earlier ? " again" : "";
+  return `${node} sends its frame of ${frameStep(frame)} to ${joined(frame.to)}${again}`;
+}
+
 function eventWords(event) {
   const { node, answer, frame, item, act } = event, is = stateOf(event.after);
-  if (frame !== null) return `${node} sends its frame of ${frameStep(frame)} to ${joined(frame.to)}${frame.earlier ? " again" : ""}`;
+  if (frame !== null) return sentWords(event);
   if (item !== null) return deliveryWords(event);
-  if (answer === OCB.OCB_DONE) return act === "i" ? `${node} is out of work: idle` : `${node} sends a ${KINDS[act]} to ${event.b}`;
+  if (answer === OCB.OCB_DONE && act === "i") return `${node} is out of work: idle`;
+  if (answer === OCB.OCB_DONE) return `${node} sends a ${KINDS[act]} to ${event.b}`;
   if (answer === OCB.OCB_WAITS) return `${node} waits in ${namedStep(is)}: clause ${event.clause}`;
   if (answer === OCB.OCB_MOVED) return `${node} moves on to ${namedStep(is)}`;
   if (answer === OCB.OCB_LEFT) return `${node} leaves: phase ${is.phase} begins for it`;
@@ -72,15 +84,17 @@ function frameWords(size, fields) {
   const shells = DATA.boards[size].sent.map((_, shell) => shell).slice(fields[FIELDS.dimension]);
   const sent = shells.map((m) => `sent to shell ${m}: ${fields[FIELDS.shells + m]}`);
   const taken = shells.map((m) => `taken from shell ${m}: ${fields[FIELDS.shells + OCB.OCB_SHELLS + m]}`);
-  return [...sent, ...taken, `total sent ${fields[FIELDS.totalSent]}`, `total taken ${fields[FIELDS.totalTaken]}`].join(", ");
+  const totals = [`total sent ${fields[FIELDS.totalSent]}`, `total taken ${fields[FIELDS.totalTaken]}`];
+  return [...sent, ...taken, ...totals].join(", ");
 }
 
 // Why a node waits: its clause, and the two numbers that differ.
 function clauseWords(library, stage, event) {
   const state = stateOf(event.after), [, awaited] = library.place(stage.size, state.dimension, event.node);
-  const sides = `This side is ${nodesWords(runOf(library, stage.size, state.dimension, event.node))}, the other is `
-    + `${nodesWords(runOf(library, stage.size, state.dimension, awaited))}, by the frame of ${awaited}.`;
-  if (event.clause === 0) return `Clause 0: no frame of ${namedStep(state)} has come from node ${awaited} in this cycle.`;
+  const run = (node) => nodesWords(runOf(library, stage.size, state.dimension, node));
+  const sides = `This side is ${run(event.node)}, the other is ${run(awaited)}, by the frame of ${awaited}.`;
+  const step = namedStep(state);
+  if (event.clause === 0) return `Clause 0: no frame of ${step} has come from node ${awaited} in this cycle.`;
   const found = clausesOf(state).find(([number]) => number === event.clause);
   if (found === undefined) return `Clause ${event.clause}: a sum is above the limit. ${sides}`;
   const [number, what, one, other, two] = found;
@@ -94,17 +108,28 @@ function deliveryMore(stage, { answer, item }) {
   return `It carries phase ${item.phase}, and is counted as taken from the shell of ${item.from}.`;
 }
 
+function refusedMore({ answer }) {
+  const { when, what } = DATA.refusals[answer];
+  return `${capital(when)}. Nothing has changed. What to do: ${what}.`;
+}
+
+function sentMore(stage, { frame }) {
+  const before = frame.earlier ? ` It went out before in line ${frame.earlier}.` : "";
+  return `In it: ${frameWords(stage.size, frame.fields)}.${before}`;
+}
+
 // What else is to be said of an event.
 function moreWords(library, stage, event) {
   const { node, answer, frame, item, act } = event, is = stateOf(event.after);
-  if (isRefused(answer)) return `${capital(DATA.refusals[answer].when)}. Nothing has changed. What to do: ${DATA.refusals[answer].what}.`;
-  if (frame !== null) return `In it: ${frameWords(stage.size, frame.fields)}.${frame.earlier ? ` It went out before in line ${frame.earlier}.` : ""}`;
+  if (isRefused(answer)) return refusedMore(event);
+  if (frame !== null) return sentMore(stage, event);
   if (item !== null) return deliveryMore(stage, event);
   if (answer === OCB.OCB_WAITS) return clauseWords(library, stage, event);
   if (answer === OCB.OCB_MOVED) return is.pass === 2 && is.dimension === 0 ? `Pass 1 has found T = ${is.total}.` : "";
   if (answer === OCB.OCB_LEFT) return "The cycle is over for it: tallies and stored frames are gone, and it is busy.";
   if (act === "i") return "It may call the barrier now.";
-  return `It carries phase ${stateOf(event.before).phase}, and is counted as sent to shell ${library.distance(stage.size, node, event.b)}.`;
+  const { phase } = stateOf(event.before), shell = library.distance(stage.size, node, event.b);
+  return `It carries phase ${phase}, and is counted as sent to shell ${shell}.`;
 }
 
 // A node's place in its step, in words.

@@ -1,10 +1,11 @@
-// node tests/explorer/page.mjs MODEL: the code of docs/explorer.html without a browser, as it stands there. MODEL is the program that
-// prints what the plain model makes of a script on its standard input.
+// node tests/explorer/page.mjs MODEL: the code of docs/explorer.html without a browser, as it stands there. MODEL is
+// the program that prints what the plain model makes of a script on its standard input.
 //
-// Every script of the repository, bad input and random scripts: what the page prints and what its rehearse prints must be the same,
-// byte for byte, as scripts/printed or the model has it. Frames have the sums that the page shows, a wait names the first of the
-// page's clauses that fails, a cycle is played to its end with every kind of links, and addresses hold what they are made of.
-// Writes what it says of each event of the scripts to target/explorer/words.json, for tests/explorer/words.py.
+// Every script of the repository, bad input and random scripts: what the page prints and what its rehearse prints must
+// be the same, byte for byte, as scripts/printed or the model has it. Frames have the sums that the page shows, a wait
+// names the first of the page's clauses that fails, a cycle is played to its end with every kind of links, and
+// addresses hold what they are made of. Writes what it says of each event of the scripts to target/explorer/words.json,
+// for tests/explorer/words.py.
 import assert from "node:assert/strict";
 import fs from "node:fs";
 import vm from "node:vm";
@@ -13,8 +14,12 @@ import { spawnSync } from "node:child_process";
 const model = process.argv[2];
 const text = fs.readFileSync("docs/explorer.html", "utf8");
 const code = text.match(/<script id="code">\n(.*?)<\/script>/s)[1];
-const wanted = ["DATA", "OCB", "FIELDS", "started", "stagesOf", "printedOf", "printedLine", "scriptOf", "lineOf", "played", "opening", "stateOf",
-  "sumsOf", "clausesOf", "drawing", "toTheEnd", "addressOf", "momentOf", "eventWords", "moreWords", "shortWords", "chartOf", "partnersOf", "legend"];
+const wanted = [
+  "DATA", "OCB", "FIELDS", "started",
+  "stagesOf", "printedOf", "printedLine", "scriptOf", "lineOf", "played", "opening", "stateOf", "sumsOf", "clausesOf",
+  "drawing", "toTheEnd", "addressOf", "momentOf",
+  "eventWords", "moreWords", "shortWords", "chartOf", "partnersOf", "legend",
+];
 const page = vm.runInThisContext(`${code}\n;({ ${wanted.join(", ")} })`);
 const { OCB, FIELDS, DATA } = page;
 const [library, rehearse] = await page.started();
@@ -22,7 +27,8 @@ const counts = { scripts: 0, bad: 0, random: 0, ended: 0, lines: 0, waits: 0, fr
 
 // What the model prints for scripts, each ended by a NUL, with a NUL behind each.
 function modelled(scripts) {
-  const done = spawnSync(model, { input: scripts.map((script) => script + "\0").join(""), maxBuffer: 1 << 28 });
+  const input = scripts.map((script) => script + "\0").join("");
+  const done = spawnSync(model, { input, maxBuffer: 1 << 28 });
   assert.equal(done.status, 0, "the model ends well");
   const found = done.stdout.toString("latin1").split("\0");
   assert.equal(found.length, scripts.length + 1);
@@ -32,7 +38,8 @@ function modelled(scripts) {
 // The sums and the clauses that the page shows are those of the library.
 function holdNumbers({ event }) {
   if (event.frame !== null) {
-    const own = page.sumsOf(page.stateOf(event.before)), { fields } = event.frame, k = fields[FIELDS.dimension];
+    const own = page.sumsOf(page.stateOf(event.before));
+    const { fields } = event.frame, k = fields[FIELDS.dimension];
     const shells = (at) => Array.from(fields.slice(at + k, at + own.sent.length));
     assert.equal(fields[FIELDS.totalSent], own.totalSent, event.text);
     if (fields[FIELDS.pass] === 1) {
@@ -62,7 +69,9 @@ function hold(kind, script, printed) {
 // ---- The scripts of the repository
 
 const words = {};
-assert.deepEqual(Object.keys(DATA.scripts).sort(), fs.readdirSync("scripts").filter((name) => name !== "printed").sort());
+const isPicture = (part) => part.startsWith("<svg") && !/NaN|undefined|null/.test(part);
+const onDisk = fs.readdirSync("scripts").filter((name) => name !== "printed");
+assert.deepEqual(Object.keys(DATA.scripts).sort(), onDisk.sort());
 for (const [name, script] of Object.entries(DATA.scripts)) {
   assert.equal(script, fs.readFileSync(`scripts/${name}`, "latin1"), name);
   const { stages } = hold("scripts", script, fs.readFileSync(`scripts/printed/${name}`, "latin1"));
@@ -72,19 +81,26 @@ for (const [name, script] of Object.entries(DATA.scripts)) {
     if (stage.event !== null) assert.equal(typeof page.moreWords(library, stage, stage.event), "string");
     assert.match(page.partnersOf(library, stage), /^<svg/);
   }
-  for (const first of [2, Math.max(2, stages.length - 20)]) assert.ok(page.chartOf(stages, first).every((part) => part.startsWith("<svg") && !/NaN|undefined|null/.test(part)), name);
+  for (const first of [2, Math.max(2, stages.length - 20)])
+    assert.ok(page.chartOf(stages, first).every(isPicture), name);
 }
 fs.mkdirSync("target/explorer", { recursive: true });
 fs.writeFileSync("target/explorer/words.json", JSON.stringify(words));
 
 // ---- Bad and bordering input
 
-const idles = (count) => "i 0\n".repeat(count), every = String.fromCharCode(...Array.from({ length: 255 }, (_, i) => i + 1));
-const bad = ["", "nodes 2\n" + idles(14998), every, "nodes 2\n" + every, "nodes 1\n" + idles(1022), "nodes 10\n" + idles(1022), "nodes 2", "nodes 2\ni 0",
-  "nodes 2\r\n", "nodes 2\n\n", "nodes 02\n", "nodes 2\ni  0\n", "nodes 2\ns 0 2\n", "nodes 2\nt 0 2\n", "nodes 2\nt 0 0\n", "nodes 0\n", "nodes 17\n",
-  "nodes 16\n", "nodes 256\n", "nodes 1000\n", "nodes 2\nnodes 2\n", "\n", "i 0\n", "nodes 2 \n", " nodes 2\n", "nodes 2\ni 0 \n", "nodes 2\ni 0 1\n",
-  "nodes 2\ns 0\n", "nodes 2\nt 0\n", "nodes 2\ns 0 1 1\n", "nodes 2\nx 0\n", "nodes 2\nT 0 1\n", "nodes 2\ni 00\n", "nodes 2\ni 2\n", "nodes 2\ni -1\n",
-  "nodes 2\ns 0 0\nd 0 0\nb 0\n", "nodes\n", "nodes 2\ni\n", "nodes 2\ni 0\u00e9\n", "nodes 1\nt 0 0\ni 0\nb 0\n", "nodes 2\n" + "t 0 1\n".repeat(514)];
+const idles = (count) => "i 0\n".repeat(count);
+const every = String.fromCharCode(...Array.from({ length: 255 }, (_, i) => i + 1));
+const bad = [
+  "", "nodes 2\n" + idles(14998), every, "nodes 2\n" + every, "nodes 1\n" + idles(1022), "nodes 10\n" + idles(1022),
+  "nodes 2", "nodes 2\ni 0", "nodes 2\r\n", "nodes 2\n\n", "nodes 02\n", "nodes 2\ni  0\n",
+  "nodes 2\ns 0 2\n", "nodes 2\nt 0 2\n", "nodes 2\nt 0 0\n",
+  "nodes 0\n", "nodes 17\n", "nodes 16\n", "nodes 256\n", "nodes 1000\n", "nodes 2\nnodes 2\n",
+  "\n", "i 0\n", "nodes 2 \n", " nodes 2\n", "nodes 2\ni 0 \n", "nodes 2\ni 0 1\n",
+  "nodes 2\ns 0\n", "nodes 2\nt 0\n", "nodes 2\ns 0 1 1\n", "nodes 2\nx 0\n", "nodes 2\nT 0 1\n",
+  "nodes 2\ni 00\n", "nodes 2\ni 2\n", "nodes 2\ni -1\n", "nodes 2\ns 0 0\nd 0 0\nb 0\n",
+  "nodes\n", "nodes 2\ni\n", "nodes 2\ni 0\u00e9\n", "nodes 1\nt 0 0\ni 0\nb 0\n", "nodes 2\n" + "t 0 1\n".repeat(514),
+];
 modelled(bad).slice(0, -1).forEach((printed, at) => hold("bad", bad[at], printed));
 
 // ---- Random scripts: mostly what a board does, now and then anything
@@ -114,23 +130,35 @@ const random = Array.from({ length: 300 }, randomScript), answers = new Set();
 modelled(random).slice(0, -1).forEach((printed, at) => {
   for (const { event } of hold("random", random[at], printed).stages.slice(1)) answers.add(event.answer);
 });
-for (const answer of [0, 3, 4, 7, 12, 16, 20, 21, 22, 23]) assert.ok(answers.has(answer), `no random script was answered ${answer}`);
+for (const answer of [0, 3, 4, 7, 12, 16, 20, 21, 22, 23])
+  assert.ok(answers.has(answer), `no random script was answered ${answer}`);
 
 // ---- A cycle played to its end, and on into the next
 
 function ended(size, links) {
-  const stages = [page.opening(library, size)], step = (event) => stages.push(page.played(library, stages.at(-1), event, stages.length + 1));
+  const stages = [page.opening(library, size)];
+  const step = (event) => stages.push(page.played(library, stages.at(-1), event, stages.length + 1));
   for (let cycle = 0; cycle < 2; cycle++) {
     for (let i = 0; i < 4 && size > 1; i++) step({ act: "st"[below(2)], a: below(size), b: below(size) });
     for (const event of page.toTheEnd(library, stages.at(-1), links, 1e9)) step(event);
     assert.deepEqual(stages.at(-1).left, new Array(size).fill(cycle + 1), `a board of ${size}, ${links.speed}`);
   }
-  for (const stage of stages.slice(1)) assert.ok(![OCB.OCB_WAITS, OCB.OCB_EARLY].includes(stage.event.answer) && (holdNumbers(stage), true));
+  for (const stage of stages.slice(1)) {
+    assert.ok(![OCB.OCB_WAITS, OCB.OCB_EARLY].includes(stage.event.answer));
+    holdNumbers(stage);
+  }
   counts.ended++;
 }
-for (let size = 1; size <= 16; size++)
-  for (const speed of ["fast", "slow", "random"]) for (const slow of [[], ["0 1", `${size - 1} 0`]]) ended(size, { speed, slow: new Set(slow), seed: size });
-const seeded = (seed) => page.toTheEnd(library, page.opening(library, 5), { speed: "random", slow: new Set(), seed }, 1e9);
+for (let size = 1; size <= 16; size++) {
+  for (const speed of ["fast", "slow", "random"]) {
+    for (const slow of [[], ["0 1", `${size - 1} 0`]]) ended(size, { speed, slow: new Set(slow), seed: size });
+  }
+}
+
+function seeded(seed) {
+  const links = { speed: "random", slow: new Set(), seed };
+  return page.toTheEnd(library, page.opening(library, 5), links, 1e9);
+}
 assert.deepEqual(seeded(7), seeded(7));
 assert.notDeepEqual(seeded(7), seeded(8));
 
@@ -143,18 +171,23 @@ for (const [name, script] of Object.entries(DATA.scripts)) {
 }
 for (const script of [...bad, ...random]) assert.equal(there({ preset: "", text: script, line: null }).text, script);
 assert.equal(page.addressOf({ preset: "", text: "nodes 5\ns 4 0\ni 4\n", line: 3 }), "#nodes.5,s.4.0,i.4:3");
-for (const hash of ["", "#", "#nothing", "#rollback_of_six:3", "#text=%", "#nodes.5,,i.0"]) assert.equal(page.momentOf(hash, DATA.scripts), null);
+for (const hash of ["", "#", "#nothing", "#rollback_of_six:3", "#text=%", "#nodes.5,,i.0"])
+  assert.equal(page.momentOf(hash, DATA.scripts), null);
 
 // ---- Links of the pages to moments
 
 let links = 0;
-for (const file of ["README.md", ...fs.readdirSync("docs").filter((name) => name.endsWith(".md")).map((name) => `docs/${name}`)]) {
+const pages = fs.readdirSync("docs").filter((name) => name.endsWith(".md")).map((name) => `docs/${name}`);
+for (const file of ["README.md", ...pages]) {
   for (const [, hash] of fs.readFileSync(file, "utf8").matchAll(/explorer\.html(#[^)\s]*)/g)) {
-    const moment = page.momentOf(hash, DATA.scripts), { stop } = page.stagesOf(library, Buffer.from(moment?.text ?? ""));
+    const moment = page.momentOf(hash, DATA.scripts);
+    const { stop } = page.stagesOf(library, Buffer.from(moment?.text ?? ""));
     assert.ok(stop === null && (moment.line ?? 1) < moment.text.split("\n").length, `${file}: ${hash} is a moment`);
     links++;
   }
 }
 
-console.log(`explorer without a browser: ${counts.scripts} scripts, ${counts.bad} bad or bordering inputs and ${counts.random} random scripts, ${counts.lines} lines`
-  + ` as rehearse and the model print them; ${counts.frames} frames with the sums shown, ${counts.waits} waits with the clause shown; ${counts.ended} boards played to the end; ${links} links to moments`);
+console.log(`explorer without a browser: ${counts.scripts} scripts, ${counts.bad} bad or bordering inputs`
+  + ` and ${counts.random} random scripts, ${counts.lines} lines as rehearse and the model print them;`
+  + ` ${counts.frames} frames with the sums shown, ${counts.waits} waits with the clause shown;`
+  + ` ${counts.ended} boards played to the end; ${links} links to moments`);
