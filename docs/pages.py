@@ -22,6 +22,8 @@ PAGE = played.ROOT / "docs" / "BARRIER.md"
 RECORDINGS = played.ROOT / "docs" / "RECORDINGS.md"
 COST = played.ROOT / "docs" / "COST.md"
 PICTURES = played.ROOT / "docs" / "pictures"
+# README's, written by tests/explorer/browser.mjs; fonts differ from machine to machine, so it is not made again to be compared
+SCREENSHOT = PICTURES / "explorer_of_five.png"
 MADE = re.compile(r"(<!-- made: ([^>]*) -->)(.*?)(<!-- end -->)", re.DOTALL)
 NUMBERED = re.compile(r"^\| (\d+) \| `(OCB_\w+)` \| ([a-z ]+) \|", re.MULTILINE)
 CODE_LIMIT = 32 * 1024  # bytes of code; a bound, since a compiler's next version moves the number itself
@@ -350,7 +352,7 @@ def hold(path, text):
 def check():
     files = wanted()
     for path in sorted(PICTURES.glob("*")):
-        if path not in files:
+        if path not in files and path != SCREENSHOT:
             raise played.Trouble(f"{path.relative_to(played.ROOT)} is made by nothing")
     for path, text in sorted(files.items()):
         hold(path, text)

@@ -291,7 +291,7 @@ async function main() {
   await open("");
   for (const part of [scripts, clicks, ends, badScripts, files, tabs, keyboard, addresses, others]) await part();
   if (picture) {
-    await goTo("rollback_of_five:41");
+    await open("#rollback_of_five:41");
     await screenshot(picture, 1280, 1250);
   }
   assert.deepEqual(troubles, []);
