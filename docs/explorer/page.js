@@ -56,7 +56,8 @@ function play(bytes, { preset = "", line = null } = {}) {
     return draw();
   }
   const at = line === null ? stages.length - 1 : Math.min(line - 1, stages.length - 1);
-  Object.assign(show, { stages, stop, bytes, at, preset, rejected: null, note: "", all: false });
+  const slow = [...show.slow].filter((link) => link.split(" ").every((node) => node < stages[0].size));
+  Object.assign(show, { stages, stop, bytes, at, preset, rejected: null, note: "", slow: new Set(slow), all: false });
   draw();
 }
 
@@ -145,8 +146,8 @@ async function copyLink() {
 function address() {
   const whole = show.at === show.stages.length - 1, line = whole ? null : show.at + 1;
   if (show.preset !== "") return addressOf({ preset: show.preset, text: "", line });
-  const text = whole && show.stop !== null ? new TextDecoder().decode(show.bytes) : scriptOf(playedNow());
-  return addressOf({ preset: "", text, line: null });
+  const text = show.stop !== null ? new TextDecoder().decode(show.bytes) : scriptOf(show.stages);
+  return addressOf({ preset: "", text, line });
 }
 
 // Where the steps stand, and which of them can be taken.
@@ -423,10 +424,10 @@ function jumpToRow({ target }) {
 function listen() {
   const clicks = {
     anew: () => play(bytesOf(`nodes ${$("size").value}\n`)),
-    first: () => go(0),
-    back: () => go(show.at - 1),
-    forward: () => go(show.at + 1),
-    last: () => go(Infinity),
+    first: () => jump(0),
+    back: () => jump(show.at - 1),
+    forward: () => jump(show.at + 1),
+    last: () => jump(Infinity),
     run,
     happen,
     end,

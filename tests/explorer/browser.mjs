@@ -246,6 +246,11 @@ async function addresses() {
   await goTo("worked");
   await goTo(link.slice(1));
   assert.equal(await value("script"), script);
+  await click("#back");
+  assert.equal(await inPage("location.hash"), `${link}:40`, "a moment of a script that has no name");
+  await goTo("worked");
+  await goTo(`${link.slice(1)}:40`);
+  assert.match(await text("count"), /^39 of 40/);
   await click("#copy");
   for (let i = 0; i < 40 && (await text("copied")) === ""; i++) await after(50);
   assert.match(await text("copied"), /Copied|address bar/);
