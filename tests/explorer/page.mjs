@@ -100,6 +100,9 @@ const bad = [
   "nodes 2\ns 0\n", "nodes 2\nt 0\n", "nodes 2\ns 0 1 1\n", "nodes 2\nx 0\n", "nodes 2\nT 0 1\n",
   "nodes 2\ni 00\n", "nodes 2\ni 2\n", "nodes 2\ni -1\n", "nodes 2\ns 0 0\nd 0 0\nb 0\n",
   "nodes\n", "nodes 2\ni\n", "nodes 2\ni 0\u00e9\n", "nodes 1\nt 0 0\ni 0\nb 0\n", "nodes 2\n" + "t 0 1\n".repeat(514),
+  // a frame to one receiver and to two, with a place too few and with places enough
+  ...[510, 511].flatMap((count) => ["i 0\nb 0\ni 1\nb 1\n", "i 2\nb 2\nb 2\nb 2\n"]
+    .map((lines) => "nodes 3\n" + "t 0 1\n".repeat(count) + lines)),
 ];
 modelled(bad).slice(0, -1).forEach((printed, at) => hold("bad", bad[at], printed));
 
@@ -132,6 +135,25 @@ modelled(random).slice(0, -1).forEach((printed, at) => {
 });
 for (const answer of [0, 3, 4, 7, 12, 16, 20, 21, 22, 23])
   assert.ok(answers.has(answer), `no random script was answered ${answer}`);
+
+// ---- Clauses that no run comes to, by frames that no node of the board has sent
+
+function clauseAfter(script, fields) {
+  const [state] = page.stagesOf(library, Buffer.from(script)).stages.at(-1).states;
+  const numbers = Buffer.from(Uint32Array.from(fields.slice(4)).buffer);
+  const stored = library.frameIn(state, Buffer.concat([Buffer.from(fields.slice(0, 4)), numbers]));
+  assert.equal(stored.answer, OCB.OCB_DONE, "the frame is stored");
+  const waits = library.barrier(stored.state), clauses = page.clausesOf(page.stateOf(stored.state));
+  assert.equal(waits.answer, OCB.OCB_WAITS);
+  assert.equal(clauses.find(([, , one, , other]) => one !== other)[0], waits.found[4]);
+  return waits.found[4];
+}
+const signedIn = "nodes 2\ni 0\nb 0\n", second = signedIn + "i 1\nb 1\nd 1 0\nb 0\nb 0\n";
+assert.equal(clauseAfter(signedIn, [1, 0, 0, 1, 0, 1, 0, 1]), 1);
+assert.equal(clauseAfter(signedIn, [1, 0, 0, 1, 1, 0, 1, 0]), 2);
+assert.equal(clauseAfter(signedIn, [1, 0, 0, 1, 0, 0, 3, 1]), 4);
+assert.equal(clauseAfter(second, [2, 0, 0, 1, 1, 0]), 5);
+assert.equal(clauseAfter(second, [2, 0, 0, 1, 0, 5]), 6);
 
 // ---- A cycle played to its end, and on into the next
 
