@@ -11,7 +11,7 @@ use borrow.Author.Tests.{ltb-false}
 use lib.Dec.{ltb}
 use lib.ListN.{length, take}
 use lib.Seq.{take-all, length-take-le}
-use Rattle.base.specs.Refusal.{Refusal, found, when}
+use Rattle.base.specs.Refusal.{Answered, Refusal, found, when}
 use Rattle.base.proofs.Laws.{length-list, checks-known}
 use Rattle.script.specs.declared.Line.{Line}
 use Rattle.script.specs.declared.Line.the-variants.{Nodes, Sends, Delivers, Idles, Calls, Bad}
@@ -36,6 +36,14 @@ no-nodes (Calls a) h = refl
 no-nodes Bad h = refl
 
 -- ---- What is put into memory that is long enough, and taken from it
+
+-- a front of memory, by how long the memory was before something was put
+module _ (out text now : List ℕ) (n : ℕ) (e : now ≡ put out 0 text) (h : n ≤ length out) where
+  pub front-fits : n ≤ length now
+  front-fits = omega (arith, ap length e, length-put out 0 text)
+
+  pub front-length : n ≡ length (take n now)
+  front-length = sym (length-take-le n now front-fits)
 
 pub length-counts : (events : ℕ) → length (countsFor events) ≡ sectionsFor events
 unfolding countsFor
@@ -62,12 +70,12 @@ module _ (script text : List ℕ) (nodes : ℕ) (lent buf : List ℕ) (size : le
   abbrev all : List ℕ
   all = eventsOf script text
 
-  pub written : (end : ℕ) (counts events : List ℕ) → nodes ≡ nodesBy (lineAt script 0 .line) → end ≡ ends lent 0 all
+  same : (end : ℕ) (counts events : List ℕ) → nodes ≡ nodesBy (lineAt script 0 .line) → end ≡ ends lent 0 all
       → counts ≡ countsFor (end / 4) → events ≡ take end (put lent 0 all)
       → (writeAnswer (made nodes counts events) (length buf) ≡ writeAnswer (recordingOf script text) (length buf))
       × (writtenOn (made nodes counts events) buf ≡ writtenOn (recordingOf script text) buf)
   unfolding recordingOf
-  written end counts events e n k t = go (decLt (length lent) (length all)) (rw n at t ∙ taken lent all)
+  same end counts events e n k t = go (decLt (length lent) (length all)) (rw n at t ∙ taken lent all)
     where
       go : Dec (length lent < length all) → events ≡ take (length lent) all
           → (writeAnswer (made nodes counts events) (length buf) ≡ writeAnswer (recordingOf script text) (length buf))
@@ -82,6 +90,15 @@ module _ (script text : List ℕ) (nodes : ℕ) (lent buf : List ℕ) (size : le
           let r : made nodes counts events ≡ recordingOf script text =
           rw (e, k, m, q, take-all (length lent) all (omega arith)) in
           (ap (λ r. writeAnswer r (length buf)) r, ap (λ r. writtenOn r buf) r)
+
+  -- what the writer below answers and leaves
+  pub written : (end : ℕ) (counts events : List ℕ) → nodes ≡ nodesBy (lineAt script 0 .line) → end ≡ ends lent 0 all
+      → counts ≡ countsFor (end / 4) → events ≡ take end (put lent 0 all)
+      → (a : Answered ℕ) (after : List ℕ)
+      → (a ≡ writeAnswer (made nodes counts events) (length buf)) × (after ≡ writtenOn (made nodes counts events) buf)
+      → (a ≡ writeAnswer (recordingOf script text) (length buf)) × (after ≡ writtenOn (recordingOf script text) buf)
+  written end counts events e n k t a after w =
+      let q = same end counts events e n k t in (w .0 ∙ q .0, w .1 ∙ q .1)
 
 -- what is written is within the memory
 pub inside : (r : Recording) (buf now : List ℕ) (n : ℕ) → found n ≡ writeAnswer r (length buf) → now ≡ writtenOn r buf
