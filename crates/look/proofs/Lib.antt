@@ -1,2 +1,3 @@
 pub mod Excess
+pub mod Places
 pub mod Judging
