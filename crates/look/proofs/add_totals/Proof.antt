@@ -13,8 +13,8 @@ use Rattle.base.specs.Choice.{both}
 use Rattle.node.specs.Sums.{Field, allSent, allTaken, number}
 use Rattle.node.specs.declared.Stored.{Stored}
 use Rattle.layout.specs.Held.{word, firstFrom, sumOf}
+use Rattle.adding.proofs.Places.{Ends, ends}
 use Rattle.look.specs.Pieces.{excess, atMost, totalsAtMost}
-use Rattle.look.proofs.Places.{Ends, ends}
 use Rattle.look.proofs.Excess.{sums-within}
 use Rattle.look.proofs.add_totals.Statement.{statement}
 use Rattle.look.proofs.add_totals.Tie as tie

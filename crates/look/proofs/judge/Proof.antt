@@ -18,8 +18,8 @@ use Rattle.node.specs.Sums.{Field}
 use Rattle.node.specs.declared.Stored.{Stored}
 use Rattle.layout.specs.Held.{word, firstFrom, sumOf}
 use Rattle.stored.specs.Held.{lowAfter}
+use Rattle.adding.proofs.Places.{Shell, shell, next-fits}
 use Rattle.look.specs.Pieces.{Weighed, TotalsAdded}
-use Rattle.look.proofs.Places.{Shell, shell, next-fits}
 use Rattle.look.proofs.Judging.{allAtMost, ok-is, clause-is, total-is}
 use Rattle.look.proofs.judge.Statement.{statement}
 use Rattle.look.proofs.judge.Tie as tie

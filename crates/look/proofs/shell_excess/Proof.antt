@@ -4,7 +4,7 @@ use mathlib.Core.Path.{_∙_}
 use native.Mathlib.Nat.{le-of-lt}
 use lib.ListN.{length}
 use Rattle.layout.proofs.Reading.{number-sent, number-taken}
-use Rattle.look.proofs.Places.{Shell, shell}
+use Rattle.adding.proofs.Places.{Shell, shell}
 use Rattle.look.proofs.shell_excess.Statement.{statement}
 use Rattle.look.proofs.shell_excess.Tie as tie
 

@@ -11,8 +11,8 @@ use lib.Dec.{leb}
 use Rattle.base.specs.Choice.{both, every}
 use Rattle.base.proofs.Laws.{every-here, every-end}
 use Rattle.layout.specs.Held.{firstFrom, sumOf}
+use Rattle.adding.proofs.Places.{next-fits, fewer}
 use Rattle.look.specs.Pieces.{shellAtMost}
-use Rattle.look.proofs.Places.{next-fits, fewer}
 use Rattle.look.proofs.weigh.Statement.{statement}
 use Rattle.look.proofs.weigh.Tie as tie
 
