@@ -1,10 +1,19 @@
 -- `head_ok` is `headTested`: the tests in their order.
-use borrow.Author.Needs.{needs}
 use borrow.Author.Tests.{lt-ltb, le-ltb, le-leb, lt-leb, not-true, not-false}
+use denote.Ref.{now}
+use native.Mathlib.Nat.{lt-of-lt-of-le}
 use mathlib.Core.Path.{sym}
+use Prim.Native.Nat.{ℕ, _<_}
+use lib.Dec.{lit<}
+use lib.ListN.{length}
+use Rattle.layout.specs.Places.{headWords}
 use Rattle.head.specs.Pieces.{headTested}
 use Rattle.head.proofs.head_ok.Statement.{statement}
 use Rattle.head.proofs.head_ok.Tie as tie
+
+-- the words of the head are there
+there : (s : tie.Start) {i : ℕ} → i < headWords → i < length (now (s .args .s))
+there s h = lt-of-lt-of-le h (s .pre)
 
 returns : tie.Need-returns
 unfolding headTested
@@ -87,7 +96,15 @@ returns-7 c =
 pub head-ok-spec : {M : Type 1} → statement M
 head-ok-spec =
     tie.close
-    (tie.spec (λ c. search needs) returns (λ c. search needs) returns-2 (λ c. search needs) returns-3
-    (λ c. search needs) returns-4 (λ c. search needs) (λ c. search needs) returns-5 (λ c. search needs)
-    (λ c. search needs) (λ c κs. search needs) returns-6 (λ c. search needs) (λ c. search needs) (λ c. search needs)
-    (λ c. search needs) (λ c κs. search needs) returns-7)
+    (tie.spec (λ c. there (c .before .before) (lit< tt)) returns (λ c. there (c .before .before .before .before) (lit< tt)) returns-2
+    (λ c. there (c .before .before .before .before .before .before) (lit< tt)) returns-3
+    (λ c. there (c .before .before .before .before .before .before .before .before) (lit< tt)) returns-4
+    (λ c. there (c .before .before .before .before .before .before .before .before .before .before) (lit< tt))
+    (λ c. there (c .before .before .before .before .before .before .before .before .before .before .before) (lit< tt)) returns-5
+    (λ c. there (c .before .before .before .before .before .before .before .before .before .before .before .before .before) (lit< tt))
+    (λ c. there (c .before .before .before .before .before .before .before .before .before .before .before .before .before .before) (lit< tt)) (λ c κs. tt) returns-6
+    (λ c. there (c .before .before .before .before .before .before .before .before .before .before .before .before .before .before .before .before .before) (lit< tt))
+    (λ c. there (c .before .before .before .before .before .before .before .before .before .before .before .before .before .before .before .before .before .before) (lit< tt))
+    (λ c. there (c .before .before .before .before .before .before .before .before .before .before .before .before .before .before .before .before .before .before .before) (lit< tt))
+    (λ c. there (c .before .before .before .before .before .before .before .before .before .before .before .before .before .before .before .before .before .before .before .before) (lit< tt)) (λ c κs. tt)
+    returns-7)
