@@ -1,2 +1,3 @@
 mod Adding
 pub mod Fitting
+pub mod Places

@@ -1,4 +1,5 @@
 pub mod Lent
+pub mod Places
 pub mod Settled
 pub mod Stepping
 pub mod Walking

@@ -9,7 +9,8 @@ use lib.Dec.{eqb, ltb}
 use lib.ListN.{length}
 use borrow.Author.Tests.{lt-ltb, le-ltb, eq-eqb, ne-eqb}
 use Rattle.base.specs.Choice.{choose, both, either}
-use Rattle.base.specs.Limits.{Limits, fieldLimit, width}
+use Rattle.base.specs.Limits.{Limits, fieldLimit, Fits, width}
+use Rattle.base.proofs.Limits.{field-low}
 use Rattle.base.proofs.Laws.{clash, choose-yes, choose-no, both-true}
 use Rattle.node.specs.Sums.{Field, sentIn, takenIn, allSent, allTaken, number}
 use Rattle.node.specs.Sums.{Has as InFrame}
@@ -289,6 +290,9 @@ module _ (L : Limits) (p k issued agreed : ℕ) (x : Confirm) where
   -- and then the sum is within the limit
   pub second-fits : firstFailing (secondClauses L p k issued agreed x) ≡ 7 → issued + x .issued .0 ≤ fieldLimit L
   second-fits e = second-known L p k issued agreed x (sym second-seven ∙ eq-eqb _ _ e) .within
+
+  pub second-low : Fits L → firstFailing (secondClauses L p k issued agreed x) ≡ 7 → issued + x .issued .0 < 4294967296
+  second-low fit e = omega (arith, second-fits e, field-low L fit)
 
 module _ (L : Limits) (ss : List ℕ) (spot : Spot) (past : Past) (k : ℕ) (w : Walked) where
   abbrev two : Confirm

@@ -1,21 +1,23 @@
 -- `add_frame`: the test of the lengths, the totals, then the shells above k run by run.
-use borrow.Author.Needs.{needs}
 use borrow.Author.Tests.{not-true, not-false}
 use denote.Ref.{now}
-use native.Mathlib.Omega.{arith}
+use native.Mathlib.Nat.{le-of-lt}
 use mathlib.Core.Path.{_≡_, refl, sym, _∙_, subst}
 use mathlib.Core.Bool.{Bool, true, false}
 use mathlib.Core.List.{List}
-use Prim.Native.Nat.{ℕ, _+_, _≤_, _<_}
+use Prim.Native.Nat.{ℕ, _+_, _≤_}
 use lib.ListN.{length}
+use mir.Syntax.{w32}
+use mir.Val.{Fits}
+use mir.Facts.{fits-lit}
 use Rattle.base.proofs.Laws.{clash}
-use Rattle.base.specs.Limits.{width}
 use Rattle.node.specs.Sums.{Field, number}
 use Rattle.node.specs.declared.Stored.{Stored}
 use Rattle.layout.specs.Held.{firstFrom, sumOf}
 use Rattle.adding.specs.Adding.{Framed, Within, AddedBy}
 use Rattle.adding.specs.Pieces.{AddedTotals}
 use Rattle.adding.proofs.Adding.{InShells, AddedShells, sent-over, taken-over, shells-added, totals-over, shells-fine, within, added}
+use Rattle.adding.proofs.Places.{Above, above, still, next-fits}
 use Rattle.adding.proofs.Fitting.{fitting-known, fitting-made}
 use Rattle.adding.proofs.add_frame.Statement.{statement}
 use Rattle.adding.proofs.add_frame.Tie as tie
@@ -70,9 +72,8 @@ module _ (e : tie.Else1) where
   here : Framed ws before p k
   here = let f = e .before .first-fits in fitting-known p k ws before (sym (f .ensures) ∙ not-false (f .result) (e .if1 .left))
 
-  -- the places are small
-  small : (k < p) × (p ≤ width)
-  small = (here .low, here .few)
+  next : Fits w32 (k + 1)
+  next = next-fits k p (here .low) (here .few)
 
 -- the totals
 module _ (a : tie.After-add-totals) where
@@ -89,10 +90,11 @@ module _ (a : tie.After-add-totals) where
   mid-long = a .add-totals .ensures .length
 
   -- the sums have still room
-  still : Framed (ws one) mid (p one) (k one)
-  still =
-      let h = here one in
-      record { low = h .low; few = h .few; long = h .long; wide = omega (arith, h .wide, mid-long) }
+  room : Framed (ws one) mid (p one) (k one)
+  room = still (ws one) (before one) (p one) (k one) (here one) mid mid-long
+
+  shells : Above (p one) (k one) (length (ws one)) (length mid)
+  shells = above (ws one) mid (p one) (k one) room
 
 returns-2 : tie.Need-returns-2
 returns-2 c =
@@ -124,7 +126,7 @@ returns-3 c =
     let e = two d in
     left _ (d .add-all-sent .ensures .length ∙ mid-long (first d))
     (λ h w.
-    sent-over (ws e) (mid (first d)) (p e) (k e) (limit e) (still (first d)) _ _ (d .add-all-sent .ensures)
+    sent-over (ws e) (mid (first d)) (p e) (k e) (limit e) (room (first d)) _ _ (d .add-all-sent .ensures)
     (not-true (d .add-all-sent .result) (c .if3 .taken)) (fine d w))
 
 -- and those taken
@@ -135,45 +137,34 @@ returns-4 c =
     let e = two d in
     let f = g .add-all-taken in
     let good = not-false (d .add-all-sent .result) (g .before .before .if3 .left) in
-    let shells : f .result ≡ true → AddedShells (p e) (k e) (x e) (limit e) (mid (first d)) (f .last .0) true = λ q.
-    shells-added (ws e) (mid (first d)) (p e) (k e) (limit e) (still (first d)) _ _ (d .add-all-sent .ensures) good _ _
+    let sums : f .result ≡ true → AddedShells (p e) (k e) (x e) (limit e) (mid (first d)) (f .last .0) true = λ q.
+    shells-added (ws e) (mid (first d)) (p e) (k e) (limit e) (room (first d)) _ _ (d .add-all-sent .ensures) good _ _
     (f .ensures) q in
     record {
       there = λ q. here e;
-      within = λ q. within (ws e) (before e) (p e) (k e) (limit e) (mid (first d)) (summed d) _ (shells q);
+      within = λ q. within (ws e) (before e) (p e) (k e) (limit e) (mid (first d)) (summed d) _ (sums q);
       over = λ q h w.
-          taken-over (ws e) (mid (first d)) (p e) (k e) (limit e) (still (first d)) _ _ (d .add-all-sent .ensures) good _ _
+          taken-over (ws e) (mid (first d)) (p e) (k e) (limit e) (room (first d)) _ _ (d .add-all-sent .ensures) good _ _
           (f .ensures) q (fine d w);
-      added = λ q. added (ws e) (before e) (p e) (k e) (limit e) (mid (first d)) (summed d) _ (shells q);
+      added = λ q. added (ws e) (before e) (p e) (k e) (limit e) (mid (first d)) (summed d) _ (sums q);
       length = f .ensures .length ∙ d .add-all-sent .ensures .length ∙ mid-long (first d);
     }
-
--- where the runs are
-sent-run : tie.Need-add-all-sent-requires
-sent-run c κs =
-    let a = c .before .before .before .before in
-    let e = one a in
-    let h = here e in
-    (omega (arith, h .low, h .wide, mid-long a), omega (arith, h .low, h .long), omega (arith, small e), omega (arith, small e))
 
 taken-run : tie.Need-add-all-taken-requires
 taken-run c κs =
     let d = c .before .before .before .before in
     let e = two d in
-    let h = here e in (
-      omega (arith, h .low, h .wide, d .add-all-sent .ensures .length, mid-long (first d)),
-      omega (arith, h .low, h .long),
-      omega (arith, small e),
-      omega (arith, small e),
-    )
+    let after = d .add-all-sent .last .0 in
+    above (ws e) after (p e) (k e)
+    (still (ws e) (mid (first d)) (p e) (k e) (room (first d)) after (d .add-all-sent .ensures .length)) .taken-run
 
 pub add-frame-spec : {M : Type 1} → statement M
 add-frame-spec =
     tie.close
-    (tie.spec (λ c κs. search needs) returns (λ c κs. here (c .before)) (λ c. search needs) returns-2
-    (λ c. record { fits = omega (arith, small (one (c .before .before .before))) }) (λ c. omega (arith, small (one (c .before .before .before))))
-    (λ c. record { fits = omega (arith, small (one (c .before .before .before))) })
-    (λ c. record { fits = omega (arith, small (one (c .before .before .before .before))) }) sent-run (λ c. search needs) returns-3
-    (λ c. record { fits = omega (arith, small (two (c .before .before .before .before))) }) (λ c. record { fits = omega (arith, small (two (c .before .before .before .before))) })
-    (λ c. omega (arith, small (two (c .before .before .before .before)))) (λ c. record { fits = omega (arith, small (two (c .before .before .before .before))) }) taken-run
-    (λ c. search needs) returns-4)
+    (tie.spec (λ c κs. tt) returns (λ c κs. here (c .before)) (λ c. mid-long (c .before .before .before)) returns-2
+    (λ c. next (one (c .before .before .before))) (λ c. shells (c .before .before .before) .next-low) (λ c. fits-lit tt)
+    (λ c. next (one (c .before .before .before .before))) (λ c κs. shells (c .before .before .before .before) .sent-run)
+    (λ c. let d = c .before .before .before in d .add-all-sent .ensures .length ∙ mid-long (first d)) returns-3
+    (λ c. shells (first (c .before .before .before .before)) .taken) (λ c. shells (first (c .before .before .before .before)) .taken-next)
+    (λ c. le-of-lt (here (two (c .before .before .before .before)) .low)) (λ c. shells (first (c .before .before .before .before)) .taken-from) taken-run
+    (λ c. returns-4 c .length) returns-4)

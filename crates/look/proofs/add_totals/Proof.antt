@@ -1,18 +1,27 @@
 -- `add_totals`: the sums are within the limit before they are made.
-use borrow.Author.Needs.{needs}
 use denote.Ref.{now}
-use mathlib.Core.Path.{_≡_, refl, sym, ap, _∙_}
+use mathlib.Core.Path.{_≡_, refl, sym, ap, _∙_, subst}
+use native.Mathlib.Nat.{le-of-lt}
 use native.Mathlib.Omega.{arith}
 use Prim.Native.Nat.{ℕ, _+_, _-_, _*_, _≤_}
 use lib.Dec.{leb}
+use lib.ListN.{length}
+use mir.Syntax.{w32}
+use mir.Val.{Fits}
+use mir.Facts.{fits-le}
 use Rattle.base.specs.Choice.{both}
 use Rattle.node.specs.Sums.{Field, allSent, allTaken, number}
 use Rattle.node.specs.declared.Stored.{Stored}
 use Rattle.layout.specs.Held.{word, firstFrom, sumOf}
+use Rattle.adding.proofs.Places.{Ends, ends}
 use Rattle.look.specs.Pieces.{excess, atMost, totalsAtMost}
 use Rattle.look.proofs.Excess.{sums-within}
 use Rattle.look.proofs.add_totals.Statement.{statement}
 use Rattle.look.proofs.add_totals.Tie as tie
+
+-- where the totals are
+at : (s : tie.Start) → let a = s .args in Ends (a .p) (a .k) (length (now (a .s))) (length (now (a .sums)))
+at s = let a = s .args in ends (now (a .s)) (now (a .sums)) (a .p) (a .k) (s .pre)
 
 module _ (l : tie.After-larger) where
   abbrev start : tie.Start
@@ -64,12 +73,16 @@ returns-2 c =
 pub add-totals-spec : {M : Type 1} → statement M
 add-totals-spec =
     tie.close
-    (tie.spec (λ c. search needs) (λ c. search needs) (λ c. search needs) (λ c. search needs) (λ c. search needs)
-    (λ c. search needs) (λ c. search needs) (λ c. search needs) (λ c. search needs) (λ c. search needs) (λ c. search needs)
-    (λ c. search needs) (λ c. search needs) (λ c. search needs) (λ c. search needs) (λ c. search needs) (λ c. search needs)
-    (λ c. search needs) (λ c. search needs) (λ c κs. search needs) (λ c κs. search needs) (λ c κs. search needs) returns
-    (λ c. record { fits = omega (arith, low (c .before .before) .0, start (c .before .before .before) .fits) })
+    (tie.spec (λ c. le-of-lt (c .before .before .pre .low)) (λ c. at (c .before .before) .shells) (λ c. at (c .before .before) .issued .fits)
+    (λ c. at (c .before .before) .issued .wide) (λ c. at (c .before .before) .issued .scaled) (λ c. at (c .before .before .before) .issued .there)
+    (λ c. at (c .before .before .before) .received .fits) (λ c. at (c .before .before .before) .received .wide) (λ c. at (c .before .before .before) .received .scaled)
+    (λ c. at (c .before .before .before .before) .received .there) (λ c. at (c .before .before .before .before) .own-issued .fits) (λ c. at (c .before .before .before .before) .own-issued .wide)
+    (λ c. at (c .before .before .before .before) .own-issued .scaled) (λ c. at (c .before .before .before .before .before) .own-issued .there) (λ c. at (c .before .before .before .before .before) .own-issued .fits)
+    (λ c. at (c .before .before .before .before .before) .own-received .fits) (λ c. at (c .before .before .before .before .before) .own-received .wide) (λ c. at (c .before .before .before .before .before) .own-received .scaled)
+    (λ c. at (c .before .before .before .before .before .before) .own-received .there) (λ c κs. tt) (λ c κs. tt) (λ c κs. tt) returns
+    (λ c. fits-le (low (c .before .before) .0) (start (c .before .before .before) .fits .limit))
     (λ c.
     let e = c .before .before .before .before in
-    record { fits = omega (arith, received (e .before), low e .1, start (e .before) .fits) })
+    let l = e .before in
+    subst (λ n. Fits w32 (own l allTaken + n)) (sym (received l)) (fits-le (low e .1) (start l .fits .limit)))
     returns-2)

@@ -1,15 +1,16 @@
 -- `judge`: the largest excess, and shell k by itself.
-use borrow.Author.Needs.{needs}
 use borrow.Author.Tests.{lt-ltb, le-ltb, le-leb, leb-true}
 use denote.Ref.{now}
 use mathlib.Core.Path.{_≡_, refl, sym, ap, _∙_, subst}
 use mathlib.Core.Logic.{⊎-elim}
 use mathlib.Core.Bool.{Bool, true, false}
 use mathlib.Core.List.{List}
+use native.Mathlib.Nat.{le-refl, le-of-lt}
 use native.Mathlib.Omega.{arith}
 use Prim.Native.Nat.{ℕ, _+_, _-_}
 use lib.Dec.{ltb, leb}
 use lib.ListN.{length}
+use mir.Facts.{fits-lit}
 use Rattle.base.specs.Choice.{both}
 use Rattle.base.specs.Limits.{Limits, limitsOf, fieldLimit}
 use Rattle.base.proofs.Laws.{both-true}
@@ -17,6 +18,7 @@ use Rattle.node.specs.Sums.{Field}
 use Rattle.node.specs.declared.Stored.{Stored}
 use Rattle.layout.specs.Held.{word, firstFrom, sumOf}
 use Rattle.stored.specs.Held.{lowAfter}
+use Rattle.adding.proofs.Places.{Shell, shell, next-fits}
 use Rattle.look.specs.Pieces.{Weighed, TotalsAdded}
 use Rattle.look.proofs.Judging.{allAtMost, ok-is, clause-is, total-is}
 use Rattle.look.proofs.judge.Statement.{statement}
@@ -54,6 +56,10 @@ module _ (s : tie.Start) where
 
   abbrev own : Field → ℕ
   own = sumOf p sums
+
+  -- where the numbers of shell k are
+  at : Shell p k k (length ws) (length sums)
+  at = shell ws sums p k (s .pre .0) k (le-refl k) (s .pre .0 .low)
 
 module _ (l : tie.After-larger) where
   abbrev start : tie.Start
@@ -144,7 +150,10 @@ returns c =
 pub judge-spec : {M : Type 1} → statement M
 judge-spec =
     tie.close
-    (tie.spec (λ c κs. search needs) (λ c. search needs) (λ c. search needs) (λ c. search needs) (λ c. search needs)
-    (λ c. search needs) (λ c. search needs) (λ c. search needs) (λ c. search needs) (λ c κs. search needs)
-    (λ c κs. search needs) (λ c κs. search needs) (λ c. search needs) (λ c. search needs) (λ c. search needs)
-    (λ c. search needs) (λ c. search needs) (λ c. search needs) (λ c. search needs) (λ c κs. search needs) returns)
+    (tie.spec (λ c κs. tt) (λ c. fits-lit tt) (λ c. fits-lit tt) (λ c. at (c .before .before .before .before) .first)
+    (λ c. le-of-lt (c .before .before .before .before .pre .0 .low)) (λ c. at (c .before .before .before .before) .middle .fits) (λ c. at (c .before .before .before .before) .middle .wide)
+    (λ c. at (c .before .before .before .before) .middle .scaled) (λ c. at (c .before .before .before .before .before) .middle .there) (λ c κs. c .before .before .before .before .before .pre .0)
+    (λ c κs. c .before .before .before .before .before .before .pre .0) (λ c κs. tt) (λ c. at (c .before .before .before .before .before .before .before .before) .own-sent .scaled) (λ c. at (c .before .before .before .before .before .before .before .before .before) .own-sent .there)
+    (λ c. at (c .before .before .before .before .before .before .before .before .before) .own-taken .fits) (λ c. at (c .before .before .before .before .before .before .before .before .before) .own-taken .wide) (λ c. at (c .before .before .before .before .before .before .before .before .before) .own-taken .scaled)
+    (λ c. at (c .before .before .before .before .before .before .before .before .before .before) .own-taken .there)
+    (λ c. let f = c .before .before .before .before .before .before .before .before .before .before .pre .0 in next-fits _ _ (f .low) (f .few)) (λ c κs. tt) returns)

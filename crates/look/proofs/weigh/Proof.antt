@@ -1,7 +1,7 @@
 -- `weigh`: the largest so far and the shells from m on are at most a number where all the shells are.
-use borrow.Author.Needs.{needs}
 use borrow.Author.Tests.{le-leb}
 use denote.Ref.{now}
+use native.Mathlib.Nat.{le-of-lt}
 use native.Mathlib.Omega.{arith}
 use native.Mathlib.Numerals.{add-one}
 use mathlib.Core.Path.{_≡_, refl, sym, ap, _∙_}
@@ -11,6 +11,7 @@ use lib.Dec.{leb}
 use Rattle.base.specs.Choice.{both, every}
 use Rattle.base.proofs.Laws.{every-here, every-end}
 use Rattle.layout.specs.Held.{firstFrom, sumOf}
+use Rattle.adding.proofs.Places.{next-fits, fewer}
 use Rattle.look.specs.Pieces.{shellAtMost}
 use Rattle.look.proofs.weigh.Statement.{statement}
 use Rattle.look.proofs.weigh.Tie as tie
@@ -66,5 +67,7 @@ returns c =
 pub weigh-spec : {M : Type 1} → statement M
 weigh-spec =
     tie.close
-    (tie.spec Inv-loop μ-loop (λ c. search needs) loop-holds (λ c κs. search needs) (λ c κs. search needs) (λ c. search needs)
-    (λ c. search needs) loop-again returns)
+    (tie.spec Inv-loop μ-loop (λ c. let f = c .before .before .pre in next-fits _ _ (f .low) (f .few)) loop-holds
+    (λ c κs. (c .before .before .before .before .pre, le-of-lt (c .before .loop .inv .0), c .loop-test .taken)) (λ c κs. tt)
+    (λ c. next-fits _ _ (c .before .before .loop-test .taken) (c .before .before .before .before .before .before .pre .few)) (λ c. fewer _ _ (c .before .before .loop-test .taken)) loop-again
+    returns)

@@ -1,12 +1,14 @@
 -- `agree`: clauses 0, 1 and 2 in their order, then the others.
-use borrow.Author.Needs.{needs}
 use borrow.Author.Tests.{eq-eqb, eqb-true}
 use denote.Ref.{now}
+use native.Mathlib.Nat.{le-refl, le-of-lt}
 use native.Mathlib.Omega.{arith}
 use mathlib.Core.Path.{_≡_, refl, sym, ap, _∙_}
 use mathlib.Core.Bool.{true, false}
 use mathlib.Core.List.{List}
 use Prim.Native.Nat.{ℕ, _+_, _-_}
+use lib.ListN.{length}
+use mir.Facts.{fits-lit}
 use Rattle.base.specs.Limits.{Limits, limitsOf}
 use Rattle.node.specs.Sums.{sentIn, takenIn, number}
 use Rattle.node.specs.declared.Stored.{Stored}
@@ -14,6 +16,7 @@ use Rattle.node.proofs.Clauses.{FirstAgrees}
 use Rattle.layout.specs.Places.{markWords, sentPlace, takenPlace}
 use Rattle.layout.specs.Held.{word, firstFrom, sumOf}
 use Rattle.layout.proofs.Reading.{number-sent, number-taken}
+use Rattle.adding.proofs.Places.{Shell, shell}
 use Rattle.pass_one.specs.Pieces.{Agreed}
 use Rattle.pass_one.proofs.Agreeing.{apart}
 use Rattle.pass_one.proofs.agree.Statement.{statement}
@@ -39,16 +42,20 @@ module _ (s : tie.Start) where
   abbrev frame : Stored
   frame = firstFrom ws p k 0
 
+  -- where its numbers are
+  at : Shell p k k (length ws) (length before)
+  at = shell ws before p k (s .pre) k (le-refl k) (s .pre .low)
+
   -- the tallies of shell k are the first of their kind
   sent : number frame (sentIn k) ≡ word ws markWords
   sent =
       let z : sentPlace 0 k k ≡ markWords = omega arith in
-      number-sent ws p k 0 k (omega arith) (s .pre .low) (omega (arith, s .pre .low, s .pre .few)) ∙ ap (word ws) z
+      number-sent ws p k 0 k (le-refl k) (s .pre .low) (at .low) ∙ ap (word ws) z
 
   taken : number frame (takenIn k) ≡ word ws (markWords + (p - k))
   taken =
       let z : takenPlace p 0 k k ≡ markWords + (p - k) = omega arith in
-      number-taken ws p k 0 k (omega arith) (s .pre .low) (omega (arith, s .pre .low, s .pre .few)) ∙ ap (word ws) z
+      number-taken ws p k 0 k (le-refl k) (s .pre .low) (at .low) ∙ ap (word ws) z
 
   fails : (FirstAgrees L p k (sumOf p before) frame → ⊥) → Agreed L p k frame before before false
   fails none = apart L p k frame before none before refl
@@ -86,7 +93,10 @@ last-agree-requires c κs =
 pub agree-spec : {M : Type 1} → statement M
 agree-spec =
     tie.close
-    (tie.spec (λ c. search needs) returns (λ c. search needs) (λ c. search needs) (λ c. search needs) (λ c. search needs)
-    (λ c. search needs) (λ c. search needs) (λ c. search needs) returns-2 (λ c. search needs) (λ c. search needs)
-    (λ c. search needs) (λ c. search needs) (λ c. search needs) (λ c. search needs) (λ c. search needs) returns-3
-    last-agree-requires (λ c. search needs) (λ c. search needs))
+    (tie.spec (λ c. at (c .before .before .before) .mark) returns (λ c. at (c .before .before .before .before) .own-sent .scaled) (λ c. at (c .before .before .before .before .before) .own-sent .there)
+    (λ c. le-of-lt (c .before .before .before .before .before .pre .low)) (λ c. at (c .before .before .before .before .before) .middle .fits) (λ c. at (c .before .before .before .before .before) .middle .wide)
+    (λ c. at (c .before .before .before .before .before) .middle .scaled) (λ c. at (c .before .before .before .before .before .before) .middle .there) returns-2
+    (λ c. at (c .before .before .before .before .before .before .before .before .before) .own-taken .fits) (λ c. at (c .before .before .before .before .before .before .before .before .before) .own-taken .wide) (λ c. at (c .before .before .before .before .before .before .before .before .before) .own-taken .scaled)
+    (λ c. at (c .before .before .before .before .before .before .before .before .before .before) .own-taken .there) (λ c. fits-lit tt) (λ c. fits-lit tt)
+    (λ c. at (c .before .before .before .before .before .before .before .before .before .before .before) .first) returns-3 last-agree-requires (λ c. c .before .before .last-agree .ensures .length)
+    (λ c. c .before .before .last-agree .ensures))

@@ -1,13 +1,14 @@
 -- `last_agree`: clause 3 by the numbers added, then clause 4.
-use borrow.Author.Needs.{needs}
 use borrow.Author.Tests.{not-true, not-false}
 use denote.Ref.{now}
 use mathlib.Core.Path.{_≡_, sym, subst}
 use mathlib.Core.List.{List}
 use Prim.Native.Nat.{ℕ}
+use lib.ListN.{length}
 use Rattle.base.specs.Limits.{Limits, limitsOf, fieldLimit}
 use Rattle.node.specs.declared.Stored.{Stored}
 use Rattle.layout.specs.Held.{firstFrom}
+use Rattle.adding.proofs.Places.{Ends, ends, still, next-fits}
 use Rattle.pass_one.specs.Pieces.{Agreed}
 use Rattle.pass_one.proofs.Agreeing.{over, ended}
 use Rattle.pass_one.proofs.last_agree.Statement.{statement}
@@ -42,6 +43,12 @@ module _ (a : tie.After-add-frame) where
   limit-is : limit ≡ fieldLimit L
   limit-is = a .before .before .field-limit .ensures
 
+  -- where the totals are
+  at : Ends p k (length (now (s .args .s))) (length after)
+  at =
+      let ws = now (s .args .s) in
+      ends ws after p k (still ws before p k (s .pre .0) after (a .add-frame .ensures .length))
+
 returns : tie.Need-returns
 returns c =
     let a = c .before .before .before in
@@ -62,7 +69,9 @@ returns-2 c =
 pub last-agree-spec : {M : Type 1} → statement M
 last-agree-spec =
     tie.close
-    (tie.spec (λ c κs. search needs) (λ c κs. search needs) (λ c. search needs) returns (λ c. search needs)
-    (λ c. search needs) (λ c. search needs) (λ c. search needs) (λ c. search needs) (λ c. search needs)
-    (λ c. search needs) (λ c. search needs) (λ c. search needs) (λ c. search needs) (λ c κs. search needs)
-    (λ c. search needs) returns-2)
+    (tie.spec (λ c κs. tt) (λ c κs. tt) (λ c. c .before .before .before .add-frame .ensures .length) returns (λ c. at (c .before .before .before) .own-issued .fits)
+    (λ c. at (c .before .before .before) .own-issued .wide) (λ c. at (c .before .before .before) .own-issued .scaled) (λ c. at (c .before .before .before .before) .own-issued .there)
+    (λ c. at (c .before .before .before .before) .own-issued .fits) (λ c. at (c .before .before .before .before) .own-received .fits) (λ c. at (c .before .before .before .before) .own-received .wide)
+    (λ c. at (c .before .before .before .before) .own-received .scaled) (λ c. at (c .before .before .before .before .before) .own-received .there)
+    (λ c. let f = s (c .before .before .before .before .before) .pre .0 in next-fits _ _ (f .low) (f .few)) (λ c κs. tt)
+    (λ c. c .before .before .before .before .before .before .add-frame .ensures .length) returns-2)

@@ -1,5 +1,4 @@
 -- `confirmed`: the sum grows where no clause fails.
-use borrow.Author.Needs.{needs}
 use borrow.Author.Tests.{eq-eqb, ne-eqb}
 use mathlib.Core.Path.{refl, sym, ap, _∙_}
 use Rattle.base.proofs.Laws.{clash}
@@ -31,4 +30,4 @@ returns-2 c =
     }
 
 pub confirmed-spec : {M : Type 1} → statement M
-confirmed-spec = tie.close (tie.spec (λ c κs. search needs) returns add-t6 returns-2)
+confirmed-spec = tie.close (tie.spec (λ c κs. tt) returns add-t6 returns-2)

@@ -1,5 +1,4 @@
 -- `first_ok`: the mark may stand, and the numbers are within its bound.
-use borrow.Author.Needs.{needs}
 use borrow.Author.Tests.{not-true, not-false}
 use denote.Ref.{now}
 use mathlib.Core.Path.{_≡_, sym, ap, _∙_}
@@ -39,5 +38,5 @@ returns-2 c =
 pub first-ok-spec : {M : Type 1} → statement M
 first-ok-spec =
     tie.close
-    (tie.spec (λ c. search needs) (λ c κs. search needs) returns (λ c κs. search needs) (λ c. search needs)
-    (λ c κs. search needs) returns-2)
+    (tie.spec (λ c. c .before .before .pre .0) (λ c κs. tt) returns (λ c κs. c .before .before .before .before .pre .1)
+    (λ c. c .before .before .before .before .before .before .pre .0) (λ c κs. tt) returns-2)

@@ -1,15 +1,16 @@
 -- `first_step`: before the position by its clauses, at the position by a look, elsewhere what is stored may be there.
-use borrow.Author.Needs.{needs}
 use denote.Ref.{now}
 use native.Mathlib.Omega.{arith}
-use mathlib.Core.Path.{sym, ap, _∙_}
+use mathlib.Core.Path.{refl, sym, ap, _∙_}
 use mathlib.Core.List.{List}
 use mathlib.Core.Logic.{⊎-elim}
-use Prim.Native.Nat.{ℕ}
+use Prim.Native.Nat.{ℕ, _≤_, _<_}
 use lib.ListN.{length}
 use Rattle.base.specs.Limits.{Limits, limitsOf}
 use Rattle.base.proofs.Laws.{clash}
+use Rattle.layout.specs.Places.{mostWords}
 use Rattle.stored.specs.Held.{heldTest}
+use Rattle.scanned.proofs.Places.{framed-long}
 use Rattle.scanned.proofs.Stepping.{first-passes, first-looks, first-lacks, first-stores}
 use Rattle.scan.proofs.first_step.Statement.{statement}
 use Rattle.scan.proofs.first_step.Tie as tie
@@ -24,6 +25,9 @@ module _ (s : tie.Start) where
 
   abbrev before : List ℕ
   before = now (s .args .sums)
+
+  frame : (0 < length fs) × (length fs ≤ mostWords)
+  frame = framed-long fs before (s .args .p) (s .args .k) (s .pre)
 
 returns : tie.Need-returns
 returns c =
@@ -71,5 +75,6 @@ returns-3 c =
 pub first-step-spec : {M : Type 1} → statement M
 first-step-spec =
     tie.close
-    (tie.spec (λ c κs. search needs) (λ c κs. search needs) (λ c. search needs) returns (λ c. search needs)
-    (λ c κs. search needs) (λ c. search needs) returns-2 (λ c κs. search needs) (λ c κs. search needs) returns-3)
+    (tie.spec (λ c κs. tt) (λ c κs. tt) (λ c. c .before .before .before .pass-step .ensures .length) returns
+    (λ c. frame (c .before .before .before .before .before .before .before .before .before) .0) (λ c κs. tt) (λ c. refl) returns-2
+    (λ c κs. tt) (λ c κs. frame (c .before .before .before .before .before .before)) returns-3)

@@ -1,17 +1,17 @@
 -- `largest`: the largest so far and the words from i on are within a limit where all the words are.
-use borrow.Author.Needs.{needs}
 use borrow.Author.Tests.{le-leb}
 use denote.Ref.{now}
-use native.Mathlib.Omega.{arith}
 use mathlib.Core.Path.{_≡_, refl, sym, ap, _∙_}
 use mathlib.Core.Bool.{Bool, true, false}
-use Prim.Native.Nat.{ℕ, _+_, _-_}
+use Prim.Native.Nat.{ℕ, _+_, _-_, zero-le}
 use lib.Dec.{leb}
 use lib.ListN.{length}
+use mir.Facts.{fits-below}
 use Rattle.base.specs.Choice.{both, every}
 use Rattle.base.proofs.Laws.{every-here, every-end}
 use Rattle.layout.specs.Held.{word}
 use Rattle.stored.specs.Held.{isLow, lowAfter}
+use Rattle.scanned.proofs.Places.{Read, read}
 use Rattle.scan.proofs.largest.Statement.{statement}
 use Rattle.scan.proofs.largest.Tie as tie
 
@@ -29,6 +29,9 @@ grouped false b c = refl
 alone : (t : Bool) → t ≡ both t true
 alone true = refl
 alone false = refl
+
+place : (c : tie.In-loop Inv-loop μ-loop) → Read (c .before .loop .i) (length (now (c .before .before .before .args .s)))
+place c = read _ _ (c .loop-test .taken) (c .before .before .before .pre)
 
 loop-again : tie.Need-loop-again Inv-loop μ-loop
 loop-again c =
@@ -56,6 +59,6 @@ returns c =
 pub largest-spec : {M : Type 1} → statement M
 largest-spec =
     tie.close
-    (tie.spec Inv-loop μ-loop (λ c. search needs) (λ c limit. rw (le-leb 0 limit (omega arith))) (λ c. search needs)
-    (λ c. search needs) (λ c. search needs) (λ c κs. search needs) (λ c. search needs) (λ c. search needs) loop-again
-    returns)
+    (tie.spec Inv-loop μ-loop (λ c. fits-below tt (c .before .pre)) (λ c limit. rw (le-leb 0 limit zero-le))
+    (λ c. place c .wide) (λ c. place c .scaled) (λ c. c .before .loop-test .taken) (λ c κs. tt)
+    (λ c. place (c .before .before) .next) (λ c. place (c .before .before) .less) loop-again returns)

@@ -1,8 +1,6 @@
 -- `scan_of`: the head, the tallies, then the steps.
-use borrow.Author.Needs.{needs}
 use borrow.Author.Tests.{not-true, not-false}
 use denote.Ref.{now}
-use native.Mathlib.Omega.{arith}
 use mathlib.Core.Path.{_≡_, refl, ap, _∙_, subst}
 use mathlib.Core.Bool.{true}
 use mathlib.Core.List.{List}
@@ -32,7 +30,7 @@ module _ (s : tie.Start) where
   before = now (s .args .sums)
 
   fit : Fits L
-  fit = fits-of (s .args .b) (omega (arith, s .good .0))
+  fit = fits-of (s .args .b) (s .good .0 .1 .1 .1 .0 .1)
 
 returns : tie.Need-returns
 returns c =
@@ -109,5 +107,6 @@ returns-3 c =
 pub scan-of-spec : {M : Type 1} → statement M
 scan-of-spec =
     tie.close
-    (tie.spec (λ c κs. search needs) (λ c κs. search needs) returns (λ c κs. search needs) (λ c κs. search needs)
-    (λ c. search needs) returns-2 scan-steps-requires (λ c. search needs) returns-3)
+    (tie.spec (λ c κs. tt) (λ c κs. tt) returns (λ c κs. tt) (λ c κs. tt)
+    (λ c. c .before .before .before .before .before .start .ensures .1 .1) returns-2 scan-steps-requires
+    (λ c. returns-3 c .1 .1) returns-3)

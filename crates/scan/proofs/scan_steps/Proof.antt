@@ -1,18 +1,18 @@
 -- `scan_steps`: the walk over the steps, then T.
-use borrow.Author.Needs.{needs}
 use borrow.Author.Tests.{not-true, not-false}
 use denote.Ref.{now}
-use native.Mathlib.Omega.{arith}
-use mathlib.Core.Path.{refl, sym, _∙_}
+use mathlib.Core.Path.{refl, sym, _∙_, subst}
 use mathlib.Core.List.{List}
-use Prim.Native.Nat.{ℕ}
+use Prim.Native.Nat.{ℕ, _≤_}
 use lib.ListN.{length}
 use Rattle.base.specs.Limits.{Limits, Fits, limitsOf}
 use Rattle.base.proofs.Laws.{both-true}
 use Rattle.base.proofs.Limits.{fits-of}
 use Rattle.survey.specs.declared.Spot.{Spot}
+use Rattle.layout.specs.Places.{sumWords}
 use Rattle.head.proofs.Heads.{Passing, head-known}
 use Rattle.gather.proofs.Room.{Tallied, tallied-known}
+use Rattle.scanned.proofs.Places.{Total, total, board-fits}
 use Rattle.scanned.proofs.Scanning.{missed, walking, settled-not, scanned-all}
 use Rattle.scan.proofs.scan_steps.Statement.{statement}
 use Rattle.scan.proofs.scan_steps.Tie as tie
@@ -32,7 +32,7 @@ module _ (s : tie.Start) where
   here = s .args .spot
 
   fit : Fits L
-  fit = fits-of (s .args .b) (omega (arith, s .good .0))
+  fit = fits-of (s .args .b) (s .good .0 .1 .1 .1 .0 .1)
 
   head : Passing L ws
   head = head-known L ws (s .pre .head)
@@ -48,6 +48,11 @@ walk-requires c κs =
 
 abbrev begun : tie.After-walk → tie.Start
 begun w = w .before .before .before .before
+
+taken : (w : tie.After-walk) → Total (here (begun w) .dims) (length (w .walk .last .1 .1 .0))
+taken w =
+    let r = tallies (begun w) .room in
+    total _ _ (r .few) (subst (λ n. sumWords (here (begun w) .dims) ≤ n) (sym (w .walk .ensures .length)) (r .wide))
 
 returns : tie.Need-returns
 returns c =
@@ -72,7 +77,8 @@ returns-2 c =
 pub scan-steps-spec : {M : Type 1} → statement M
 scan-steps-spec =
     tie.close
-    (tie.spec walk-requires (λ c. record { fits = omega (arith, tallies (begun (c .before .before .before)) .room .few) })
-    (λ c. record { fits = omega (arith, tallies (begun (c .before .before .before)) .room .few) }) (λ c. search needs) (λ c. search needs)
-    (λ c. let w = c .before .before .before .before in omega (arith, tallies (begun w) .room .wide, w .walk .ensures .length)) (λ c κs. search needs) (λ c κs. search needs) (λ c. search needs) returns
-    (λ c. search needs) returns-2)
+    (tie.spec walk-requires (λ c. board-fits _ (tallies (begun (c .before .before .before)) .room .few))
+    (λ c. taken (c .before .before .before) .place) (λ c. taken (c .before .before .before) .wide)
+    (λ c. taken (c .before .before .before) .scaled) (λ c. taken (c .before .before .before .before) .within) (λ c κs. tt)
+    (λ c κs. tt) (λ c. c .before .before .before .before .before .before .before .walk .ensures .length) returns
+    (λ c. c .before .before .before .before .before .before .before .before .walk .ensures .length) returns-2)

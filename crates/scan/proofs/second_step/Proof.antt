@@ -1,17 +1,20 @@
 -- `second_step`: before the position by its clauses, elsewhere what is stored may be there; at the position both.
-use borrow.Author.Needs.{needs}
 use denote.Ref.{now}
 use native.Mathlib.Numerals.{add-one}
 use native.Mathlib.Omega.{arith}
-use mathlib.Core.Path.{_≡_, sym, ap, _∙_}
+use mathlib.Core.Path.{_≡_, sym, ap, _∙_, subst}
 use mathlib.Core.Bool.{Bool}
 use mathlib.Core.List.{List}
 use mathlib.Core.Logic.{⊎-elim}
-use Prim.Native.Nat.{ℕ, _+_}
-use lib.Dec.{eqb}
+use Prim.Native.Nat.{ℕ, _+_, _<_}
+use lib.Dec.{eqb, lit<}
+use lib.ListN.{length}
+use mir.Syntax.{w32}
+use mir.Val.{Fits}
+use mir.Facts.{fits-lit, fits-suc}
 use Rattle.base.specs.Limits.{Limits, limitsOf}
 use Rattle.base.proofs.Laws.{clash}
-use Rattle.base.proofs.Limits.{fits-of, field-low}
+use Rattle.base.proofs.Limits.{fits-of}
 use Rattle.frame.specs.Frame.{sentNumber}
 use Rattle.node.specs.Agree.{secondClauses, firstFailing}
 use Rattle.layout.specs.Held.{word, secondFrom}
@@ -19,7 +22,7 @@ use Rattle.scan_tests.specs.Tests.{mayConfirm}
 use Rattle.pass_two.specs.Tried.{secondTests}
 use Rattle.pass_two.specs.declared.Confirmed.{Confirmed}
 use Rattle.pass_two.proofs.Tests.{second-tests}
-use Rattle.scanned.proofs.Stepping.{second-fits, second-confirms, second-looks, second-stores}
+use Rattle.scanned.proofs.Stepping.{second-low, second-confirms, second-looks, second-stores}
 use Rattle.scan.proofs.second_step.Statement.{statement}
 use Rattle.scan.proofs.second_step.Tie as tie
 
@@ -48,17 +51,20 @@ module _ (s : tie.Start) where
       ∙ ap (λ m. firstFailing (tests m)) (add-one (s .args .k))
       ∙ ap firstFailing (second-tests L (s .args .p) (s .args .k) (s .args .walked .issued .0) (s .args .agreed) frame)
 
+-- the three words are there
+within : (s : tie.Start) (i : ℕ) → i < 3 → i < length (ss s)
+within s i = subst (λ n. i < n) (sym (s .pre .0))
+
+next : (s : tie.Start) → Fits w32 (s .args .k + 1)
+next s = subst (Fits w32) (sym (add-one (s .args .k))) (fits-suc (s .pre .1) (s .fits .p))
+
 confirmed-requires : tie.Need-confirmed-requires
 confirmed-requires c κs =
     let s = c .before .before .before .before .before .before .before .before .before in
     let a = s .args in
     λ q.
-    omega (
-      arith,
-      second-fits (L s) (a .p) (a .k) (a .walked .issued .0) (a .agreed) (secondFrom (ss s) 0)
-          (sym (tried s (c .clause .result) (c .clause .ensures)) ∙ q),
-      field-low (L s) (fits-of (a .b) (omega (arith, s .good .0))),
-    )
+    second-low (L s) (a .p) (a .k) (a .walked .issued .0) (a .agreed) (secondFrom (ss s) 0)
+    (fits-of (a .b) (s .good .0 .1 .1 .1 .0 .1)) (sym (tried s (c .clause .result) (c .clause .ensures)) ∙ q)
 
 returns : tie.Need-returns
 returns c =
@@ -95,6 +101,9 @@ returns-2 c =
 pub second-step-spec : {M : Type 1} → statement M
 second-step-spec =
     tie.close
-    (tie.spec (λ c. search needs) (λ c. search needs) (λ c. search needs) (λ c. search needs) (λ c. search needs)
-    (λ c. search needs) (λ c. search needs) (λ c. search needs) (λ c κs. search needs) confirmed-requires returns
-    (λ c. search needs) (λ c κs. search needs) (λ c κs. search needs) (λ c κs. search needs) returns-2)
+    (tie.spec (λ c. fits-lit tt) (λ c. fits-lit tt) (λ c. within (c .before .before) 2 (lit< tt))
+    (λ c. within (c .before .before .before) 0 (lit< tt)) (λ c. fits-lit tt) (λ c. fits-lit tt)
+    (λ c. within (c .before .before .before .before) 1 (lit< tt))
+    (λ c. next (c .before .before .before .before .before .before .before .before)) (λ c κs. tt) confirmed-requires returns
+    (λ c. next (c .before .before .before .before .before .before .before .before .before .before)) (λ c κs. tt)
+    (λ c κs. tt) (λ c κs. tt) returns-2)

@@ -1,5 +1,4 @@
 -- `step`: pass 1, then pass 2 where that passes.
-use borrow.Author.Needs.{needs}
 use borrow.Author.Tests.{not-true, not-false}
 use denote.Ref.{now}
 use mathlib.Core.Path.{refl, sym, _∙_}
@@ -57,5 +56,7 @@ returns-2 c =
 pub step-spec : {M : Type 1} → statement M
 step-spec =
     tie.close
-    (tie.spec (λ c κs. search needs) (λ c κs. search needs) (λ c. search needs) returns (λ c κs. search needs)
-    (λ c. search needs) returns-2)
+    (tie.spec (λ c κs. tt) (λ c κs. c .before .before .before .before .before .pre .first)
+    (λ c. first-done (c .before .before .before .before) .length) returns
+    (λ c κs. let q = s (c .before .before .before .before) .pre in (q .second, q .first .low))
+    (λ c. first-done (c .before .before .before .before .before) .length) returns-2)

@@ -1,9 +1,8 @@
 -- `walk`: its loop carries the walk over the stored frames, as `Carries` says, by the definition `walked`.
-use borrow.Author.Needs.{needs}
 use borrow.Author.Tests.{not-true, not-false}
 use denote.Ref.{now}
 use native.Mathlib.Omega.{arith}
-use mathlib.Core.Path.{_≡_, refl, sym, ap, _∙_}
+use mathlib.Core.Path.{_≡_, refl, sym, ap, _∙_, subst}
 use mathlib.Core.Bool.{true}
 use mathlib.Core.List.{List}
 use Prim.Native.Nat.{ℕ, _+_, _-_, _*_, _<_, _≤_}
@@ -13,11 +12,12 @@ use Rattle.base.proofs.Limits.{fits-of}
 use Rattle.node.specs.Sums.{dims}
 use Rattle.survey.specs.declared.Spot.{Spot}
 use Rattle.survey.proofs.Steps.{few}
-use Rattle.layout.specs.Places.{stepWords, atFirst, mostWords}
+use Rattle.layout.specs.Places.{atFirst}
 use Rattle.layout.specs.Held.{unpacked}
 use Rattle.wire.specs.Wire.{part}
 use Rattle.scanned.specs.Pieces.{Carries}
-use Rattle.scanned.proofs.Lent.{firstLent, secondLent, near, inside, first-slice, second-slice}
+use Rattle.scanned.proofs.Lent.{firstLent, secondLent, first-slice, second-slice}
+use Rattle.scanned.proofs.Places.{Placed, placed, board-fits, tallies-fit}
 use Rattle.scanned.proofs.Walking.{carries-start, lent, step-stops, step-more, ended}
 use Rattle.scan.proofs.walk.Statement.{statement}
 use Rattle.scan.proofs.walk.Tie as tie
@@ -44,13 +44,13 @@ module _ (s : tie.Start Inv-loop μ-loop) where
   here = s .args .spot
 
   fit : Fits L
-  fit = fits-of (s .args .b) (omega (arith, s .good .0))
+  fit = fits-of (s .args .b) (s .good .0 .1 .1 .1 .0 .1)
 
   dims-are : here .dims ≡ dims (unpacked ws)
   dims-are = ap (λ (x : Spot). x .dims) (s .pre .spot)
 
   few-dims : here .dims ≤ width
-  few-dims = omega (arith, dims-are, few L fit (unpacked ws) (s .pre .board))
+  few-dims = subst (λ d. d ≤ width) (sym dims-are) (few L fit (unpacked ws) (s .pre .board))
 
 loop-holds : tie.Need-loop-holds Inv-loop μ-loop
 loop-holds c =
@@ -75,7 +75,7 @@ module _ (i : tie.In-loop Inv-loop μ-loop) where
   held = i .before .loop .inv .1
 
   low : k < dims (unpacked (ws begun))
-  low = omega (arith, dims-are begun, i .loop-test .taken)
+  low = subst (λ d. k < d) (dims-are begun) (i .loop-test .taken)
 
   place : at ≡ atFirst p k
   place = held .place ∙ ap (λ d. atFirst d k) (sym (dims-are begun))
@@ -83,13 +83,8 @@ module _ (i : tie.In-loop Inv-loop μ-loop) where
   bound : dims (unpacked (ws begun)) ≤ width
   bound = few (L begun) (fit begun) (unpacked (ws begun)) (begun .pre .board)
 
-  -- the words of dimension k are there, and their places are small
-  small : (k < p) × (at + stepWords p k ≤ mostWords) × (at + stepWords p k ≤ length (ws begun))
-  small = (
-    i .loop-test .taken,
-    omega (arith, held .place, dims-are begun, near (ws begun) k low bound (begun .pre .long)),
-    omega (arith, held .place, dims-are begun, inside (ws begun) k low bound (begun .pre .long)),
-  )
+  places : Placed p k at (at + (2 * (p - k) + 3)) (length (ws begun))
+  places = placed (ws begun) p k at (dims-are begun) (held .place) (i .loop-test .taken) bound (begun .pre .long)
 
   one-is : part (ws begun) at (at + (2 * (p - k) + 3) - at) ≡ firstLent (ws begun) (dims (unpacked (ws begun))) k
   one-is = first-slice (ws begun) p k at place ∙ ap (λ d. firstLent (ws begun) d k) (dims-are begun)
@@ -142,16 +137,11 @@ returns-2 c =
 pub walk-spec : {M : Type 1} → statement M
 walk-spec =
     tie.close
-    (tie.spec Inv-loop μ-loop (λ c κs. search needs)
-    (λ c. record { fits = omega (arith, few-dims (c .before .before .before)) })
-    (λ c. record { fits = omega (arith, few-dims (c .before .before .before)) }) loop-holds
-    (λ c. omega (arith, small c)) (λ c. record { fits = omega (arith, small c) })
-    (λ c. record { fits = omega (arith, small c) }) (λ c. record { fits = omega (arith, small c) })
-    (λ c. record { fits = omega (arith, small c) }) (λ c. record { fits = omega (arith, small c) })
-    (λ c. record { fits = omega (arith, small c) })
-    (λ c. record { fits = omega (arith, small c) }) (λ c. omega arith) (λ c. omega arith) (λ c. omega (arith, small c))
-    (λ c. record { fits = omega (arith, small (c .before)) }) (λ c. record { fits = omega (arith, small (c .before)) })
-    (λ c. record { fits = omega (arith, small (c .before)) }) (λ c. omega arith)
-    (λ c. omega arith) (λ c. omega (arith, small (c .before))) step-requires same-length returns
-    (λ c. record { fits = omega (arith, small (onward c), few-dims (begun (onward c))) }) (λ c. omega (arith, small (onward c))) loop-again
-    (λ c. c .before .loop .inv .1 .length) returns-2)
+    (tie.spec Inv-loop μ-loop (λ c κs. tt) (λ c. board-fits _ (few-dims (c .before .before .before)))
+    (λ c. tallies-fit _ (few-dims (c .before .before .before))) loop-holds (λ c. places c .below) (λ c. places c .shells)
+    (λ c. places c .count) (λ c. places c .middle-fits) (λ c. places c .end-fits) (λ c. places c .wide-at)
+    (λ c. places c .wide-middle) (λ c. places c .scaled-at) (λ c. places c .first-from) (λ c. places c .first-from)
+    (λ c. places c .first-to) (λ c. places (c .before) .wide-middle) (λ c. places (c .before) .wide-end)
+    (λ c. places (c .before) .scaled-middle) (λ c. places (c .before) .second-from) (λ c. places (c .before) .second-from)
+    (λ c. places (c .before) .second-to) step-requires same-length returns (λ c. places (onward c) .next)
+    (λ c. places (onward c) .less) loop-again (λ c. c .before .loop .inv .1 .length) returns-2)

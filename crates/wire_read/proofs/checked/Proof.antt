@@ -19,6 +19,7 @@ use Rattle.frame.specs.Frame.{badStep, frameLength, numberAt, numbersOk, fields
 use Rattle.frame.proofs.RoundTripChecks.{step-known}
 use Rattle.frame.proofs.Answers.{read-board, read-short, read-step, read-length, read-numbers, read-stranger}
 use Rattle.frame.proofs.Answers.{read-found}
+use Rattle.wire_read.proofs.Places.{sized}
 use Rattle.wire_read.proofs.Within.{few, within}
 use Rattle.wire_read.proofs.checked.Statement.{statement}
 use Rattle.wire_read.proofs.checked.Tie as tie
@@ -164,7 +165,8 @@ returns-7 c =
 pub checked-spec : {M : Type 1} → statement M
 checked-spec =
     tie.close
-    (tie.spec (λ c κs. search needs) (λ c. search needs) (λ c. search needs) returns returns-2 (λ c. search needs)
-    (λ c κs. search needs) (λ c. search needs) (λ c κs. search needs) (λ c κs. search needs) returns-3 count-of-requires
-    (λ c. search needs) (λ c. search needs) (λ c. search needs) returns-4 (λ c κs. search needs) (λ c κs. search needs)
-    returns-5 (λ c. search needs) (λ c κs. search needs) returns-6 returns-7)
+    (tie.spec (λ c κs. tt) (λ c. search needs) (λ c. search needs) returns returns-2 (λ c. search needs)
+    (λ c κs. tt) (λ c. search needs) (λ c κs. tt) (λ c κs. tt) returns-3 count-of-requires
+    (λ c. sized _ (c .count-of .ensures .1) .scaled) (λ c. sized _ (c .count-of .ensures .1) .whole)
+    (λ c. sized _ (c .count-of .ensures .1) .wide) returns-4 (λ c κs. tt) (λ c κs. search needs)
+    returns-5 (λ c. search needs) (λ c κs. tt) returns-6 returns-7)

@@ -7,10 +7,12 @@ use mathlib.Core.Bool.{Bool}
 use mathlib.Core.List.{List}
 use Prim.Native.Nat.{ℕ, _+_, _-_, _*_, _≤_}
 use lib.Dec.{leb}
+use lib.ListN.{length}
 use denote.Ref.{now}
 use Rattle.base.specs.Choice.{both, every}
 use Rattle.base.proofs.Laws.{every-here, every-end}
 use Rattle.frame.specs.Frame.{numberAt}
+use Rattle.wire_read.proofs.Places.{Turn, turn-at}
 use Rattle.wire_read.proofs.numbers_within.Statement.{statement}
 use Rattle.wire_read.proofs.numbers_within.Tie as tie
 
@@ -30,6 +32,14 @@ start n f = let z : n - 0 ≡ n = omega arith in rw z
 loop-holds : tie.Need-loop-holds Inv-loop μ-loop
 loop-holds c =
     let x = c .before .args in (search needs, search needs, start (x .count) (low (x .limit) (now (x .bytes))))
+
+-- where the i-th number is
+place : (c : tie.In-loop Inv-loop μ-loop)
+    → let x = c .before .before .before .args in
+    Turn (x .count) (c .before .loop .at) (c .before .loop .i) (length (now (x .bytes)))
+place c =
+    let s = c .before .before .before in
+    turn-at _ _ _ _ (c .loop-test .taken) (c .before .loop .inv .1) (s .pre .0) (s .pre .1)
 
 -- the test of the i-th number, and of those after it
 turn : (c : tie.After-word-at Inv-loop μ-loop)
@@ -57,5 +67,5 @@ returns-2 c = sym (c .before .loop .inv .2 ∙ every-end _ _ _ (c .loop-test .le
 pub numbers-within-spec : {M : Type 1} → statement M
 numbers-within-spec =
     tie.close
-    (tie.spec Inv-loop μ-loop loop-holds (λ c. search needs) (λ c κs. search needs) returns (λ c. search needs)
-    (λ c. search needs) (λ c. search needs) loop-again returns-2)
+    (tie.spec Inv-loop μ-loop loop-holds (λ c. place c .wide) (λ c κs. place c .there) returns
+    (λ c. place (c .before .before) .further) (λ c. place (c .before .before) .next) (λ c. place (c .before .before) .less) loop-again returns-2)
