@@ -1,5 +1,5 @@
--- What holds of a recording that is not refused: its sizes, so that each of its numbers has room in the bytes, and its
--- events.
+-- What holds of a recording that is not refused: its sizes, so that each of its numbers has room in the bytes, and that
+-- each of its events is one of its board.
 use mathlib.Core.Path.{_≡_}
 use mathlib.Core.Bool.{true, false, not}
 use Prim.Native.Nat.{ℕ, _+_, _*_, _≤_, _<_}
@@ -7,9 +7,9 @@ use native.Mathlib.Omega.{arith}
 use lib.Dec.{ltb, eqb}
 use lib.ListN.{length}
 use borrow.Author.Tests.{ltb-false, eqb-true, eqb-false, not-false}
-use Rattle.base.proofs.Laws.{either-false}
-use Rattle.recording.specs.Recording.{Recording, bodies}
-use Rattle.recording.specs.Test.{outside, goodEvents, isBadBy, isBad, sum}
+use Rattle.base.proofs.Laws.{either-false, every-at}
+use Rattle.recording.specs.Recording.{Recording, eventCount, bodies}
+use Rattle.recording.specs.Test.{outside, goodAt, goodEvents, isBadBy, isBad, sum}
 
 within : (most x : ℕ) → outside most x ≡ false → x ≤ most
 within most x e = ltb-false most x (either-false (eqb x 0) (ltb most x) e .1)
@@ -23,10 +23,10 @@ pub record Sized (r : Recording) : Type 0 where
   pub sections : length (r .counts) ≤ 32
   pub total : 4 * sum (r .counts) ≡ length (r .events)
   pub room : bodies (length (r .counts)) + length (r .events) ≤ 60000
-  pub events : goodEvents (r .nodes) (r .events) ≡ true
+  pub events : (i : ℕ) → i < eventCount r → goodAt (r .nodes) (r .events) i ≡ true
 
 pub sized : (r : Recording) → isBad r ≡ false → Sized r
-unfolding isBadBy
+unfolding isBadBy goodEvents
 sized r e =
     let n = length (r .counts) in
     let l = length (r .events) in
@@ -40,5 +40,7 @@ sized r e =
       sections = within 32 n (b .0);
       total = eqb-true (4 * sum (r .counts)) l (not-false _ (c .0));
       room = ltb-false 60000 (bodies n + l) (d .0);
-      events = not-false _ (d .1);
+      events =
+          λ i h. every-at 0 (eventCount r) (goodAt (r .nodes) (r .events)) (not-false _ (d .1)) i (omega arith)
+          (omega arith);
     }

@@ -85,5 +85,5 @@ pub fn is_recording(bytes: &[u8]) -> bool
         return false;
     }
     let total = total_of(bytes, sections);
-    !recording::is_bad(wide(bytes[0]), sections, total, from(bytes, head))
+    !recording_bad::is_bad(wide(bytes[0]), sections, total, from(bytes, head))
 }

@@ -28,7 +28,7 @@ fn is_refused(nodes: u32, counts: &[u32], events: &[u8]) -> bool
     if 32 < counts.len() {
         return true;
     }
-    recording::is_bad(nodes, counts.len(), total_of(counts), events)
+    recording_bad::is_bad(nodes, counts.len(), total_of(counts), events)
 }
 
 // Puts a number of the table.

@@ -2,15 +2,14 @@
 use mathlib.Core.Path.{_≡_, sym}
 use mathlib.Core.Bool.{Bool, true, false}
 use Prim.Native.Nat.{ℕ, _<_}
-use native.Mathlib.Omega.{arith}
 use lib.Dec.{ltb, eqb}
 use Rattle.base.specs.Choice.{choose, both, either}
 use Rattle.base.specs.declared.Kind.the-variants.{Job, Note}
-use Rattle.base.proofs.Laws.{clash, both-true, every-at}
+use Rattle.base.proofs.Laws.{clash, both-true}
 use Rattle.script.specs.declared.Line.the-variants.{Sends, Delivers, Idles, Calls, Bad}
 use Rattle.script.proofs.Named.{isEvent}
 use Rattle.recording.specs.Recording.{Recording, eventCount, eventByte}
-use Rattle.recording.specs.Test.{goodEvent, goodAt, goodEvents}
+use Rattle.recording.specs.Test.{goodEvent}
 use Rattle.recording.proofs.Sizes.{Sized}
 use Rattle.replay_parts.specs.Events.{lineBy, lineOf}
 
@@ -33,7 +32,7 @@ line-good nodes letter a b =
 
 -- event i of what is not refused
 pub event-good : (r : Recording) → Sized r → (i : ℕ) → i < eventCount r → isEvent (r .nodes) (lineOf r i) ≡ true
-unfolding goodEvents lineOf
+unfolding lineOf
 event-good r g i h =
     line-good (r .nodes) (eventByte (r .events) i 0) (eventByte (r .events) i 1) (eventByte (r .events) i 2)
-    (every-at 0 (eventCount r) (goodAt (r .nodes) (r .events)) (g .events) i (omega arith) (omega arith))
+    (g .events i h)

@@ -10,9 +10,9 @@ use denote.Ref.{now}
 use lib.ListN.{length}
 use Rattle.base.specs.Choice.{both, every}
 use Rattle.base.proofs.Laws.{every-here, every-end}
 use Rattle.recording.specs.Test.{goodAt, goodEvents}
-use Rattle.recording.proofs.events_good.Statement.{statement}
-use Rattle.recording.proofs.events_good.Tie as tie
+use Rattle.recording_events.proofs.events_good.Statement.{statement}
+use Rattle.recording_events.proofs.events_good.Tie as tie
 
 abbrev Inv-loop : tie.InvT-loop
 Inv-loop nodes events n i₀ i =

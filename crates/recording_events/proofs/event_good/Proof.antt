@@ -7,9 +7,9 @@ use mathlib.Core.Logic.{_⊎_, ⊎-elim, inl, inr}
 use mathlib.Core.Path.{_≡_, ap}
 use Prim.Native.Nat.{ℕ, _≤_, _<_}
 use lib.Dec.{ltb, eqb}
 use Rattle.recording.specs.Test.{hasTwo, hasOne, goodEvent}
-use Rattle.recording.proofs.event_good.Statement.{statement}
-use Rattle.recording.proofs.event_good.Tie as tie
+use Rattle.recording_events.proofs.event_good.Statement.{statement}
+use Rattle.recording_events.proofs.event_good.Tie as tie
 
 module _ (nodes letter a b : ℕ) (l : a < nodes) where
   two : hasTwo letter ≡ true → ltb b nodes ≡ goodEvent nodes letter a b

@@ -7,11 +7,11 @@ use mathlib.Core.List.{List}
 use mathlib.Core.Path.{_≡_, ap, _∙_}
 use Prim.Native.Nat.{ℕ, _+_, _*_, _≤_, _<_}
 use lib.ListN.{length}
 use Rattle.recording.specs.Recording.{bodies}
 use Rattle.recording.specs.Test.{outside, goodEvents, isBadBy}
 use Rattle.recording.proofs.Tests.{above}
-use Rattle.recording.proofs.is_bad.Statement.{statement}
-use Rattle.recording.proofs.is_bad.Tie as tie
+use Rattle.recording_bad.proofs.is_bad.Statement.{statement}
+use Rattle.recording_bad.proofs.is_bad.Tie as tie
 
 within : (most x : ℕ) → (x ≡ 0 → ⊥) → x ≤ most → outside most x ≡ false
 within most x p l = rw (ne-eqb x 0 p, le-ltb most x l)
