@@ -1,9 +1,8 @@
-// Bytes and decimal numbers put into a lent buffer. Any place may be handed; what has no room is left out, and each
-// function answers where its text ends.
+// Bytes put into a lent buffer. Any place may be handed; what has no room is left out, and each function
+// answers where its text ends.
 ghost use mathlib.Core.Path.{_≡_};
 ghost use mathlib.Core.List.{[], _∷_};
-ghost use Prim.Native.Nat.{_+_, _%_};
-ghost use Rattle.printing.specs.Put.{digits, put, ends};
+ghost use Rattle.printing.specs.Put.{put, ends};
 
 pub fn put_byte(out: &mut [u8], at: usize, x: u8) -> usize
     ensures memory { λ r. ⌜ now (out .exit) ≡ put (now (out .entry)) at (x ∷ []) ⌝ }
@@ -40,33 +39,4 @@ pub fn put_two(out: &mut [u8], at: usize, a: u8, b: u8) -> usize
 {
     let next = put_byte(&mut *out, at, a);
     put_byte(&mut *out, next, b)
-}
-
-// The last digit of a number.
-fn digit(x: u32) -> u8
-    ensures { λ r. ⌜ r ≡ 48 + x % 10 ⌝ }
-{
-    48 + (x % 10) as u8
-}
-
-pub fn put_digits(out: &mut [u8], at: usize, x: u32) -> usize
-    ensures memory { λ r. ⌜ now (out .exit) ≡ put (now (out .entry)) at (digits x) ⌝ }
-    ensures place { λ r. ⌜ r ≡ ends (now (out .entry)) at (digits x) ⌝ }
-{
-    let ones = digit(x);
-    if x < 10 {
-        return put_byte(out, at, ones);
-    }
-    let tens = digit(x / 10);
-    if x < 100 {
-        return put_two(out, at, tens, ones);
-    }
-    let hundreds = digit(x / 100);
-    if x < 1000 {
-        let next = put_byte(&mut *out, at, hundreds);
-        return put_two(&mut *out, next, tens, ones);
-    }
-    let thousands = digit(x / 1000);
-    let next = put_two(&mut *out, at, thousands, hundreds);
-    put_two(&mut *out, next, tens, ones)
 }

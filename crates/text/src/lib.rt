@@ -18,8 +18,8 @@ pub fn put_stop(out: &mut [u8], at: usize, why: u32, line: u32) -> usize
     ensures place { λ r. ⌜ r ≡ ends (now (out .entry)) at (stopText why line) ⌝ }
 {
     let a = printing::put_bytes(&mut *out, at, b"stop ");
-    let b = printing::put_digits(&mut *out, a, why);
+    let b = digits::put_digits(&mut *out, a, why);
     let c = printing::put_bytes(&mut *out, b, b" at line ");
-    let d = printing::put_digits(&mut *out, c, line);
+    let d = digits::put_digits(&mut *out, c, line);
     printing::put_byte(&mut *out, d, b'\n')
 }

@@ -20,7 +20,7 @@ fn put_field(out: &mut [u8], at: usize, x: u32) -> usize
     ensures memory { λ r. ⌜ now (out .exit) ≡ put (now (out .entry)) at (digits x ++ (32 ∷ [])) ⌝ }
     ensures place { λ r. ⌜ r ≡ ends (now (out .entry)) at (digits x ++ (32 ∷ [])) ⌝ }
 {
-    let next = printing::put_digits(&mut *out, at, x);
+    let next = digits::put_digits(&mut *out, at, x);
     printing::put_byte(&mut *out, next, b' ')
 }
 

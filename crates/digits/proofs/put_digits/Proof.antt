@@ -2,10 +2,10 @@
 use borrow.Author.Needs.{needs}
 use native.Mathlib.Omega.{arith}
 use mathlib.Core.List.{[], _∷_}
 use Rattle.printing.proofs.Putting.{then, said}
-use Rattle.printing.proofs.Digits.{digits-one, digits-two, digits-three, digits-four}
-use Rattle.printing.proofs.put_digits.Statement.{statement}
-use Rattle.printing.proofs.put_digits.Tie as tie
+use Rattle.digits.proofs.Digits.{digits-one, digits-two, digits-three, digits-four}
+use Rattle.digits.proofs.put_digits.Statement.{statement}
+use Rattle.digits.proofs.put_digits.Tie as tie
 
 returns : tie.Need-returns
 returns c =
