@@ -44,14 +44,15 @@ use Rattle.stage.proofs.Stage.Laws as StageL
 use Rattle.stage.specs.declared.Acted.{Acted}
 use Rattle.stage.proofs.Acted as ActedT
 use Rattle.stage.proofs.Acted.Laws as ActedL
-use Rattle.lines.proofs.Ends as EndsT
-use Rattle.lines.proofs.Ends.Laws as EndsL
+use Rattle.line_links.proofs.Ends as EndsT
+use Rattle.line_links.proofs.Ends.Laws as EndsL
 use Rattle.opening.proofs.Opened as OpenedT
 use Rattle.opening.proofs.Opened.Laws as OpenedL
 use Rattle.opening.specs.Opens.{opened, openingText}
-use Rattle.lines.specs.Told.{toldAt, endsOf}
+use Rattle.line_links.specs.Links.{endsOf}
+use Rattle.lines.specs.Told.{toldAt}
 use Rattle.lines.specs.Printed.{lineText}
-use Rattle.lines.proofs.link_of as link-of
+use Rattle.line_links.proofs.link_of as link-of
 use Rattle.turns.proofs.act as act
 use Rattle.opening.proofs.open_script as open-script
 use Rattle.opening.proofs.put_opening as put-opening

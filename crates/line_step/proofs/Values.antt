@@ -26,9 +26,9 @@ use Rattle.stage.proofs.Stage.Laws as StageL
 use Rattle.stage.specs.declared.Acted.{Acted}
 use Rattle.stage.proofs.Acted as ActedT
 use Rattle.stage.proofs.Acted.Laws as ActedL
-use Rattle.lines.specs.declared.Ends.{Ends}
-use Rattle.lines.proofs.Ends as EndsT
-use Rattle.lines.proofs.Ends.Laws as EndsL
+use Rattle.line_links.specs.declared.Ends.{Ends}
+use Rattle.line_links.proofs.Ends as EndsT
+use Rattle.line_links.proofs.Ends.Laws as EndsL
 use Rattle.opening.specs.declared.Opened.{Opened}
 use Rattle.opening.proofs.Opened as OpenedT
 use Rattle.opening.proofs.Opened.Laws as OpenedL

@@ -9,7 +9,7 @@ use Rattle.items.specs.declared.Item.{Item}
 use Rattle.stage.specs.declared.Stage.{Stage}
 use Rattle.stage.specs.declared.Acted.{Acted}
 use Rattle.turns.specs.Acts.{acted, actedBytes}
-use Rattle.lines.specs.Told.{endsOf}
+use Rattle.line_links.specs.Links.{endsOf}
 
 module _ (st : Stage) (items : List Item) (bytes : List ℕ) (line : Line) where
   -- where the oldest item of the line's link stands

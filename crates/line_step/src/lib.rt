@@ -12,7 +12,7 @@ pub fn step(items: &mut [Item], bytes: &mut [u8], st: Stage, line: Line) -> Acte
     ensures headers { λ r. ⌜ now (items .exit) ≡ steppedItems (st .under) r (now (items .entry)) ⌝ }
     ensures frames { λ r. ⌜ now (bytes .exit) ≡ steppedBytes st (now (items .entry)) (now (bytes .entry)) line ⌝ }
 {
-    let link = lines::link_of(line);
+    let link = line_links::link_of(line);
     let at = items::oldest_at(items, st.under, link.from, link.to);
     let it = items::item_at(items, at);
     let r = turns::act(st, line, at, it, items.len(), bytes);

@@ -9,7 +9,7 @@ use Rattle.base.proofs.Laws.{clash}
 use Rattle.script.specs.declared.Line.{Line}
 use Rattle.script.specs.declared.Line.the-variants.{Nodes, Sends, Delivers, Idles, Calls, Bad}
 use Rattle.script.proofs.Line as LineT
-use Rattle.lines.specs.Told.{taken, stops, endsOf}
+use Rattle.lines.specs.Told.{taken, stops}
 
 pub stopping : (l : Line) → OneOf (0 ∷ 5 ∷ []) (tagOf LineT.the-type l) → stops l ≡ true
 stopping (Nodes P) h = refl
@@ -34,12 +34,3 @@ taken-stop (Delivers a b) size h = clash (sym h)
 taken-stop (Idles a) size h = clash (sym h)
 taken-stop (Calls a) size h = clash (sym h)
 taken-stop Bad size h = refl
-
-pub no-link : (l : Line) → OneOf (0 ∷ 1 ∷ 3 ∷ 4 ∷ 5 ∷ []) (tagOf LineT.the-type l)
-    → endsOf l ≡ record { from = 0; to = 0 }
-no-link (Nodes P) h = refl
-no-link (Sends kind a b) h = refl
-no-link (Delivers a b) h = absurd (miss (0 ∷ 1 ∷ 3 ∷ 4 ∷ 5 ∷ []) 2 tt h)
-no-link (Idles a) h = refl
-no-link (Calls a) h = refl
-no-link Bad h = refl

@@ -1,7 +1,7 @@
 -- A line of a script after the first, as the player takes it.
 use mathlib.Core.Bool.{Bool, true, false}
 use mathlib.Core.List.{List}
-use Prim.Native.Nat.{ℕ, _%_}
+use Prim.Native.Nat.{ℕ}
 use lib.Dec.{ltb}
 use lib.ListN.{length}
 use Rattle.base.specs.Choice.{choose, both}
@@ -9,7 +9,6 @@ use Rattle.script.specs.Script.{lineAt}
 use Rattle.script.specs.declared.Line.{Line}
 use Rattle.script.specs.declared.Line.the-variants.{Nodes, Sends, Delivers, Idles, Calls, Bad}
 use Rattle.script.specs.declared.Parsed.{Parsed}
-use Rattle.lines.specs.declared.Ends.{Ends}
 
 -- the line as a board of so many nodes takes it
 abbrev pub taken : ℕ → Line → Line
@@ -34,12 +33,3 @@ toldAt script at size =
     let p = lineAt script at in
     let line = taken size (p .line) in
     record { line = line; next = choose (stops line) (length script) (p .next) }
-
--- the ends of the link that it delivers on, as bytes
-abbrev pub endsOf : Line → Ends
-endsOf (Nodes P) = record { from = 0; to = 0 }
-endsOf (Sends kind a b) = record { from = 0; to = 0 }
-endsOf (Delivers a b) = record { from = a % 256; to = b % 256 }
-endsOf (Idles a) = record { from = 0; to = 0 }
-endsOf (Calls a) = record { from = 0; to = 0 }
-endsOf Bad = record { from = 0; to = 0 }

@@ -5,7 +5,7 @@ ghost use lib.Dec.{ltb};
 ghost use Rattle.base.specs.Choice.{both};
 ghost use Rattle.stage.specs.Board.{nodeAt};
 ghost use Rattle.printing.specs.Put.{put, ends};
-ghost use Rattle.lines.specs.Told.{taken, stops, toldAt, endsOf};
+ghost use Rattle.lines.specs.Told.{taken, stops, toldAt};
 ghost use Rattle.lines.specs.Printed.{shown, lineText};
 use script::Line;
 use script::Parsed;
@@ -13,12 +13,6 @@ use stage::Acted;
 use turn_text::Shown;
 
 // ---- What is read
-
-// The ends of a link.
-pub struct Ends {
-    pub from: u8,
-    pub to: u8,
-}
 
 fn both_below(a: u32, b: u32, size: u32) -> bool
     ensures { λ r. ⌜ r ≡ both (ltb a size) (ltb b size) ⌝ }
@@ -85,19 +79,6 @@ pub fn next_line(script: &[u8], at: usize, size: u32) -> Parsed
     Parsed {
         line: line,
         next: p.next,
-    }
-}
-
-// The link that a line delivers on.
-pub fn link_of(line: Line) -> Ends
-    ensures { λ r. ⌜ r ≡ endsOf line ⌝ }
-{
-    match line {
-        Line::Delivers(a, b) => Ends {
-            from: (a % 256) as u8,
-            to: (b % 256) as u8,
-        },
-        _ => Ends { from: 0, to: 0 },
     }
 }
 

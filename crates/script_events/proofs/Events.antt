@@ -1,13 +1,11 @@
 -- The events of a script line by line, and the parts of a printed line.
 use mathlib.Core.Path.{_≡_, refl, sym, ap, _∙_}
 use mathlib.Core.Bool.{true, false}
-use mathlib.Core.List.{List, [], _∷_, _++_}
+use mathlib.Core.List.{List, [], _++_}
 use Prim.Native.Nat.{ℕ, zero, suc, _+_, _-_, _≤_, _<_}
 use native.Mathlib.Decide.{decLt}
 use native.Mathlib.Omega.{arith}
 use borrow.Author.Tests.{ltb-true, lt-ltb, le-ltb, le-leb, lt-leb}
-use types.Run.{OneOf, miss}
-use denote.Enum.Declared.{tagOf}
 use lib.Dec.{ltb}
 use lib.ListN.{length, take, drop, length-drop, drop-of-length-le}
 use lib.Seq.{take-all}
@@ -16,12 +14,10 @@ use Rattle.line_parts.specs.Parts.{isNumber, valueAfter}
 use Rattle.printing.specs.Put.{put, ends}
 use Rattle.printing.proofs.Putting.{Written, then, put-none}
 use Rattle.script.specs.Script.{before, lineAt}
-use Rattle.script.specs.declared.Line.{Line}
-use Rattle.script.specs.declared.Line.the-variants.{Nodes, Sends, Delivers, Idles, Calls, Bad}
 use Rattle.script.specs.declared.Parsed.{Parsed}
-use Rattle.script.proofs.Line as LineT
 use Rattle.script.proofs.Answers.{next-on}
-use Rattle.script_events.specs.Events.{eventBytes, answerOf, lineFrom, nextFrom, stopAt, eventsFrom}
+use Rattle.event_bytes.specs.Bytes.{eventBytes}
+use Rattle.script_events.specs.Events.{answerOf, lineFrom, nextFrom, stopAt, eventsFrom}
 
 -- ---- Parts of bytes
 
@@ -71,17 +67,6 @@ module _
     pub told : (x : ℕ) → isNumber part ≡ true → x ≡ valueAfter 0 part → x ≡ answerOf line
     unfolding answerOf
     told x h q = rw (← e, ← f, h, q)
-
--- ---- Lines
-
-pub no-event : (line : Line) (answer : ℕ) → OneOf (0 ∷ 5 ∷ []) (tagOf LineT.the-type line) → eventBytes line answer ≡ []
-unfolding eventBytes
-no-event (Nodes P) answer h = refl
-no-event (Sends kind a b) answer h = absurd (miss (0 ∷ 5 ∷ []) 1 tt h)
-no-event (Delivers a b) answer h = absurd (miss (0 ∷ 5 ∷ []) 2 tt h)
-no-event (Idles a) answer h = absurd (miss (0 ∷ 5 ∷ []) 3 tt h)
-no-event (Calls a) answer h = absurd (miss (0 ∷ 5 ∷ []) 4 tt h)
-no-event Bad answer h = refl
 
 -- ---- All events
 

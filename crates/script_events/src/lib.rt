@@ -1,55 +1,13 @@
 // The events of a script that was played, each with the answer that was printed for it. Any script and text may be
 // handed.
 ghost use mathlib.Core.Path.{_≡_};
-ghost use Prim.Native.Nat.{_+_, _%_, _≤_};
+ghost use Prim.Native.Nat.{_+_, _≤_};
 ghost use lib.ListN.{length, take, drop};
 ghost use Rattle.script.specs.Script.{before};
 ghost use Rattle.printing.specs.Put.{put, ends};
-ghost use Rattle.script_events.specs.Events.{letterOf, fourOf, eventBytes, answerOf, lineFrom, nextFrom, stopAt};
-ghost use Rattle.script_events.specs.Events.{eventsOf};
-use base::Kind;
+ghost use Rattle.script_events.specs.Events.{answerOf, lineFrom, nextFrom, stopAt, eventsOf};
+use event_bytes::put_event;
 use line_parts::Number;
-use script::Line;
-
-// ---- The bytes of an event
-
-fn low(x: u32) -> u8
-    ensures { λ r. ⌜ r ≡ x % 256 ⌝ }
-{
-    (x % 256) as u8
-}
-
-fn letter_of(kind: Kind) -> u8
-    ensures { λ r. ⌜ r ≡ letterOf kind ⌝ }
-{
-    match kind {
-        Kind::Job => b's',
-        Kind::Note => b't',
-    }
-}
-
-// Puts an event's four bytes.
-fn put_four(events: &mut [u8], at: usize, letter: u8, first: u32, second: u32, answer: u32) -> usize
-    ensures memory { λ r. ⌜ now (events .exit) ≡ put (now (events .entry)) at (fourOf letter first second answer) ⌝ }
-    ensures place { λ r. ⌜ r ≡ ends (now (events .entry)) at (fourOf letter first second answer) ⌝ }
-{
-    let next = printing::put_two(&mut *events, at, letter, low(first));
-    printing::put_two(&mut *events, next, low(second), low(answer))
-}
-
-// Puts the event of a line; nothing where the line is none.
-fn put_event(events: &mut [u8], at: usize, line: Line, answer: u32) -> usize
-    ensures memory { λ r. ⌜ now (events .exit) ≡ put (now (events .entry)) at (eventBytes line answer) ⌝ }
-    ensures place { λ r. ⌜ r ≡ ends (now (events .entry)) at (eventBytes line answer) ⌝ }
-{
-    match line {
-        Line::Sends(kind, a, b) => put_four(events, at, letter_of(kind), a, b, answer),
-        Line::Delivers(a, b) => put_four(events, at, b'd', a, b, answer),
-        Line::Idles(a) => put_four(events, at, b'i', a, 0, answer),
-        Line::Calls(a) => put_four(events, at, b'b', a, 0, answer),
-        _ => printing::put_bytes(events, at, b""),
-    }
-}
 
 // ---- The answers of a text
 

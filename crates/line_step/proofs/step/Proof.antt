@@ -58,15 +58,15 @@ use Rattle.stage.proofs.Stage.Laws as StageL
 use Rattle.stage.specs.declared.Acted.{Acted}
 use Rattle.stage.proofs.Acted as ActedT
 use Rattle.stage.proofs.Acted.Laws as ActedL
-use Rattle.lines.specs.declared.Ends.{Ends}
-use Rattle.lines.specs.Told.{endsOf}
+use Rattle.line_links.specs.declared.Ends.{Ends}
+use Rattle.line_links.specs.Links.{endsOf}
 use Rattle.line_step.specs.Steps.{oldest, stepped, steppedBytes, steppedItems}
 use Rattle.line_step.proofs.Values.{ends-fit, under-fits, acted-fit, typed-stage, typed-line, typed-ends}
 use Rattle.line_step.proofs.Values.{typed-acted}
 use Rattle.line_step.proofs.Does.{LinkOf, Act, link-of-does, act-does}
-use Rattle.lines.proofs.link_of.Symbol as link-of-def
-use Rattle.lines.proofs.link_of.Symbol.{name as #lines·link-of}
-use Rattle.lines.proofs.link_of.Met as link-of-thm
+use Rattle.line_links.proofs.link_of.Symbol as link-of-def
+use Rattle.line_links.proofs.link_of.Symbol.{name as #line-links·link-of}
+use Rattle.line_links.proofs.link_of.Met as link-of-thm
 use Rattle.items.proofs.oldest_at.Symbol as oldest-at-def
 use Rattle.items.proofs.oldest_at.Symbol.{name as #items·oldest-at}
 use Rattle.items.proofs.oldest_at.Met as oldest-at-thm
@@ -179,7 +179,7 @@ module _ {M : Type 1} (𝓤 : URA M) (H : Heap 𝓤) (A : Atoms 𝓤) (W : Given
       m = e₃ ∙ ap (λ (k : ℕ). getD ys k noItem) p
 
   module _ (C : Calls 𝓤 H) (Λ : Loops 𝓤 H) (fm : FmC 𝓤 H (W .laws) C)
-      (known-link-of : Triple 𝓤 (C #lines·link-of) (LinkOf 𝓤 H A mem run))
+      (known-link-of : Triple 𝓤 (C #line-links·link-of) (LinkOf 𝓤 H A mem run))
       (known-oldest-at : Triple 𝓤 (C #items·oldest-at) (OldestAt 𝓤 H A mem run))
       (known-item-at : Triple 𝓤 (C #items·item-at) (ItemAt 𝓤 H A mem run))
       (known-act : Triple 𝓤 (C #turns·act) (Act 𝓤 H A mem run)) (known-remove-item : Triple 𝓤 (C #item-changes·remove-item)
@@ -212,7 +212,7 @@ module _ {M : Type 1} (𝓤 : URA M) (H : Heap 𝓤) (A : Atoms 𝓤) (W : Given
         pass1 ! (init ! 42 refl (typed-stage 𝓤 H A W st is-st)) $
         pass1 ! (init ! 40 refl (typed-line 𝓤 H A W line is-line)) $ pass0 ! $
         -- let link = link_of(line)
-        calls-plain ! fm (link-of-does 𝓤 H A W mem run C fm #lines·link-of known-link-of line is-line)
+        calls-plain ! fm (link-of-does 𝓤 H A W mem run C fm #line-links·link-of known-link-of line is-line)
         (λ _. and-then ! (loc ! 41 refl) (no-more !)) (λ link link-is is-link.
         lands-in ! 38 refl (typed-ends 𝓤 H A W link is-link) $
         -- let at = oldest_at(items, st.under, link.from, link.to)
@@ -290,7 +290,7 @@ module _ {M : Type 1} (𝓤 : URA M) (H : Heap 𝓤) (A : Atoms 𝓤) (W : Given
     (run : Routine → Fun 𝓤) where
   -- that the callees meet their contracts
   abbrev Known : Calls 𝓤 H → Type 1
-  Known C = Triple 𝓤 (C #lines·link-of) (LinkOf 𝓤 H A mem run) ×
+  Known C = Triple 𝓤 (C #line-links·link-of) (LinkOf 𝓤 H A mem run) ×
       (Triple 𝓤 (C #items·oldest-at) (OldestAt 𝓤 H A mem run) ×
       (Triple 𝓤 (C #items·item-at) (ItemAt 𝓤 H A mem run) × (Triple 𝓤 (C #turns·act) (Act 𝓤 H A mem run) ×
       (Triple 𝓤 (C #item-changes·remove-item) (RemoveItem 𝓤 H A mem run) × Triple 𝓤 (C #item-changes·append-item)
@@ -335,8 +335,8 @@ step-spec 𝓤 H 𝓜 𝓖 𝓡 =
     entered 𝓤 H (tripleOf 𝓤 H (𝓖 .A) step.signature (step.spec 𝓤 H (𝓖 .A) (𝓜 .mem) (𝓡 .run)))
     (tables 𝓤 H 𝓜 𝓡 code.env .C) (tables 𝓤 H 𝓜 𝓡 code.env .Λ) #line-step·step code.function (code.unfolded 𝓤 H 𝓜 𝓡)
     (step-meets 𝓤 H (𝓖 .A) (givenOf 𝓤 H 𝓜 𝓖) (𝓜 .mem) (𝓡 .run) (tablesOf 𝓤 H 𝓜 (tables 𝓤 H 𝓜 𝓡 code.env)) (
-      cited 𝓤 H (LinkOf 𝓤 H (𝓖 .A) (𝓜 .mem) (𝓡 .run)) 𝓜 𝓡 code.env #lines·link-of link-of-def.routine
-          code.calls-lines·link-of (link-of-thm.met 𝓤 H 𝓜 𝓖 𝓡),
+      cited 𝓤 H (LinkOf 𝓤 H (𝓖 .A) (𝓜 .mem) (𝓡 .run)) 𝓜 𝓡 code.env #line-links·link-of link-of-def.routine
+          code.calls-line-links·link-of (link-of-thm.met 𝓤 H 𝓜 𝓖 𝓡),
       (
         cited 𝓤 H (OldestAt 𝓤 H (𝓖 .A) (𝓜 .mem) (𝓡 .run)) 𝓜 𝓡 code.env #items·oldest-at oldest-at-def.routine
             code.calls-items·oldest-at (oldest-at-thm.met 𝓤 H 𝓜 𝓖 𝓡),

@@ -2,8 +2,8 @@
 use borrow.Author.Needs.{needs}
 use mathlib.Core.List.{[], _∷_}
 use Rattle.printing.proofs.Putting.{then, said}
-use Rattle.script_events.proofs.put_four.Statement.{statement}
-use Rattle.script_events.proofs.put_four.Tie as tie
+use Rattle.event_bytes.proofs.put_four.Statement.{statement}
+use Rattle.event_bytes.proofs.put_four.Tie as tie
 
 returns : tie.Need-returns
 returns c =

@@ -4,10 +4,10 @@ use mathlib.Core.Path.{_≡_, sym, ap}
 use Prim.Native.Nat.{ℕ}
 use Rattle.script.specs.declared.Line.{Line}
 use Rattle.printing.proofs.Putting.{said}
-use Rattle.script_events.specs.Events.{eventBytes}
-use Rattle.script_events.proofs.Events.{no-event}
-use Rattle.script_events.proofs.put_event.Statement.{statement}
-use Rattle.script_events.proofs.put_event.Tie as tie
+use Rattle.event_bytes.specs.Bytes.{eventBytes}
+use Rattle.event_bytes.proofs.Tags.{no-event}
+use Rattle.event_bytes.proofs.put_event.Statement.{statement}
+use Rattle.event_bytes.proofs.put_event.Tie as tie
 
 -- the bytes of the event of a line that is of a kind
 known : (line kind : Line) (answer : ℕ) → line ≡ kind → eventBytes kind answer ≡ eventBytes line answer

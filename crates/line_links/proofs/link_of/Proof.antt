@@ -1,10 +1,10 @@
 -- `link_of` is `endsOf`.
 use mathlib.Core.Path.{sym, ap}
 use borrow.Author.Needs.{needs}
-use Rattle.lines.specs.Told.{endsOf}
-use Rattle.lines.proofs.Tags.{no-link}
-use Rattle.lines.proofs.link_of.Statement.{statement}
-use Rattle.lines.proofs.link_of.Tie as tie
+use Rattle.line_links.specs.Links.{endsOf}
+use Rattle.line_links.proofs.Tags.{no-link}
+use Rattle.line_links.proofs.link_of.Statement.{statement}
+use Rattle.line_links.proofs.link_of.Tie as tie
 
 returns : tie.Need-returns
 returns c = sym (ap endsOf (c .before .line .given .1))
