@@ -25,7 +25,7 @@ use Rattle.layout.proofs.Offsets.{words-closed}
 use Rattle.kept.proofs.Holds.{Holds}
 use Rattle.kept.proofs.Calls.{send-holds, take-holds, idle-holds, frame-holds, step-holds}
 use Rattle.kept.proofs.Fresh.{fresh-words}
-use Rattle.node_calls.specs.Fresh.{freshWords}
+use Rattle.node_fresh.specs.Fresh.{freshWords}
 use Rattle.states.specs.Words.{most, freshState}
 use Rattle.state_calls.specs.On.{Kept, keep, onState, stepOn}
 use Rattle.states.specs.declared.State.{State}

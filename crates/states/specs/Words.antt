@@ -2,7 +2,7 @@
 use Prim.Native.Nat.{ℕ}
 use lib.ListN.{replicate}
 use Rattle.base.specs.Limits.{base}
-use Rattle.node_calls.specs.Fresh.{freshWords}
+use Rattle.node_fresh.specs.Fresh.{freshWords}
 use Rattle.states.specs.declared.State.{State}
 
 -- the words of a board of 16 nodes

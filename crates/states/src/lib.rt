@@ -22,7 +22,7 @@ pub fn fresh(nodes: u32, number: u32) -> State
     ensures { λ r. ⌜ r ≡ freshState nodes number ⌝ }
 {
     let mut words = [0u32; 60];
-    node_calls::fresh(base::of_build(), &mut words, nodes, number);
+    node_fresh::fresh(base::of_build(), &mut words, nodes, number);
     State { words: words }
 }
 

@@ -15,7 +15,7 @@ use Rattle.node.specs.Calls.{fresh, send, take, idle, gotten, frameIn}
 use Rattle.node.specs.Barrier.{frameDue, barrier}
 use Rattle.layout.specs.Places.{atFirst}
 use Rattle.layout.specs.Held.{firstIn, secondIn, unpacked, isWhole, firstList, secondList, joinedList, packed}
-use Rattle.node_calls.specs.Fresh.{freshOn, freshWords}
+use Rattle.node_fresh.specs.Fresh.{freshOn, freshWords}
 use Rattle.states.specs.Words.{freshState}
 use Rattle.state_calls.specs.On.{onState, stepOn}
 use Rattle.script.specs.Script.{before, partsWithin, lineOf, lineAt}
