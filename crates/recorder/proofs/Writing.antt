@@ -45,6 +45,18 @@ module _ (out text now : List ℕ) (n : ℕ) (e : now ≡ put out 0 text) (h : n
   pub front-length : n ≡ length (take n now)
   front-length = sym (length-take-le n now front-fits)
 
+-- the same by where the text ends, and how far that is
+module _ (out text now : List ℕ) (end : ℕ) (e : now ≡ put out 0 text) (m : end ≡ ends out 0 text) where
+  pub put-fits : end ≤ length now
+  put-fits = front-fits out text now end e (omega (arith, m))
+
+  pub put-length : end ≡ length (take end now)
+  put-length = front-length out text now end e (omega (arith, m))
+
+-- so many bytes of events have no more sections than a recording may have
+pub sections-within : (end : ℕ) → end ≤ 60000 → sectionsFor (end / 4) ≤ 32
+sections-within end h = omega arith
+
 pub length-counts : (events : ℕ) → length (countsFor events) ≡ sectionsFor events
 unfolding countsFor
 length-counts events = length-list 0 (sectionsFor events) (sizeOf events)
@@ -66,16 +78,16 @@ long r h = go (isBad r) refl
     go true e = e
     go false e = absurd (omega (arith, sized r e .room))
 
-module _ (script text : List ℕ) (nodes : ℕ) (lent buf : List ℕ) (size : length lent ≡ 60000) where
+module _ (script text : List ℕ) (nodes : ℕ) (lent buf : List ℕ) where
   abbrev all : List ℕ
   all = eventsOf script text
 
-  same : (end : ℕ) (counts events : List ℕ) → nodes ≡ nodesBy (lineAt script 0 .line) → end ≡ ends lent 0 all
-      → counts ≡ countsFor (end / 4) → events ≡ take end (put lent 0 all)
+  same : length lent ≡ 60000 → (end : ℕ) (counts events : List ℕ) → nodes ≡ nodesBy (lineAt script 0 .line)
+      → end ≡ ends lent 0 all → counts ≡ countsFor (end / 4) → events ≡ take end (put lent 0 all)
       → (writeAnswer (made nodes counts events) (length buf) ≡ writeAnswer (recordingOf script text) (length buf))
       × (writtenOn (made nodes counts events) buf ≡ writtenOn (recordingOf script text) buf)
   unfolding recordingOf
-  same end counts events e n k t = go (decLt (length lent) (length all)) (rw n at t ∙ taken lent all)
+  same size end counts events e n k t = go (decLt (length lent) (length all)) (rw n at t ∙ taken lent all)
     where
       go : Dec (length lent < length all) → events ≡ take (length lent) all
           → (writeAnswer (made nodes counts events) (length buf) ≡ writeAnswer (recordingOf script text) (length buf))
@@ -92,13 +104,15 @@ module _ (script text : List ℕ) (nodes : ℕ) (lent buf : List ℕ) (size : le
           (ap (λ r. writeAnswer r (length buf)) r, ap (λ r. writtenOn r buf) r)
 
   -- what the writer below answers and leaves
-  pub written : (end : ℕ) (counts events : List ℕ) → nodes ≡ nodesBy (lineAt script 0 .line) → end ≡ ends lent 0 all
-      → counts ≡ countsFor (end / 4) → events ≡ take end (put lent 0 all)
-      → (a : Answered ℕ) (after : List ℕ)
-      → (a ≡ writeAnswer (made nodes counts events) (length buf)) × (after ≡ writtenOn (made nodes counts events) buf)
+  pub written : (last : List ℕ) (end : ℕ) (counts : List ℕ) → last ≡ put lent 0 all → end ≡ ends lent 0 all
+      → length last ≡ 60000 → nodes ≡ nodesBy (lineAt script 0 .line) → counts ≡ countsFor (end / 4)
+      → (a : Answered ℕ) (after : List ℕ) → let r = made nodes counts (take end last) in
+      (a ≡ writeAnswer r (length buf)) × (after ≡ writtenOn r buf)
       → (a ≡ writeAnswer (recordingOf script text) (length buf)) × (after ≡ writtenOn (recordingOf script text) buf)
-  written end counts events e n k t a after w =
-      let q = same end counts events e n k t in (w .0 ∙ q .0, w .1 ∙ q .1)
+  written last end counts t n size e k a after w =
+      let l = sym (length-put lent 0 all) ∙ sym (ap length t) ∙ size in
+      let q = same l end counts (take end last) e n k (ap (take end) t) in
+      (w .0 ∙ q .0, w .1 ∙ q .1)
 
 -- what is written is within the memory
 pub inside : (r : Recording) (buf now : List ℕ) (n : ℕ) → found n ≡ writeAnswer r (length buf) → now ≡ writtenOn r buf

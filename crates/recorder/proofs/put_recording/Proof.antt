@@ -1,26 +1,33 @@
 -- `put_recording` writes `recordingOf`, or refuses as the writer would.
 use borrow.Author.Needs.{needs}
-use native.Mathlib.Omega.{arith}
 use mathlib.Core.Path.{_≡_, ap, _∙_}
-use Prim.Native.Nat.{ℕ, _≤_}
+use Prim.Native.Nat.{ℕ, _/_, _≤_}
 use lib.ListN.{length, take, replicate, length-replicate}
 use Rattle.tree.specs.Lookups.{foundAnswer}
 use Rattle.script.specs.declared.Parsed.{Parsed}
-use Rattle.recorder.specs.Recorded.{nodesBy}
-use Rattle.recorder.proofs.Writing.{front-fits, front-length, counts-put, written}
+use Rattle.printing.proofs.Putting.{length-put}
+use Rattle.recorder.specs.Recorded.{sectionsFor, nodesBy}
+use Rattle.recorder.proofs.Writing.{front-fits, front-length, sections-within, put-fits, put-length}
+use Rattle.recorder.proofs.Writing.{counts-put, written}
 use Rattle.recorder.proofs.put_recording.Statement.{statement}
 use Rattle.recorder.proofs.put_recording.Tie as tie
 
 -- ---- How far the memory is written
 
-events-within : (c : tie.After-put-events) → c .put-events .result ≤ 60000
-events-within c = omega (arith, c .put-events .ensures .1)
+-- cited wherever the size is asked for: to compare the memory with a list of 60,000 is what takes time here
+memory-size : (c : tie.After-put-events) → length (c .put-events .last .0) ≡ 60000
+memory-size c = ap length (c .put-events .ensures .0) ∙ length-put _ _ _ ∙ length-replicate {A = ℕ} 60000 0
+
+sections : (c : tie.After-put-events) → sectionsFor (c .put-events .result / 4) ≤ 32
+sections c =
+    let e = c .put-events .ensures in
+    sections-within _ (rw (memory-size c) at (put-fits _ _ _ _ (e .0) (e .1)))
 
 put-counts-requires : tie.Need-put-counts-requires
-put-counts-requires c κs = omega (arith, events-within (c .before .before))
+put-counts-requires c κs = sections (c .before .before)
 
 counts-within : (c : tie.After-put-counts) → c .put-counts .result ≤ 32
-counts-within c = omega (arith, c .put-counts .ensures .1, events-within (c .before .before .before))
+counts-within c = rw (c .put-counts .ensures .1) (sections (c .before .before .before))
 
 array-share-prefix-counts : tie.Need-array-share-prefix-counts
 array-share-prefix-counts c =
@@ -32,13 +39,13 @@ slice-aggregate-write c =
 
 array-share-prefix-events : tie.Need-array-share-prefix-events
 array-share-prefix-events c =
-    let p = c .before .before .before .before .before .before in
-    front-fits (replicate 60000 0) _ _ _ (p .put-events .ensures .0) (events-within p)
+    let p = c .before .before .before .before .before .before .put-events .ensures in
+    put-fits _ _ _ _ (p .0) (p .1)
 
 slice-aggregate-write-2 : tie.Need-slice-aggregate-write-2
 slice-aggregate-write-2 c =
-    let p = c .before .before .before .before .before .before .before in
-    front-length (replicate 60000 0) _ _ _ (p .put-events .ensures .0) (events-within p)
+    let p = c .before .before .before .before .before .before .before .put-events .ensures in
+    put-length _ _ _ _ (p .0) (p .1)
 
 -- ---- What is written
 
@@ -53,10 +60,9 @@ returns c =
     let nodes = n .nodes-by .ensures ∙ ap (λ (x : Parsed). nodesBy (x .line)) (l .line-at .ensures) in
     let put = counts-put (replicate 32 0) _ _ (k .put-counts .ensures .1) (counts-within k) in
     let counts = ap (take (k .put-counts .result)) (k .put-counts .ensures .0) ∙ put in
-    let events = ap (take (p .put-events .result)) (p .put-events .ensures .0) in
-    let zeros = length-replicate {A = ℕ} 60000 0 in
-    written _ _ _ (replicate 60000 0) buf zeros _ _ _ nodes (p .put-events .ensures .1) counts events
-    (foundAnswer (w .write .result)) _ (w .write .ensures)
+    let e = p .put-events .ensures in
+    written _ _ _ _ buf _ _ _ (e .0) (e .1) (memory-size p) nodes counts (foundAnswer (w .write .result)) _
+    (w .write .ensures)
 
 pub put-recording-spec : {M : Type 1} → statement M
 put-recording-spec =
