@@ -1,16 +1,23 @@
 #!/usr/bin/env python3
-"""Puts what a run of the gate cost into docs/COST.md: python3 docs/gate.py LOG MINUTES
+"""Puts what the gate costs into docs/COST.md.
 
-LOG is what bash .ci/run printed in a clean clone, MINUTES how long it took. A crate that was proved more than once counts
-with its first time, rt ci's.
+    python3 docs/gate.py run LOG MINUTES    LOG is what bash .ci/run printed in a clean clone, MINUTES how long it took
+    python3 docs/gate.py alone [COUNT]      proves, one after the other, the crates with edits that are longest in that table
+
+A crate that was proved more than once in a run counts with its first time, rt ci's. The second wants all crates proved, and nothing
+running beside it.
 """
+import os
 import pathlib
 import re
+import subprocess
 import sys
 
-PAGE = pathlib.Path(__file__).resolve().parent / "COST.md"
+ROOT = pathlib.Path(__file__).resolve().parent.parent
+PAGE = ROOT / "docs" / "COST.md"
 PROVED = re.compile(r"^rt: (\w+) proved \((\d+) s\)", re.MULTILINE)
 REFUSED = re.compile(r"^rt: must-fail (\w+)/\w+: refused, as it must be \(.*?(\d+) s\)", re.MULTILINE)
+ROW = re.compile(r"\| (\w+) \| (\d+) \| (\d+) \|")
 
 
 def table(crates, edits):
@@ -21,23 +28,45 @@ def table(crates, edits):
                       *(f"{a} {b}" for a, b in zip(left, right))])
 
 
-def main():
-    log = pathlib.Path(sys.argv[1]).read_text(encoding="utf-8")
-    crates = {}
-    for name, seconds in PROVED.findall(log):
-        crates.setdefault(name, int(seconds))
-    edits = {}
-    for name, seconds in REFUSED.findall(log):
-        edits.setdefault(name, []).append(int(seconds))
-    spent = [seconds for tried in edits.values() for seconds in tried]
-    words = (f"{table(crates, edits)}\n\nThat run took {sys.argv[2]} minutes. Added up, two at a time, the proofs are "
-             f"{sum(crates.values()):,} seconds and the\n{len(spent)} must-fail edits {sum(spent):,}; the tests after them have the rest.")
+def put(name, words):
     page = PAGE.read_text(encoding="utf-8")
-    made = re.compile(r"(<!-- the gate -->\n\n).*?(\n\n<!-- the gate's end -->)", re.DOTALL)
+    made = re.compile(rf"(<!-- {name} -->\n\n).*?(\n\n<!-- {name}'s end -->)", re.DOTALL)
     if not made.search(page):
-        sys.exit("docs/COST.md has no place for it")
+        sys.exit(f"docs/COST.md has no place for {name}")
     PAGE.write_text(made.sub(lambda match: match[1] + words + match[2], page), encoding="utf-8")
 
 
+def run(log, minutes):
+    text = pathlib.Path(log).read_text(encoding="utf-8")
+    crates = {}
+    for name, seconds in PROVED.findall(text):
+        crates.setdefault(name, int(seconds))
+    edits = {}
+    for name, seconds in REFUSED.findall(text):
+        edits.setdefault(name, []).append(int(seconds))
+    spent = [seconds for tried in edits.values() for seconds in tried]
+    put("the gate", f"{table(crates, edits)}\n\nThat run took {minutes} minutes. Added up, four at a time on two cores, the proofs are "
+                    f"{sum(crates.values()):,} seconds and\nthe {len(spent)} must-fail edits {sum(spent):,}; the tests after them "
+                    "have the rest.")
+
+
+def alone(count):
+    page = PAGE.read_text(encoding="utf-8")
+    longest = sorted(ROW.findall(page), key=lambda row: -int(row[1]))[:count]
+    times = []
+    for name, _, edits in longest:
+        (ROOT / "target" / "stamp" / name).unlink(missing_ok=True)
+        said = subprocess.run(["rt", "check", name], cwd=ROOT, env=os.environ | {"RT_JOBS": "1"}, check=True, text=True,
+                              stdout=subprocess.PIPE).stdout
+        times.append((int(dict(PROVED.findall(said))[name]), name, edits))
+    rows = [f"| {name} | {seconds} | {edits} |" for seconds, name, edits in sorted(times, key=lambda row: -row[0])]
+    put("alone", "\n".join(["| Crate | s, alone | edits |", "|---|---|---|", *rows]))
+
+
 if __name__ == "__main__":
-    main()
+    if len(sys.argv) == 4 and sys.argv[1] == "run":
+        run(sys.argv[2], sys.argv[3])
+    elif len(sys.argv) in (2, 3) and sys.argv[1] == "alone":
+        alone(int(sys.argv[2]) if len(sys.argv) == 3 else 12)
+    else:
+        sys.exit(__doc__)
