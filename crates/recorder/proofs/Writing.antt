@@ -53,10 +53,6 @@ module _ (out text now : List ℕ) (end : ℕ) (e : now ≡ put out 0 text) (m :
   pub put-length : end ≡ length (take end now)
   put-length = front-length out text now end e (omega (arith, m))
 
--- so many bytes of events have no more sections than a recording may have
-pub sections-within : (end : ℕ) → end ≤ 60000 → sectionsFor (end / 4) ≤ 32
-sections-within end h = omega arith
-
 pub length-counts : (events : ℕ) → length (countsFor events) ≡ sectionsFor events
 unfolding countsFor
 length-counts events = length-list 0 (sectionsFor events) (sizeOf events)

@@ -1,14 +1,14 @@
 -- `put_recording` writes `recordingOf`, or refuses as the writer would.
 use borrow.Author.Needs.{needs}
+use native.Mathlib.Omega.{arith}
 use mathlib.Core.Path.{_≡_, ap, _∙_}
-use Prim.Native.Nat.{ℕ, _/_, _≤_}
+use Prim.Native.Nat.{ℕ, _≤_}
 use lib.ListN.{length, take, replicate, length-replicate}
 use Rattle.tree.specs.Lookups.{foundAnswer}
 use Rattle.script.specs.declared.Parsed.{Parsed}
 use Rattle.printing.proofs.Putting.{length-put}
-use Rattle.recorder.specs.Recorded.{sectionsFor, nodesBy}
-use Rattle.recorder.proofs.Writing.{front-fits, front-length, sections-within, put-fits, put-length}
-use Rattle.recorder.proofs.Writing.{counts-put, written}
+use Rattle.recorder.specs.Recorded.{nodesBy}
+use Rattle.recorder.proofs.Writing.{front-fits, front-length, put-fits, put-length, counts-put, written}
 use Rattle.recorder.proofs.put_recording.Statement.{statement}
 use Rattle.recorder.proofs.put_recording.Tie as tie
 
@@ -18,16 +18,16 @@ use Rattle.recorder.proofs.put_recording.Tie as tie
 memory-size : (c : tie.After-put-events) → length (c .put-events .last .0) ≡ 60000
 memory-size c = ap length (c .put-events .ensures .0) ∙ length-put _ _ _ ∙ length-replicate {A = ℕ} 60000 0
 
-sections : (c : tie.After-put-events) → sectionsFor (c .put-events .result / 4) ≤ 32
-sections c =
+events-within : (c : tie.After-put-events) → c .put-events .result ≤ 60000
+events-within c =
     let e = c .put-events .ensures in
-    sections-within _ (rw (memory-size c) at (put-fits _ _ _ _ (e .0) (e .1)))
+    rw (memory-size c) at (put-fits _ _ _ _ (e .0) (e .1))
 
 put-counts-requires : tie.Need-put-counts-requires
-put-counts-requires c κs = sections (c .before .before)
+put-counts-requires c κs = omega (arith, events-within (c .before .before))
 
 counts-within : (c : tie.After-put-counts) → c .put-counts .result ≤ 32
-counts-within c = rw (c .put-counts .ensures .1) (sections (c .before .before .before))
+counts-within c = omega (arith, c .put-counts .ensures .1, events-within (c .before .before .before))
 
 array-share-prefix-counts : tie.Need-array-share-prefix-counts
 array-share-prefix-counts c =
