@@ -17,7 +17,7 @@ ROOT = pathlib.Path(__file__).resolve().parent.parent
 PAGE = ROOT / "docs" / "COST.md"
 PROVED = re.compile(r"^rt: (\w+) proved \((\d+) s\)", re.MULTILINE)
 REFUSED = re.compile(r"^rt: must-fail (\w+)/\w+: refused, as it must be \(.*?(\d+) s\)", re.MULTILINE)
-ROW = re.compile(r"\| (\w+) \| (\d+) \| (\d+) \|")
+ROW = re.compile(r"\| ([a-z]\w*) \| (\d+) \| (\d+) \|")
 
 
 def table(crates, edits):
@@ -28,12 +28,15 @@ def table(crates, edits):
                       *(f"{a} {b}" for a, b in zip(left, right))])
 
 
+def part(name, page):
+    found = re.search(rf"(?<=<!-- {name} -->\n\n).*?(?=\n\n<!-- {name}'s end -->)", page, re.DOTALL)
+    return found or sys.exit(f"docs/COST.md has no place for {name}")
+
+
 def put(name, words):
     page = PAGE.read_text(encoding="utf-8")
-    made = re.compile(rf"(<!-- {name} -->\n\n).*?(\n\n<!-- {name}'s end -->)", re.DOTALL)
-    if not made.search(page):
-        sys.exit(f"docs/COST.md has no place for {name}")
-    PAGE.write_text(made.sub(lambda match: match[1] + words + match[2], page), encoding="utf-8")
+    found = part(name, page)
+    PAGE.write_text(page[:found.start()] + words + page[found.end():], encoding="utf-8")
 
 
 def run(log, minutes):
@@ -51,8 +54,8 @@ def run(log, minutes):
 
 
 def alone(count):
-    page = PAGE.read_text(encoding="utf-8")
-    longest = sorted(ROW.findall(page), key=lambda row: -int(row[1]))[:count]
+    rows = ROW.findall(part("the gate", PAGE.read_text(encoding="utf-8"))[0])
+    longest = sorted(rows, key=lambda row: -int(row[1]))[:count]
     times = []
     for name, _, edits in longest:
         (ROOT / "target" / "stamp" / name).unlink(missing_ok=True)
