@@ -8,14 +8,16 @@ Own names are those that files of specs/ and proofs/ declare: definitions, lemma
 modules stay, as do functions of src/, names of goals, and names that a file imports from the library. A name whose new spelling is
 already another name of the repository, or one that the library has and a file uses beside it, stops the run.
 """
+import glob
 import os
 import re
 import sys
 
 SEGMENT = re.compile(r"[^\s(){}\[\],;.«»\"]+")
+EDITED = re.compile(r"(?m)^((?:old|new): )(.*)$")
 USE = re.compile(r"(?m)^\s*(?:ghost\s+)?(?:pub )?use\s+([^\s{]+?)\.\{([^{}]*)\}")
 ENDS = re.compile(r"(?<![^\s(){}\[\],;])--.*$", re.M)
-DECLARED = re.compile(r"^(?:(?:abbrev|unfoldable|opaque|pub|ruleset|data|record)\s+)*([^\s(){}:]+)(?=\s*(?::|=|\())", re.M)
+DECLARED = re.compile(r"^ *(?:(?:abbrev|unfoldable|opaque|pub|ruleset|data|record)\s+)*([^\s(){}:|,;λ\[\]→×≡.]+)(?=\s*(?::\s|=\s|\())", re.M)
 FIELDS = re.compile(r"^ +(?:pub )?([^\s(){}:=\[\]|,λ][^(){}:=\[\]|,λ]*?) : ", re.M)
 BLOCK = re.compile(r"^(?:pub )?(?:data|record)\b[^\n]*\n((?: +[^\n]*\n|\n)*)", re.M)
 
@@ -33,6 +35,12 @@ def text_of(path):
         return file.read()
 
 
+def write(path, text, new):
+    if new != text:
+        with open(path, "w", encoding="utf-8") as file:
+            file.write(new)
+
+
 def spelled(name):
     """The name in snake case; one that begins with a capital keeps its capitals."""
     name = name.replace("\u2032", "'")
@@ -44,7 +52,7 @@ def declared(path, text):
     """Names that a file of specs/ or proofs/ declares, but for the answers to goals, whose types are named by 'tie.'."""
     code, found = ENDS.sub("", text), set()
     for m in DECLARED.finditer(code):
-        if not re.match(r"\s*:\s*tie\.", code[m.end(1) :]):
+        if not re.match(r"\s*:\s*(?:tie|goal)\.", code[m.end(1) :]):
             found.add(m[1])
     for block in BLOCK.finditer(code):
         for m in FIELDS.finditer(block[1]):
@@ -144,10 +152,10 @@ def main(words):
     for path in files():
         text = text_of(path)
         taken = imported(text)
-        new = with_names(text, table, taken, path.endswith(".rt"))
-        if new != text:
-            with open(path, "w", encoding="utf-8") as file:
-                file.write(new)
+        write(path, text, with_names(text, table, taken, path.endswith(".rt")))
+    for path in sorted(glob.glob("crates/*/must-fail/*.edit")):
+        text = text_of(path)
+        write(path, text, EDITED.sub(lambda m: m[1] + SEGMENT.sub(lambda w: table.get(w[0], w[0]) if w[0] != w[0].lower() or "-" in w[0] else w[0], m[2]), text))
 
 
 main(sys.argv[1:])

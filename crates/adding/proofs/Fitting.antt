@@ -13,8 +13,8 @@ use Rattle.walk_tests.specs.Tests.{first_fits}
 use Rattle.adding.specs.Adding.{Framed}
 
 module _ (p k : ℕ) (ws sums : List ℕ) where
-  pub fitting-known : first_fits p k (length ws) (length sums) ≡ true → Framed ws sums p k
-  fitting-known e =
+  pub fitting_known : first_fits p k (length ws) (length sums) ≡ true → Framed ws sums p k
+  fitting_known e =
       let a = both_true (ltb k p) _ e in
       let b = both_true (leb p width) _ a.1 in
       let d = both_true (eqb (length ws) _) (leb _ (length sums)) b.1 in
@@ -25,8 +25,8 @@ module _ (p k : ℕ) (ws sums : List ℕ) where
         wide = leb-true _ (length sums) d.1;
       }
 
-  pub fitting-made : Framed ws sums p k → first_fits p k (length ws) (length sums) ≡ true
-  fitting-made h =
+  pub fitting_made : Framed ws sums p k → first_fits p k (length ws) (length sums) ≡ true
+  fitting_made h =
       both_make (lt-ltb k p h.low)
       (both_make (le-leb p width h.few)
       (both_make (eq-eqb (length ws) (first_words p k) h.long) (le-leb (sum_words p) (length sums) h.wide)))

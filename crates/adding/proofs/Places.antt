@@ -42,12 +42,12 @@ pub record Ends (p k w n : ℕ) : Type 0 where
   pub shells : Fits w32 (2 * (p - k))
   pub issued : Index (mark_words + 2 * (p - k)) w
   pub received : Index (mark_words + 2 * (p - k) + at_received) w
-  pub own_issued_lem : Index (sum_issued p) n
+  pub own_issued : Index (sum_issued p) n
   pub own_received : Index (sum_received p) n
 
 module _ (p k w n : ℕ) (low : k < p) (few : p ≤ width) (long : w ≡ first_words p k) (wide : sum_words p ≤ n) where
-  shell-at : (m : ℕ) → k ≤ m → m < p → Shell p k m w n
-  shell-at m a b =
+  shell_at_lem : (m : ℕ) → k ≤ m → m < p → Shell p k m w n
+  shell_at_lem m a b =
       record {
         sent = index _ _ (omega arith) (omega arith);
         middle = index _ _ (omega arith) (omega arith);
@@ -65,13 +65,13 @@ module _ (p k w n : ℕ) (low : k < p) (few : p ≤ width) (long : w ≡ first_w
         shells = record { fits = omega arith };
         issued = index _ _ (omega arith) (omega arith);
         received = index _ _ (omega arith) (omega arith);
-        own_issued_lem = index _ _ (omega arith) (omega arith);
+        own_issued = index _ _ (omega arith) (omega arith);
         own_received = index _ _ (omega arith) (omega arith);
       }
 
 module _ (ws sums : List ℕ) (p k : ℕ) (f : Framed ws sums p k) where
   pub shell : (m : ℕ) → k ≤ m → m < p → Shell p k m (length ws) (length sums)
-  shell = shell-at p k (length ws) (length sums) f.low f.few f.long f.wide
+  shell = shell_at_lem p k (length ws) (length sums) f.low f.few f.long f.wide
 
   -- with other sums
   pub still : (after : List ℕ) → length after ≡ length sums → Framed ws after p k
@@ -93,7 +93,7 @@ pub record Above (p k w n : ℕ) : Type 0 where
   pub next_low : k + 1 ≤ p
   pub taken : Fits w32 (p + k)
   pub taken_next : Fits w32 (p + k + 1)
-  pub taken_from_lem : Fits w32 (mark_words + 1 + (p - k))
+  pub taken_from : Fits w32 (mark_words + 1 + (p - k))
   pub sent_run : (k + 1 + (p - (k + 1)) ≤ n)
       × (mark_words + 1 + (p - (k + 1)) ≤ w)
       × (k + 1 + (p - (k + 1)) ≤ most_words)
@@ -109,7 +109,7 @@ above_at p k w n low few long wide =
       next_low = omega arith;
       taken = record { fits = omega arith };
       taken_next = record { fits = omega arith };
-      taken_from_lem = record { fits = omega arith };
+      taken_from = record { fits = omega arith };
       sent_run = (omega arith, omega arith, omega arith, omega arith);
       taken_run = (omega arith, omega arith, omega arith, omega arith);
     }
@@ -131,9 +131,9 @@ pub record Turn (to from count i w n : ℕ) : Type 0 where
   pub less : count - (i + 1) < count - i
   pub more : i + 1 ≤ count
 
-pub turn_at : (to from count i w n : ℕ) → i < count → to + count ≤ n → from + count ≤ w → to + count ≤ most_words
+pub turn_at_lem : (to from count i w n : ℕ) → i < count → to + count ≤ n → from + count ≤ w → to + count ≤ most_words
     → from + count ≤ most_words → Turn to from count i w n
-turn_at to from count i w n low a b c d =
+turn_at_lem to from count i w n low a b c d =
     record {
       to_fits = record { fits = omega arith };
       from_fits = record { fits = omega arith };

@@ -1,4 +1,6 @@
 // The numbers of a stored pass 1 frame added to the own sums, both in words that a caller lends.
+#![tactic(auto)]
+
 ghost use Rattle.std.specs.Prelude.{◌+◌, ◌≤◌, ◌<◌, length};
 ghost use Rattle.layout.specs.Places.{most_words};
 ghost use Rattle.layout.specs.Held.{first_from};

@@ -1,4 +1,6 @@
 // The answers of calls as numbers, as a caller in C is told them, and what they say besides put into lent words.
+#![tactic(auto)]
+
 ghost use Rattle.std.specs.Prelude.{◌≡◌};
 ghost use Rattle.node.specs.Answers.{outcome_number, outcome_of, barrier_number, barrier_of};
 ghost use Rattle.answers.specs.Words.{detail_words};

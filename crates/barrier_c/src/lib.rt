@@ -1,4 +1,6 @@
-// What a maker links: the calls in place on a state that the caller lends as words, answers as numbers.
+// The calls in place on a state that the caller lends as words, answers as numbers. barrier_c_c exports them to C.
+#![tactic(auto)]
+
 ghost use Rattle.std.specs.Prelude.{◌≡◌, length};
 ghost use Rattle.base.specs.Limits.{base};
 ghost use Rattle.base.specs.declared.Kind.TheVariants.{Job, Note};
@@ -15,11 +17,10 @@ ghost use Rattle.barrier_c.specs.Exports.{answer_on, words_on, barrier_on, barri
 
 use base::Kind;
 
-// ---- Exported: the calls on a state
+// ---- The calls on a state
 
 // A node that has just started. Refuses 1, 2, 13.
-#[unsafe(no_mangle)]
-pub extern "C" fn ocb_fresh(state: &mut [u32], nodes: u32, number: u32) -> u32
+pub fn ocb_fresh(state: &mut [u32], nodes: u32, number: u32) -> u32
     ensures answer { result ≡ outcome_number (fresh_on base nodes number state.old) }
     ensures memory { state.new ≡ fresh_words base nodes number state.old }
 {
@@ -27,8 +28,7 @@ pub extern "C" fn ocb_fresh(state: &mut [u32], nodes: u32, number: u32) -> u32
 }
 
 // One message more is sent to a node. Refuses 13, 2, 3, 4, 5.
-#[unsafe(no_mangle)]
-pub extern "C" fn ocb_send(state: &mut [u32], to: u32) -> u32
+pub fn ocb_send(state: &mut [u32], to: u32) -> u32
     ensures answer { result ≡ answer_on base (λ n. send base n to) state.old }
     ensures memory { state.new ≡ words_on base (λ n. send base n to) state.old }
 {
@@ -36,8 +36,7 @@ pub extern "C" fn ocb_send(state: &mut [u32], to: u32) -> u32
 }
 
 // A job from a node, with its phase byte, is taken. Refuses 13, 2, 3, 7 or 8, 6.
-#[unsafe(no_mangle)]
-pub extern "C" fn ocb_take(state: &mut [u32], from: u32, phase: u8) -> u32
+pub fn ocb_take(state: &mut [u32], from: u32, phase: u8) -> u32
     ensures answer { result ≡ answer_on base (λ n. take base n Job from phase) state.old }
     ensures memory { state.new ≡ words_on base (λ n. take base n Job from phase) state.old }
 {
@@ -45,8 +44,7 @@ pub extern "C" fn ocb_take(state: &mut [u32], from: u32, phase: u8) -> u32
 }
 
 // A note from a node, with its phase byte, is taken. Refuses 13, 2, 3, 7 or 8, 6.
-#[unsafe(no_mangle)]
-pub extern "C" fn ocb_take_note(state: &mut [u32], from: u32, phase: u8) -> u32
+pub fn ocb_take_note(state: &mut [u32], from: u32, phase: u8) -> u32
     ensures answer { result ≡ answer_on base (λ n. take base n Note from phase) state.old }
     ensures memory { state.new ≡ words_on base (λ n. take base n Note from phase) state.old }
 {
@@ -54,8 +52,7 @@ pub extern "C" fn ocb_take_note(state: &mut [u32], from: u32, phase: u8) -> u32
 }
 
 // The node has run out of work. Refuses 13.
-#[unsafe(no_mangle)]
-pub extern "C" fn ocb_idle(state: &mut [u32]) -> u32
+pub fn ocb_idle(state: &mut [u32]) -> u32
     ensures answer { result ≡ answer_on base (λ n. idle base n) state.old }
     ensures memory { state.new ≡ words_on base (λ n. idle base n) state.old }
 {
@@ -63,19 +60,17 @@ pub extern "C" fn ocb_idle(state: &mut [u32]) -> u32
 }
 
 // A frame has come. Refuses 13, 9, 10, 2, 3, 11, 7, 8.
-#[unsafe(no_mangle)]
-pub extern "C" fn ocb_frame_in(state: &mut [u32], bytes: &[u8]) -> u32
+pub fn ocb_frame_in(state: &mut [u32], bytes: &[u8]) -> u32
     ensures answer { result ≡ answer_on base (λ n. frame_in base n bytes.now) state.old }
     ensures memory { state.new ≡ words_on base (λ n. frame_in base n bytes.now) state.old }
 {
     answers::number_of(calls::frame_in(base::of_build(), state, bytes))
 }
 
-// ---- Exported: the barrier call
+// ---- The barrier call
 
 // One step of an idle node: sends its frame, moves on, leaves or waits. Refuses 13, 12, 14.
-#[unsafe(no_mangle)]
-pub extern "C" fn ocb_barrier(state: &mut [u32], buf: &mut [u8], details: &mut [u32; 5]) -> u32
+pub fn ocb_barrier(state: &mut [u32], buf: &mut [u8], details: &mut [u32; 5]) -> u32
     ensures answer { result ≡ barrier_number (barrier_on base state.old (length buf.old)) }
     ensures state { state.new ≡ barrier_state base state.old (length buf.old) }
     ensures buffer { buf.new ≡ barrier_buffer base state.old buf.old }
@@ -85,11 +80,10 @@ pub extern "C" fn ocb_barrier(state: &mut [u32], buf: &mut [u8], details: &mut [
     answers::answer_barrier(calls::step(base::of_build(), state, buf), details)
 }
 
-// ---- Exported: the lookups
+// ---- The lookups
 
 // The dimension of a board. Refuses 1.
-#[unsafe(no_mangle)]
-pub extern "C" fn ocb_dimension(nodes: u32, found: &mut [u32; 1]) -> u32
+pub fn ocb_dimension(nodes: u32, found: &mut [u32; 1]) -> u32
     ensures answer { result ≡ lookup_number (dimension_lookup base nodes) }
     ensures memory { found.new ≡ number_words (dimension_lookup base nodes) found.old }
 {
@@ -97,8 +91,7 @@ pub extern "C" fn ocb_dimension(nodes: u32, found: &mut [u32; 1]) -> u32
 }
 
 // The place of a node in a dimension. Refuses 1, 2, 10.
-#[unsafe(no_mangle)]
-pub extern "C" fn ocb_place(nodes: u32, dimension: u32, node: u32, found: &mut [u32; 3]) -> u32
+pub fn ocb_place(nodes: u32, dimension: u32, node: u32, found: &mut [u32; 3]) -> u32
     ensures answer { result ≡ lookup_number (place_lookup base nodes dimension node) }
     ensures memory { found.new ≡ place_words (place_lookup base nodes dimension node) found.old }
 {
@@ -106,19 +99,17 @@ pub extern "C" fn ocb_place(nodes: u32, dimension: u32, node: u32, found: &mut [
 }
 
 // The distance of two nodes. Refuses 1, 2, 3.
-#[unsafe(no_mangle)]
-pub extern "C" fn ocb_distance(nodes: u32, a: u32, b: u32, found: &mut [u32; 1]) -> u32
+pub fn ocb_distance(nodes: u32, a: u32, b: u32, found: &mut [u32; 1]) -> u32
     ensures answer { result ≡ lookup_number (distance_lookup base nodes a b) }
     ensures memory { found.new ≡ number_words (distance_lookup base nodes a b) found.old }
 {
     lookup_answers::answer_found(lookups::distance_of(nodes, a, b), found)
 }
 
-// ---- Exported: frames, for tools and tests
+// ---- Frames, for tools and tests
 
 // Writes a frame. Refuses 1, 10, 2, 14.
-#[unsafe(no_mangle)]
-pub extern "C" fn ocb_frame_write(
+pub fn ocb_frame_write(
     nodes: u32,
     fields: &[u32; field_words::END],
     buf: &mut [u8],
@@ -133,12 +124,7 @@ pub extern "C" fn ocb_frame_write(
 }
 
 // Reads a frame. Refuses 1, 9, 10, 2.
-#[unsafe(no_mangle)]
-pub extern "C" fn ocb_frame_read(
-    nodes: u32,
-    bytes: &[u8],
-    fields: &mut [u32; field_words::END],
-) -> u32
+pub fn ocb_frame_read(nodes: u32, bytes: &[u8], fields: &mut [u32; field_words::END]) -> u32
     ensures answer { result ≡ lookup_number (read_frame base nodes bytes.now) }
     ensures memory { fields.new ≡ frame_words (read_frame base nodes bytes.now) fields.old }
 {

@@ -85,22 +85,22 @@ pub data Stops : List Check → ℕ → Type 0 where
   later : {c : Check} {cs : List Check} {x : ℕ} → c.met ≡ false → Stops cs x → Stops (c ∷ cs) x
 
 module _ {A : Type 0} (refuse : ℕ → A) where
-  pub order-passes : (cs : List Check) (a : A) → Passes cs → in_order refuse cs a ≡ a
-  order-passes [] a h = refl
-  order-passes (c ∷ cs) a h = choose_no (refuse (number c.word)) _ h.0 ∙ order-passes cs a h.1
+  pub order_passes : (cs : List Check) (a : A) → Passes cs → in_order refuse cs a ≡ a
+  order_passes [] a h = refl
+  order_passes (c ∷ cs) a h = choose_no (refuse (number c.word)) _ h.0 ∙ order_passes cs a h.1
 
-  pub order-stops : {cs : List Check} {x : ℕ} (a : A) → Stops cs x → in_order refuse cs a ≡ refuse x
-  order-stops a (here e) = choose_yes _ _ e
-  order-stops a (later {c = c} e s) = choose_no (refuse (number c.word)) _ e ∙ order-stops a s
+  pub order_stops : {cs : List Check} {x : ℕ} (a : A) → Stops cs x → in_order refuse cs a ≡ refuse x
+  order_stops a (here e) = choose_yes _ _ e
+  order_stops a (later {c = c} e s) = choose_no (refuse (number c.word)) _ e ∙ order_stops a s
 
   -- a fact by the check that is met, or by none being met
-  pub order-cases : (F : A → Type 0) (cs : List Check) (a : A) → ((x : ℕ) → Stops cs x → F (refuse x))
+  pub order_cases : (F : A → Type 0) (cs : List Check) (a : A) → ((x : ℕ) → Stops cs x → F (refuse x))
       → (Passes cs → F a)
       → F (in_order refuse cs a)
-  order-cases F [] a f g = g tt
-  order-cases F (c ∷ cs) a f g =
+  order_cases F [] a f g = g tt
+  order_cases F (c ∷ cs) a f g =
       cases F c.met _ _ (λ e. f (number c.word) (here e))
-      (λ e. order-cases F cs a (λ x s. f x (later e s)) (λ h. g (e, h)))
+      (λ e. order_cases F cs a (λ x s. f x (later e s)) (λ h. g (e, h)))
 
 -- what stops at a check, stops there with more checks after it, and after checks that are passed
 pub stops_before : {cs : List Check} {x : ℕ} (ds : List Check) → Stops cs x → Stops (cs ++ ds) x

@@ -1,5 +1,5 @@
 -- Laws of the limits: what they come to in the largest build bounds them in every build.
-use Prim.Native.Nat.{ℕ, zero, suc, ◌+◌, ◌-◌, ◌*◌, ◌≤◌, ◌<◌}
+use Prim.Native.Nat.{ℕ, zero, suc, ◌-◌, ◌*◌, ◌≤◌, ◌<◌}
 use native.Mathlib.Omega.{arith}
 use lib.Dec.{ltb}
 use borrow.Author.Tests.{ltb-true}
@@ -23,8 +23,8 @@ pub fits_base : Fits base
 fits_base = record { nodes = omega arith; sends = omega arith }
 
 module _ (L : Limits) (fit : Fits L) where
-  pub field-low : field_limit L ≤ field_limit base
-  field-low = mul_low L.nodes base.nodes L.sends base.sends fit.nodes fit.sends
+  pub field_low : field_limit L ≤ field_limit base
+  field_low = mul_low L.nodes base.nodes L.sends base.sends fit.nodes fit.sends
 
-  pub taken-low : taken_limit L ≤ taken_limit base
-  taken-low = mul_low (L.nodes - 1) (base.nodes - 1) L.sends base.sends (let n = fit.nodes in omega arith) fit.sends
+  pub taken_low : taken_limit L ≤ taken_limit base
+  taken_low = mul_low (L.nodes - 1) (base.nodes - 1) L.sends base.sends (let n = fit.nodes in omega arith) fit.sends

@@ -1,4 +1,6 @@
 // What every crate shares: the limits of a build as its calls are handed them, and the kinds of work messages.
+#![tactic(auto)]
+
 ghost use Rattle.std.specs.Prelude.{◌≡◌, ◌<◌};
 ghost use Rattle.base.specs.Limits.{base, limits_of, last_of, field_limit, taken_limit};
 
@@ -8,7 +10,7 @@ pub const NODES: u32 = 96;
 pub const SHELLS: usize = 7;
 
 // A node limit and a send limit. Every value of this type stands for a pair that the largest build has room for.
-#[derive(Drop)]
+#[derive(Clone, Copy)]
 pub struct Bounds {
     // the highest number of a node: the node limit less 1; what is higher than in the largest build stands for that
     pub last: u8,
@@ -17,7 +19,7 @@ pub struct Bounds {
 }
 
 // A work message is a job, which wakes an idle node that takes it, or a note, which does not.
-#[derive(Drop)]
+#[derive(Clone, Copy)]
 pub enum Kind {
     Job,
     Note,

@@ -1,5 +1,7 @@
 // The board of a rehearsal, of up to 16 nodes, and its nodes' states, read and changed. Any board and numbers may be
 // handed.
+#![tactic(auto)]
+
 ghost use Rattle.std.specs.Prelude.{◌≡◌, true, ◌<◌};
 ghost use Rattle.base.specs.Limits.{base};
 ghost use Rattle.layout.specs.Held.{is_whole};
@@ -7,7 +9,7 @@ ghost use Rattle.board_states.specs.States.{state_at, changed};
 
 use states::State;
 
-#[derive(Drop)]
+#[derive(Clone, Copy)]
 pub struct Stage {
     pub states: [State; 16],
     // P

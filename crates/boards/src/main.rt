@@ -1,150 +1,103 @@
 // Prints who talks to whom on boards of five and of six nodes (rule T8), a line for each node and dimension; the timing
 // of phase bytes; and the frame writer and reader at the limit of a field.
+#![tactic(auto)]
+
 use frame::{Outcome, Timing};
-use libc::STDOUT_FILENO;
+use std::io;
 use tree::{Found, Placed};
 
-fn print_number(x: u32) {
-    io::print_decimal(STDOUT_FILENO, x as u64);
-}
-
-// A blank and a number.
-fn print_next(x: u32) {
-    io::write_all(STDOUT_FILENO, b" ");
-    print_number(x);
-}
-
-fn print_place(place: Placed) {
+fn print_place(rt: &impl Print, place: Placed) -> io::Result<()> {
     match place {
-        Placed::Alone => {
-            io::write_all(STDOUT_FILENO, b" alone");
-        }
-        Placed::Hermit(next) => {
-            io::write_all(STDOUT_FILENO, b" hermit, awaits");
-            print_next(next);
-        }
-        Placed::Neighbour(other) => {
-            io::write_all(STDOUT_FILENO, b" neighbour of");
-            print_next(other);
-        }
+        Placed::Alone => print!(rt; " alone"),
+        Placed::Hermit(next) => print!(rt; " hermit, awaits {next}"),
+        Placed::Neighbour(other) => print!(rt; " neighbour of {other}"),
         Placed::Messenger(other, hermit) => {
-            io::write_all(STDOUT_FILENO, b" neighbour of");
-            print_next(other);
-            io::write_all(STDOUT_FILENO, b" and messenger to");
-            print_next(hermit);
+            print!(rt; " neighbour of {other} and messenger to {hermit}")
         }
-        Placed::Refused(number) => {
-            io::write_all(STDOUT_FILENO, b" refused");
-            print_next(number as u32);
-        }
+        Placed::Refused(number) => print!(rt; " refused {number}"),
     }
 }
 
-fn print_line(nodes: u32, node: u32, dimension: u32) {
-    print_number(nodes);
-    print_next(node);
-    print_next(dimension);
-    print_place(lookups::place_of(nodes, dimension, node));
-    io::write_all(STDOUT_FILENO, b"\n");
+fn print_line(rt: &impl Print, nodes: u32, node: u32, dimension: u32) -> io::Result<()> {
+    print!(rt; "{nodes} {node} {dimension}")?;
+    print_place(rt, lookups::place_of(nodes, dimension, node))?;
+    println!(rt)
 }
 
-fn print_node(nodes: u32, node: u32, dimensions: u32) {
+fn print_node(rt: &impl Print, nodes: u32, node: u32, dimensions: u32) -> io::Result<()> {
     for k in 0..dimensions {
-        print_line(nodes, node, k);
+        print_line(rt, nodes, node, k)?;
     }
+    Ok(())
 }
 
-fn print_board(nodes: u32) {
+fn print_board(rt: &impl Print, nodes: u32) -> io::Result<()> {
     let Found::Is(dimensions) = tree::dimension_of(nodes) else {
-        return;
+        return Ok(());
     };
     for node in 0..nodes {
-        print_node(nodes, node, dimensions);
+        print_node(rt, nodes, node, dimensions)?;
     }
+    Ok(())
 }
 
-fn print_timing(node: u8, other: u8) {
-    io::write_all(STDOUT_FILENO, b"node in phase");
-    print_next(node as u32);
-    io::write_all(STDOUT_FILENO, b", frame of phase");
-    print_next(other as u32);
+fn print_timing(rt: &impl Print, node: u8, other: u8) -> io::Result<()> {
+    print!(rt; "node in phase {node}, frame of phase {other}")?;
     let timing = frame::timing_of(other, node);
     match timing {
-        Timing::Now => {
-            io::write_all(STDOUT_FILENO, b": now\n");
-        }
-        Timing::Early => {
-            io::write_all(STDOUT_FILENO, b": early, 7\n");
-        }
-        Timing::Late => {
-            io::write_all(STDOUT_FILENO, b": late\n");
-        }
-        Timing::Foreign => {
-            io::write_all(STDOUT_FILENO, b": foreign, 8\n");
-        }
+        Timing::Now => println!(rt; ": now"),
+        Timing::Early => println!(rt; ": early, 7"),
+        Timing::Late => println!(rt; ": late"),
+        Timing::Foreign => println!(rt; ": foreign, 8"),
     }
 }
 
-fn print_found(answer: Found) {
+fn print_found(rt: &impl Print, answer: Found) -> io::Result<()> {
     match answer {
-        Found::Is(length) => {
-            io::write_all(STDOUT_FILENO, b" length");
-            print_next(length);
-        }
-        Found::Refused(number) => {
-            io::write_all(STDOUT_FILENO, b" refused");
-            print_next(number as u32);
-        }
+        Found::Is(length) => println!(rt; " length {length}"),
+        Found::Refused(number) => println!(rt; " refused {number}"),
     }
 }
 
-fn print_outcome(answer: Outcome) {
+fn print_outcome(rt: &impl Print, answer: Outcome) -> io::Result<()> {
     match answer {
-        Outcome::Done => {
-            io::write_all(STDOUT_FILENO, b" done");
-        }
-        Outcome::Refused(number) => {
-            io::write_all(STDOUT_FILENO, b" refused");
-            print_next(number as u32);
-        }
+        Outcome::Done => println!(rt; " done"),
+        Outcome::Refused(number) => println!(rt; " refused {number}"),
     }
 }
 
 // A pass 2 frame with a number as T, written on a board of two nodes.
-fn print_written(agreed: u32) {
-    io::write_all(STDOUT_FILENO, b"field");
-    print_next(agreed);
-    io::write_all(STDOUT_FILENO, b" written:");
+fn print_written(rt: &impl Print, agreed: u32) -> io::Result<()> {
+    print!(rt; "field {agreed} written:")?;
     let mut words = [0u32; field_words::END];
     words[field_words::PASS] = 2;
     words[field_words::SENDER] = 1;
     words[field_words::AGREED] = agreed;
     let mut buffer = [0u8; 12];
-    print_found(fields::write(base::of_build(), 2, &words, &mut buffer));
-    io::write_all(STDOUT_FILENO, b"\n");
+    print_found(rt, fields::write(base::of_build(), 2, &words, &mut buffer))
 }
 
 // The bytes of a pass 2 frame whose T is 6,291,200 = 0x005fff00 with another low byte. With 160 it is the limit.
-fn print_read(low: u8) {
-    io::write_all(STDOUT_FILENO, b"field 6291200 and");
-    print_next(low as u32);
-    io::write_all(STDOUT_FILENO, b" read:");
+fn print_read(rt: &impl Print, low: u8) -> io::Result<()> {
+    print!(rt; "field 6291200 and {low} read:")?;
     let bytes = [2, 0, 0, 1, low, 255, 95, 0, 0, 0, 0, 0];
     let mut words = [0u32; field_words::END];
-    print_outcome(fields_read::read(base::of_build(), 2, &bytes, &mut words));
-    io::write_all(STDOUT_FILENO, b"\n");
+    print_outcome(
+        rt,
+        fields_read::read(base::of_build(), 2, &bytes, &mut words),
+    )
 }
 
-fn main() {
-    io::write_all(STDOUT_FILENO, b"nodes node dimension place\n");
-    print_board(5);
-    print_board(6);
-    print_timing(0, 255);
-    print_timing(255, 0);
-    print_timing(3, 5);
-    print_timing(3, 3);
-    print_written(6291360);
-    print_written(6291361);
-    print_read(160);
-    print_read(161);
+fn main(rt: HostRuntime) -> io::Result<()> {
+    println!(rt; "nodes node dimension place")?;
+    print_board(&rt, 5)?;
+    print_board(&rt, 6)?;
+    print_timing(&rt, 0, 255)?;
+    print_timing(&rt, 255, 0)?;
+    print_timing(&rt, 3, 5)?;
+    print_timing(&rt, 3, 3)?;
+    print_written(&rt, 6291360)?;
+    print_written(&rt, 6291361)?;
+    print_read(&rt, 160)?;
+    print_read(&rt, 161)
 }

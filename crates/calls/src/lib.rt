@@ -1,5 +1,7 @@
 // The calls in place on the words that the caller lends, each with words of its own for the sums. Words that hold no state
 // are refused with 13.
+#![tactic(auto)]
+
 ghost use Rattle.std.specs.Prelude.{◌≡◌, length};
 ghost use Rattle.base.specs.Limits.{limits_of};
 ghost use Rattle.node.specs.Answers.{outcome_of, barrier_of};

@@ -14,7 +14,7 @@ use Rattle.pass_two.proofs.Tests.{second_tests_lem}
 use Rattle.scan_tests.specs.Tests.{may_confirm}
 use Rattle.scanned.specs.declared.Walked.{Walked}
 use Rattle.scanned.specs.declared.Past.{Past}
-use Rattle.scanned.proofs.Stepping.{second-low}
+use Rattle.scanned.proofs.Stepping.{second_low}
 use Rattle.confirming.specs.Step.{added, confirm_step}
 
 -- both fail where the second does under the first
@@ -25,8 +25,8 @@ both_no false b f = refl
 -- a frame that agrees has a sum within the limit
 pub sum_low : (L : Limits) (last : Bool) (issued agreed : ℕ) (x : Confirmed) → Fits L
     → first_failing (second_tests L last issued agreed x) ≡ no_clause → issued + x.issued.0 < 4294967296
-sum_low L true issued agreed x fit e = second-low L 1 0 issued agreed _ fit (sym (ap first_failing (second_tests_lem L 1 0 issued agreed x)) ∙ e)
-sum_low L false issued agreed x fit e = second-low L 0 0 issued agreed _ fit (sym (ap first_failing (second_tests_lem L 0 0 issued agreed x)) ∙ e)
+sum_low L true issued agreed x fit e = second_low L 1 0 issued agreed _ fit (sym (ap first_failing (second_tests_lem L 1 0 issued agreed x)) ∙ e)
+sum_low L false issued agreed x fit e = second_low L 0 0 issued agreed _ fit (sym (ap first_failing (second_tests_lem L 0 0 issued agreed x)) ∙ e)
 
 module _ (L : Limits) (x : Confirmed) (p k : ℕ) (awaits : Bool) (past : Past) (w : Walked) (agreed : ℕ) where
   -- the first clause that fails
@@ -42,9 +42,9 @@ module _ (L : Limits) (x : Confirmed) (p k : ℕ) (awaits : Bool) (past : Past) 
   kept ok c = record { ok = ok; issued = w.issued; clause = c; received = w.received }
 
   -- the step that the code comes to, by its tests
-  pub before-position : awaits ≡ true → k < past.seconds → added w x.issued.0 failing ≡ confirm_step L x p k awaits past w agreed
+  pub before_position : awaits ≡ true → k < past.seconds → added w x.issued.0 failing ≡ confirm_step L x p k awaits past w agreed
   unfolding confirm_step
-  before-position a l = rw (a, lt-ltb k past.seconds l)
+  before_position a l = rw (a, lt-ltb k past.seconds l)
 
   module _ (ok : Bool) (q : ok ≡ may_confirm x.mark x.agreed x.issued.0 awaits (field_limit L)) (c : ℕ) where
     elsewhere : both awaits (ltb k past.seconds) ≡ false

@@ -17,10 +17,10 @@ use Rattle.pass_two.proofs.Tests.{second_tests_lem}
 use Rattle.scanned.specs.Pieces.{Confirms, SecondStep}
 use Rattle.scanned.specs.declared.Walked.{Walked}
 use Rattle.scanned.specs.declared.Past.{Past}
-use Rattle.scanned.proofs.Stepping.{second-confirms, second-looks, second-stores}
+use Rattle.scanned.proofs.Stepping.{second_confirms, second_looks, second_stores}
 use Rattle.confirming.specs.Step.{added, confirm_step}
 use Rattle.confirming.specs.Pieces.{confirmed_in}
-use Rattle.confirming.proofs.Confirming.{before-position, at_position, other_step}
+use Rattle.confirming.proofs.Confirming.{before_position, at_position, other_step}
 
 confirms : (w : Walked) (more c : ℕ) → Confirms w more c (added w more c)
 confirms w more c = go (ℕ_discrete c no_clause)
@@ -56,23 +56,23 @@ module _ (L : Limits) (ss : List ℕ) (p k : ℕ) (awaits : Bool) (past : Past) 
   confirmed =
       subst (λ d. Confirms w (word ss (confirmed_place 0)) d (added w (word ss (confirmed_place 0)) failing)) same (confirms w (word ss (confirmed_place 0)) failing)
 
-  is-step : Done after
-  is-step = go awaits refl (dec_le past.seconds k) (ℕ_discrete k past.confirm)
+  is_step : Done after
+  is_step = go awaits refl (dec_le past.seconds k) (ℕ_discrete k past.confirm)
     where
       other : (awaits ≡ true → (past.seconds ≤ k) × (k ≡ past.confirm → ⊥)) → Done after
       other far =
           subst Done (other_step L (confirmed_in ss) p k awaits past w agreed _ refl _ far refl)
-          (second-stores L ss p k awaits past w agreed far _ refl _ refl)
+          (second_stores L ss p k awaits past w agreed far _ refl _ refl)
 
       go : (t : Bool) → awaits ≡ t → Dec (past.seconds ≤ k) → Dec (k ≡ past.confirm) → Done after
       go true a (no l) h =
-          subst Done (before-position L (confirmed_in ss) p k awaits past w agreed a (omega arith))
-          (second-confirms L ss p k awaits past w agreed a (omega arith) _ confirmed)
+          subst Done (before_position L (confirmed_in ss) p k awaits past w agreed a (omega arith))
+          (second_confirms L ss p k awaits past w agreed a (omega arith) _ confirmed)
       go true a (yes l) (yes h) =
           subst Done (at_position L (confirmed_in ss) p k awaits past w agreed _ refl _ l a h refl)
-          (second-looks L ss p k awaits past w agreed l a h _ refl _ same)
+          (second_looks L ss p k awaits past w agreed l a h _ refl _ same)
       go true a (yes l) (no h) = other (λ u. (l, h))
       go false a l h = other (λ u. clash (sym u ∙ a))
 
   pub second_is : (r : Walked) → r ≡ after → SecondStep L ss p k awaits past w agreed r
-  second_is r e = subst Done (sym e) is-step
+  second_is r e = subst Done (sym e) is_step

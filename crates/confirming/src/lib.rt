@@ -1,4 +1,6 @@
 // A step of the walk in pass 2, by the words of its frame.
+#![tactic(auto)]
+
 ghost use Rattle.std.specs.Prelude.{◌≡◌, suc, ◌+◌, ◌<◌, eqb};
 ghost use Rattle.base.specs.Limits.{limits_of};
 ghost use Rattle.node.specs.Agree.{no_clause};

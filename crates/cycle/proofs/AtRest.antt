@@ -7,8 +7,8 @@ use native.Mathlib.Decide.{dec_le, dec_lt, ℕ_discrete}
 use native.Mathlib.Omega.{arith}
 use Rattle.cycle.proofs.Sums.{pick, sum}
 use Rattle.cycle.proofs.Tree.{Tree, Meet, meet_sum}
-use Rattle.cycle.proofs.Exact.{Entry, sent_to, taken_from, sent_all, taken_all, Entries, own_sums, runSum, Exact}
-use Rattle.cycle.proofs.Exact.{own-exact, back, other, across}
+use Rattle.cycle.proofs.Exact.{Entry, sent_to, taken_from, sent_all, taken_all, Entries, own_sums, run_sum, Exact}
+use Rattle.cycle.proofs.Exact.{own_exact, back, other, across}
 use Rattle.cycle.proofs.OnePhase.{State, confirming, frame_of, dim_of, Agrees, alone, first, second, HasEntry}
 use Rattle.cycle.proofs.OnePhase.{above_ok}
 
@@ -73,98 +73,98 @@ dim_second p k = go (dec_lt (p + k) p)
 module _ {P p : ℕ} (tree : Tree P p) (nodes : ℕ → State) (A : ℕ)
     (stored_is : (w c s : ℕ) → c < P → s ≤ A → (nodes c).step < p + p → tree.awaited (dim_of p s) c ≡ some w
     → (nodes c).stored s ≡ some (frame_of p (nodes w) s))
-    (lone-none : (c s : ℕ) → c < P → s ≤ A → tree.awaited (dim_of p s) c ≡ none → (nodes c).stored s ≡ none)
-    (gone-first : (w : ℕ) → w < P → p + p ≤ (nodes w).step → (k : ℕ) → k ≤ p → (f : Entry) → HasEntry p f
-    → own_sums (nodes w).tallies (nodes w).stored k f ≡ runSum tree (λ y. (nodes y).tallies f) k w)
-    (gone-second : (w : ℕ) → w < P → p + p ≤ (nodes w).step → (k : ℕ) → k ≤ p
-    → own_sums (nodes w).tallies (λ i. (nodes w).stored (p + i)) k sent_all ≡ runSum tree
+    (lone_none : (c s : ℕ) → c < P → s ≤ A → tree.awaited (dim_of p s) c ≡ none → (nodes c).stored s ≡ none)
+    (gone_first : (w : ℕ) → w < P → p + p ≤ (nodes w).step → (k : ℕ) → k ≤ p → (f : Entry) → HasEntry p f
+    → own_sums (nodes w).tallies (nodes w).stored k f ≡ run_sum tree (λ y. (nodes y).tallies f) k w)
+    (gone_second : (w : ℕ) → w < P → p + p ≤ (nodes w).step → (k : ℕ) → k ≤ p
+    → own_sums (nodes w).tallies (λ i. (nodes w).stored (p + i)) k sent_all ≡ run_sum tree
     (λ y. (nodes y).tallies sent_all) k w) where
   tal : ℕ → Entries
   tal y = (nodes y).tallies
 
   -- ---- all sums are exact, as far as everybody has come
 
-  pub exact-first : (K k : ℕ) → k ≤ K → k ≤ suc A → k ≤ p → (w : ℕ) → w < P → (f : Entry) → HasEntry p f
-      → own_sums (nodes w).tallies (nodes w).stored k f ≡ runSum tree (λ y. (nodes y).tallies f) k w
-  exact-first zero k a b c w h f v =
-      own-exact tree (λ y. (nodes y).tallies) f w (nodes w).stored h k c (λ i l. absurd (omega arith))
-  exact-first (suc K) k a b c w h f v =
-      by (λ i l u hu. exact-first K i (omega arith) (omega arith) (omega arith) u hu f v)
+  pub exact_first : (K k : ℕ) → k ≤ K → k ≤ suc A → k ≤ p → (w : ℕ) → w < P → (f : Entry) → HasEntry p f
+      → own_sums (nodes w).tallies (nodes w).stored k f ≡ run_sum tree (λ y. (nodes y).tallies f) k w
+  exact_first zero k a b c w h f v =
+      own_exact tree (λ y. (nodes y).tallies) f w (nodes w).stored h k c (λ i l. absurd (omega arith))
+  exact_first (suc K) k a b c w h f v =
+      by (λ i l u hu. exact_first K i (omega arith) (omega arith) (omega arith) u hu f v)
       (dec_lt (nodes w).step (p + p))
     where
-      Below-k : Type 0
-      Below-k =
+      Below_k : Type 0
+      Below_k =
           (i : ℕ) → i < k → (u : ℕ) → u < P
-          → own_sums (nodes u).tallies (nodes u).stored i f ≡ runSum tree (λ y. (nodes y).tallies f) i u
+          → own_sums (nodes u).tallies (nodes u).stored i f ≡ run_sum tree (λ y. (nodes y).tallies f) i u
 
-      here : Below-k → (i : ℕ) → i < k → (nodes w).step < p + p → (o : Option ℕ) → tree.awaited i w ≡ o
+      here : Below_k → (i : ℕ) → i < k → (nodes w).step < p + p → (o : Option ℕ) → tree.awaited i w ≡ o
           → Exact tree (λ y. (nodes y).tallies) f i o ((nodes w).stored i)
-      here ih i l m none e = rw (lone-none w i h (omega arith) (rw (dim_first p i (omega arith)) e)) tt
+      here ih i l m none e = rw (lone_none w i h (omega arith) (rw (dim_first p i (omega arith)) e)) tt
       here ih i l m (some u) e =
           rw (
             stored_is u w i h (omega arith) m (rw (dim_first p i (omega arith)) e),
             frame_first p (nodes u) i (omega arith),
           ) (ih i l u (tree.below i w u (omega arith) h e))
 
-      by : Below-k → Dec ((nodes w).step < p + p)
-          → own_sums (nodes w).tallies (nodes w).stored k f ≡ runSum tree (λ y. (nodes y).tallies f) k w
+      by : Below_k → Dec ((nodes w).step < p + p)
+          → own_sums (nodes w).tallies (nodes w).stored k f ≡ run_sum tree (λ y. (nodes y).tallies f) k w
       by ih (yes m) =
-          own-exact tree (λ y. (nodes y).tallies) f w (nodes w).stored h k c
+          own_exact tree (λ y. (nodes y).tallies) f w (nodes w).stored h k c
           (λ i l. here ih i l m (tree.awaited i w) refl)
-      by ih (no m) = gone-first w h (omega arith) k c f v
+      by ih (no m) = gone_first w h (omega arith) k c f v
 
-  exact-second : (K k : ℕ) → k ≤ K → p + k ≤ suc A → k ≤ p → (w : ℕ) → w < P
-      → own_sums (nodes w).tallies (λ i. (nodes w).stored (p + i)) k sent_all ≡ runSum tree
+  exact_second : (K k : ℕ) → k ≤ K → p + k ≤ suc A → k ≤ p → (w : ℕ) → w < P
+      → own_sums (nodes w).tallies (λ i. (nodes w).stored (p + i)) k sent_all ≡ run_sum tree
       (λ y. (nodes y).tallies sent_all) k w
-  exact-second zero k a b c w h =
-      own-exact tree (λ y. (nodes y).tallies) sent_all w (λ i. (nodes w).stored (p + i)) h k c
+  exact_second zero k a b c w h =
+      own_exact tree (λ y. (nodes y).tallies) sent_all w (λ i. (nodes w).stored (p + i)) h k c
       (λ i l. absurd (omega arith))
-  exact-second (suc K) k a b c w h =
-      by (λ i l u hu. exact-second K i (omega arith) (omega arith) (omega arith) u hu) (dec_lt (nodes w).step (p + p))
+  exact_second (suc K) k a b c w h =
+      by (λ i l u hu. exact_second K i (omega arith) (omega arith) (omega arith) u hu) (dec_lt (nodes w).step (p + p))
     where
-      Below-k : Type 0
-      Below-k =
+      Below_k : Type 0
+      Below_k =
           (i : ℕ) → i < k → (u : ℕ) → u < P
-          → own_sums (nodes u).tallies (λ i. (nodes u).stored (p + i)) i sent_all ≡ runSum tree
+          → own_sums (nodes u).tallies (λ i. (nodes u).stored (p + i)) i sent_all ≡ run_sum tree
           (λ y. (nodes y).tallies sent_all) i u
 
-      here : Below-k → (i : ℕ) → i < k → (nodes w).step < p + p → (o : Option ℕ) → tree.awaited i w ≡ o
+      here : Below_k → (i : ℕ) → i < k → (nodes w).step < p + p → (o : Option ℕ) → tree.awaited i w ≡ o
           → Exact tree (λ y. (nodes y).tallies) sent_all i o ((nodes w).stored (p + i))
-      here ih i l m none e = rw (lone-none w (p + i) h (omega arith) (rw (dim_second p i) e)) tt
+      here ih i l m none e = rw (lone_none w (p + i) h (omega arith) (rw (dim_second p i) e)) tt
       here ih i l m (some u) e =
           rw (stored_is u w (p + i) h (omega arith) m (rw (dim_second p i) e), frame_second p (nodes u) i)
           (ih i l u (tree.below i w u (omega arith) h e))
 
-      by : Below-k → Dec ((nodes w).step < p + p)
-          → own_sums (nodes w).tallies (λ i. (nodes w).stored (p + i)) k sent_all ≡ runSum tree
+      by : Below_k → Dec ((nodes w).step < p + p)
+          → own_sums (nodes w).tallies (λ i. (nodes w).stored (p + i)) k sent_all ≡ run_sum tree
           (λ y. (nodes y).tallies sent_all) k w
       by ih (yes m) =
-          own-exact tree (λ y. (nodes y).tallies) sent_all w (λ i. (nodes w).stored (p + i)) h k c
+          own_exact tree (λ y. (nodes y).tallies) sent_all w (λ i. (nodes w).stored (p + i)) h k c
           (λ i l. here ih i l m (tree.awaited i w) refl)
-      by ih (no m) = gone-second w h (omega arith) k c
+      by ih (no m) = gone_second w h (omega arith) k c
 
   -- ---- the node that is least far
 
   module _ (m : ℕ → ℕ → ℕ)
-      (sent-shells : (y : ℕ) → y < P → (k : ℕ) → k ≤ p
-      → runSum tree (m y) k y ≡ sum (λ j. (nodes y).tallies (sent_to j)) 0 k)
-      (taken-shells : (z : ℕ) → z < P → (k : ℕ) → k ≤ p
-      → runSum tree (λ y. m y z) k z ≡ sum (λ j. (nodes z).tallies (taken_from j)) 0 k)
+      (sent_shells : (y : ℕ) → y < P → (k : ℕ) → k ≤ p
+      → run_sum tree (m y) k y ≡ sum (λ j. (nodes y).tallies (sent_to j)) 0 k)
+      (taken_shells : (z : ℕ) → z < P → (k : ℕ) → k ≤ p
+      → run_sum tree (λ y. m y z) k z ≡ sum (λ j. (nodes z).tallies (taken_from j)) 0 k)
       (limit R : ℕ) (small : (f : Entry) → HasEntry p f → (k b : ℕ) → k ≤ p → b < P
-      → runSum tree (λ y. (nodes y).tallies f) k b ≤ limit)
+      → run_sum tree (λ y. (nodes y).tallies f) k b ≤ limit)
       (sent-R : sum (λ y. (nodes y).tallies sent_all) 0 P ≡ R) (taken-R : sum (λ y. (nodes y).tallies taken_all) 0 P ≡ R)
-      (agreed-R : (w : ℕ) → w < P → p ≤ A → (nodes w).agreed ≡ R)
+      (agreed_R : (w : ℕ) → w < P → p ≤ A → (nodes w).agreed ≡ R)
       (a : ℕ) (h : a < P) (at-A : (nodes a).step ≡ A) (in-phase : A < p + p) where
-    tops : (f : Entry) → runSum tree (λ y. (nodes y).tallies f) p a ≡ sum (λ y. (nodes y).tallies f) 0 P
+    tops : (f : Entry) → run_sum tree (λ y. (nodes y).tallies f) p a ≡ sum (λ y. (nodes y).tallies f) 0 P
     tops f = rw (tree.low_top a h, tree.size_top a h) refl
 
     agree_first : A < p → (w : ℕ) → tree.awaited A a ≡ some w → Agrees p limit (nodes a) A (some w)
     agree_first l w e =
         first w (own_sums (nodes w).tallies (nodes w).stored A) l got
         (own (sent_to A) l ∙ across tree m (λ y j. (nodes y).tallies (sent_to j))
-        (λ z j. (nodes z).tallies (taken_from j)) sent-shells taken-shells A a w l h hw mt ∙ sym (his (taken_from A) l))
+        (λ z j. (nodes z).tallies (taken_from j)) sent_shells taken_shells A a w l h hw mt ∙ sym (his (taken_from A) l))
         (own (taken_from A) l ∙ sym (across tree m (λ y j. (nodes y).tallies (sent_to j))
-        (λ z j. (nodes z).tallies (taken_from j)) sent-shells taken-shells A w a l hw h bk) ∙ sym (his (sent_to A) l))
+        (λ z j. (nodes z).tallies (taken_from j)) sent_shells taken_shells A w a l hw h bk) ∙ sym (his (sent_to A) l))
         (λ f u. let v = above_ok A p f u in
         omega (
           arith,
@@ -193,12 +193,12 @@ module _ {P p : ℕ} (tree : Tree P p) (nodes : ℕ → State) (A : ℕ)
         bk = back tree A a w mt (tree.same (suc A) a w h (other tree A a w w mt (tree.self A w hw)))
 
         own : (f : Entry) → HasEntry p f
-            → own_sums (nodes a).tallies (nodes a).stored A f ≡ runSum tree (λ y. (nodes y).tallies f) A a
-        own f v = exact-first A A (omega arith) (omega arith) (omega arith) a h f v
+            → own_sums (nodes a).tallies (nodes a).stored A f ≡ run_sum tree (λ y. (nodes y).tallies f) A a
+        own f v = exact_first A A (omega arith) (omega arith) (omega arith) a h f v
 
         his : (f : Entry) → HasEntry p f
-            → own_sums (nodes w).tallies (nodes w).stored A f ≡ runSum tree (λ y. (nodes y).tallies f) A w
-        his f v = exact-first A A (omega arith) (omega arith) (omega arith) w hw f v
+            → own_sums (nodes w).tallies (nodes w).stored A f ≡ run_sum tree (λ y. (nodes y).tallies f) A w
+        his f v = exact_first A A (omega arith) (omega arith) (omega arith) w hw f v
 
         got : (nodes a).stored A ≡ some (own_sums (nodes w).tallies (nodes w).stored A)
         got =
@@ -206,7 +206,7 @@ module _ {P p : ℕ} (tree : Tree P p) (nodes : ℕ → State) (A : ℕ)
             ∙ ap some (frame_first p (nodes w) A l)
 
         whole : suc A ≡ p → (f : Entry)
-            → runSum tree (λ y. (nodes y).tallies f) A a + runSum tree (λ y. (nodes y).tallies f) A w ≡ sum
+            → run_sum tree (λ y. (nodes y).tallies f) A a + run_sum tree (λ y. (nodes y).tallies f) A w ≡ sum
             (λ y. (nodes y).tallies f) 0 P
         whole last f = sym (meet_sum tree.low tree.size A a w (λ y. (nodes y).tallies f) mt) ∙ rw last (tops f)
 
@@ -214,18 +214,18 @@ module _ {P p : ℕ} (tree : Tree P p) (nodes : ℕ → State) (A : ℕ)
     agree_second k q w e =
         second w (confirming (nodes w).agreed (own_sums (nodes w).tallies (λ i. (nodes w).stored (p + i)) k sent_all))
         (omega arith) got
-        (rw k-is (omega (
+        (rw k_is (omega (
           arith,
           own,
           his,
           meet_sum tree.low tree.size k a w
               (λ y. (nodes y).tallies sent_all) mt,
           small sent_all tt (suc k) a (omega arith) h,
-        ))) (agreed-R w hw (omega arith) ∙ sym (agreed-R a h (omega arith)))
-        (λ last. rw k-is (omega (arith, own, his, whole (omega arith), agreed-R a h (omega arith))))
+        ))) (agreed_R w hw (omega arith) ∙ sym (agreed_R a h (omega arith)))
+        (λ last. rw k_is (omega (arith, own, his, whole (omega arith), agreed_R a h (omega arith))))
       where
-        k-is : A - p ≡ k
-        k-is = omega arith
+        k_is : A - p ≡ k
+        k_is = omega arith
 
         hw : w < P
         hw = tree.below k a w (omega arith) h e
@@ -233,13 +233,13 @@ module _ {P p : ℕ} (tree : Tree P p) (nodes : ℕ → State) (A : ℕ)
         mt : Meet tree.low tree.size k a w
         mt = tree.meet k a w (omega arith) h e
 
-        own : own_sums (nodes a).tallies (λ i. (nodes a).stored (p + i)) k sent_all ≡ runSum tree
+        own : own_sums (nodes a).tallies (λ i. (nodes a).stored (p + i)) k sent_all ≡ run_sum tree
             (λ y. (nodes y).tallies sent_all) k a
-        own = exact-second k k (omega arith) (omega arith) (omega arith) a h
+        own = exact_second k k (omega arith) (omega arith) (omega arith) a h
 
-        his : own_sums (nodes w).tallies (λ i. (nodes w).stored (p + i)) k sent_all ≡ runSum tree
+        his : own_sums (nodes w).tallies (λ i. (nodes w).stored (p + i)) k sent_all ≡ run_sum tree
             (λ y. (nodes y).tallies sent_all) k w
-        his = exact-second k k (omega arith) (omega arith) (omega arith) w hw
+        his = exact_second k k (omega arith) (omega arith) (omega arith) w hw
 
         got : (nodes a).stored A ≡ some
             (confirming (nodes w).agreed (own_sums (nodes w).tallies (λ i. (nodes w).stored (p + i)) k sent_all))
@@ -247,7 +247,7 @@ module _ {P p : ℕ} (tree : Tree P p) (nodes : ℕ → State) (A : ℕ)
             rw q (stored_is w a (p + k) h (omega arith) (omega arith) (rw (dim_second p k) e)
             ∙ ap some (frame_second p (nodes w) k))
 
-        whole : suc k ≡ p → runSum tree (λ y. (nodes y).tallies sent_all) k a + runSum tree
+        whole : suc k ≡ p → run_sum tree (λ y. (nodes y).tallies sent_all) k a + run_sum tree
             (λ y. (nodes y).tallies sent_all) k w ≡ sum (λ y. (nodes y).tallies sent_all) 0 P
         whole last =
             sym (meet_sum tree.low tree.size k a w (λ y. (nodes y).tallies sent_all) mt) ∙ rw last (tops sent_all)

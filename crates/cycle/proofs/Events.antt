@@ -78,17 +78,17 @@ module _ {P p : ℕ} {tree : Tree P p} {limit : ℕ} {b : Ledger} (r : Reached t
   there : (a : ℕ) (v : State) (n : ℕ) → v.step < p + p → (update (b.pages n).nodes a v a).step < p + p
   there a v n h = subst (λ u. u.step < p + p) (sym (update_same (b.pages n).nodes a v)) h
 
-  pub act-rest : (a : ℕ) → a < P
+  pub act_rest : (a : ℕ) → a < P
       → Step tree limit b (with_state b a (with_tallies (state_of b a) false (state_of b a).tallies) b.items)
-  act-rest a h =
+  act_rest a h =
       Step.acts a _ b.items h (Turn.rests a h) (λ m q. refl)
       (λ y q. update_other (b.pages (b.phase a)).nodes a _ y q) (there a _ (b.phase a) (now a))
 
-  pub act-send : (a c j : ℕ) → a < P → c < P → j < p → Shell tree a c j → (state_of b a).busy ≡ true
+  pub act_send : (a c j : ℕ) → a < P → c < P → j < p → Shell tree a c j → (state_of b a).busy ≡ true
       → length (b.pages (b.phase a)).senders < limit → Step tree limit b (ledger_with b (b.phase a)
       (page_sent (b.pages (b.phase a)) a c (with_tallies (state_of b a) true (bump_sent (state_of b a).tallies j)))
       (b.items ++ dated (b.phase a) (posts a message (c ∷ []))))
-  act-send a c j h hc jp s bu l =
+  act_send a c j h hc jp s bu l =
       Step.acts a _ (b.items ++ dated n (posts a message (c ∷ []))) h
       (subst (λ is. Turn tree limit (phase_of b n)
       (board_of (page_sent (b.pages n) a c (with_tallies (state_of b a) true (bump_sent (state_of b a).tallies j))) is))
@@ -100,22 +100,22 @@ module _ {P p : ℕ} {tree : Tree P p} {limit : ℕ} {b : Ledger} (r : Reached t
       n : ℕ
       n = b.phase a
 
-  pub act-wait : (a : ℕ) → a < P → (state_of b a).busy ≡ false
+  pub act_wait : (a : ℕ) → a < P → (state_of b a).busy ≡ false
       → ((state_of b a).flag ≡ false) ⊎ Unheard tree a (state_of b a).step
       → Step tree limit b (with_state b a (at_step (state_of b a) (state_of b a).step false (state_of b a).agreed)
       b.items)
-  act-wait a h bu f =
+  act_wait a h bu f =
       Step.acts a _ b.items h (Turn.waits a h bu f) (λ m q. refl)
       (λ y q. update_other (b.pages (b.phase a)).nodes a _ y q) (there a _ (b.phase a) (now a))
 
-  pub act-move : (a t : ℕ) → a < P → (state_of b a).busy ≡ false
+  pub act_move : (a t : ℕ) → a < P → (state_of b a).busy ≡ false
       → ((state_of b a).flag ≡ false) ⊎ Unheard tree a (state_of b a).step
       → Agrees p limit (state_of b a) (state_of b a).step (tree.awaited (dim_of p (state_of b a).step) a)
       → (p ≤ (state_of b a).step → t ≡ (state_of b a).agreed)
       → (suc (state_of b a).step ≡ p → t ≡ own_sums (state_of b a).tallies (state_of b a).stored p taken_all)
       → suc (state_of b a).step < p + p
       → Step tree limit b (with_state b a (at_step (state_of b a) (suc (state_of b a).step) true t) b.items)
-  act-move a t h bu f ag t1 t2 l =
+  act_move a t h bu f ag t1 t2 l =
       Step.acts a _ b.items h (Turn.moves a t h bu (now a) f ag t1 t2) (λ m q. refl)
       (λ y q. update_other (b.pages (b.phase a)).nodes a _ y q) (there a _ (b.phase a) l)
 
@@ -137,13 +137,13 @@ module _ {P p : ℕ} {tree : Tree P p} {limit : ℕ} {b : Ledger} (r : Reached t
       (subst (λ u. p + p ≤ u.step) (sym (update_same (b.pages (b.phase a)).nodes a
       (at_step (state_of b a) (suc (state_of b a).step) true t))) l)
 
-  pub act-put : (a : ℕ) (rs : List ℕ) → a < P → (state_of b a).busy ≡ false
+  pub act_put : (a : ℕ) (rs : List ℕ) → a < P → (state_of b a).busy ≡ false
       → ((c : ℕ) → c < P → tree.awaited (dim_of p (state_of b a).step) c ≡ some a
       → (xs : List ℕ) × ((ys : List ℕ) × (rs ≡ xs ++ c ∷ ys)))
       → Step tree limit b (with_state b a (at_step (state_of b a) (state_of b a).step false (state_of b a).agreed)
       (b.items ++ dated (b.phase a)
       (posts a (report (state_of b a).step (frame_of p (state_of b a) (state_of b a).step)) rs)))
-  act-put a rs h bu k =
+  act_put a rs h bu k =
       Step.acts a _ (b.items ++ dated n is) h
       (subst (λ is. Turn tree limit (phase_of b n)
       (board_of (page_with (b.pages n) a (at_step v v.step false v.agreed)) is))
@@ -163,9 +163,9 @@ module _ {P p : ℕ} {tree : Tree P p} {limit : ℕ} {b : Ledger} (r : Reached t
   -- ---- deliveries: the item is on the board, of the receiver's phase
 
   module _ (xs ys : List Dated) (n a c : ℕ) where
-    pub act-lose : (l : Content) → b.items ≡ xs ++ record { phase = n; item = record { from = a; to = c; load = l } }
+    pub act_lose : (l : Content) → b.items ≡ xs ++ record { phase = n; item = record { from = a; to = c; load = l } }
         ∷ ys → Step tree limit b (ledger_with b n (page_lost (b.pages n)) (xs ++ ys))
-    act-lose l e =
+    act_lose l e =
         Step.late n _ (xs ++ ys)
         (subst (λ is. Turn tree limit (phase_of b n) (board_of (page_lost (b.pages n)) is)) (sym (phase_append n xs ys))
         (Turn.loses (of_phase n xs) (of_phase n ys) (record { from = a; to = c; load = l })
@@ -173,10 +173,10 @@ module _ {P p : ℕ} {tree : Tree P p} {limit : ℕ} {b : Ledger} (r : Reached t
         (λ k q. phase_mid_else k xs ys (record { phase = n; item = record { from = a; to = c; load = l } })
         (λ z. q (sym z)) ∙ ap (of_phase k) (sym e)) (λ y. refl)
 
-    pub act-drop : (s : ℕ) (x : Entries)
+    pub act_drop : (s : ℕ) (x : Entries)
         → b.items ≡ xs ++ record { phase = n; item = record { from = a; to = c; load = report s x } } ∷ ys → c < P
         → n < b.phase c → Step tree limit b (ledger_with b n (page_with (b.pages n) c ((b.pages n).nodes c)) (xs ++ ys))
-    act-drop s x e h l =
+    act_drop s x e h l =
         Step.late n _ (xs ++ ys)
         (subst (λ is. Turn tree limit (phase_of b n) (board_of (page_with (b.pages n) c ((b.pages n).nodes c)) is))
         (sym (phase_append n xs ys))
@@ -186,12 +186,12 @@ module _ {P p : ℕ} {tree : Tree P p} {limit : ℕ} {b : Ledger} (r : Reached t
         (λ z. q (sym z)) ∙ ap (of_phase k) (sym e))
         (update_all (λ y u. u ≡ (b.pages n).nodes y) (b.pages n).nodes c ((b.pages n).nodes c) refl (λ y q. refl))
 
-    pub act-take : (j : ℕ) (busy : Bool) → b.items ≡ xs ++ record { phase = n; item = record { from = a; to = c; load = message } }
+    pub act_take : (j : ℕ) (busy : Bool) → b.items ≡ xs ++ record { phase = n; item = record { from = a; to = c; load = message } }
         ∷ ys → n ≡ b.phase c → a < P → c < P → j < p → Shell tree c a j
         → Step tree limit b (ledger_with b (b.phase c)
         (page_taken (b.pages (b.phase c)) a c
         (at_step (with_tallies (state_of b c) busy (bump_taken (state_of b c).tallies j)) 0 true 0)) (xs ++ ys))
-    act-take j busy e ph ha hc jp s =
+    act_take j busy e ph ha hc jp s =
         Step.acts c _ (xs ++ ys) hc
         (subst (λ is. Turn tree limit (phase_of b m)
         (board_of (page_taken (b.pages m) a c
@@ -209,9 +209,9 @@ module _ {P p : ℕ} {tree : Tree P p} {limit : ℕ} {b : Ledger} (r : Reached t
         (e : b.items ≡ xs ++ record { phase = n; item = record { from = a; to = c; load = report s x } } ∷ ys)
         (f : FirstDated xs a c) (ph : n ≡ b.phase c)
         (hc : c < P) (sp : s < p + p) (aw : tree.awaited (dim_of p s) c ≡ some a) where
-      pub act-store : (state_of b c).step ≤ s
+      pub act_store : (state_of b c).step ≤ s
           → Step tree limit b (with_state b c (with_stored (state_of b c) s x) (xs ++ ys))
-      act-store l =
+      act_store l =
           Step.acts c _ (xs ++ ys) hc
           (subst (λ is. Turn tree limit (phase_of b m)
           (board_of (page_with (b.pages m) c (with_stored (state_of b c) s x)) is)) (sym (phase_append m xs ys))
@@ -224,9 +224,9 @@ module _ {P p : ℕ} {tree : Tree P p} {limit : ℕ} {b : Ledger} (r : Reached t
           m : ℕ
           m = b.phase c
 
-      pub act-fall : (t : ℕ) → s < (state_of b c).step → (p ≤ s → t ≡ (state_of b c).agreed)
+      pub act_fall : (t : ℕ) → s < (state_of b c).step → (p ≤ s → t ≡ (state_of b c).agreed)
           → Step tree limit b (with_state b c (at_step (with_stored (state_of b c) s x) s false t) (xs ++ ys))
-      act-fall t l q =
+      act_fall t l q =
           Step.acts c _ (xs ++ ys) hc
           (subst (λ is. Turn tree limit (phase_of b m)
           (board_of (page_with (b.pages m) c (at_step (with_stored (state_of b c) s x) s false t)) is))

@@ -40,8 +40,8 @@ module _ (log : List ℕ) (R P : ℕ) (Q : ℕ → Type 0) (T : ℕ) (s : ℕ �
       sum_tight (firsts log T) s 0 P (λ i a b. claim_le log R (Q i) i (s i) T (claims i (omega arith)))
       (omega (arith, sum_count_take P T log (omega arith) below)) y zero-le (omega arith)
 
-  not-later : T < length log → ⊥
-  not-later h = go (claims z z<P) (exact z z<P)
+  not_later : T < length log → ⊥
+  not_later h = go (claims z z<P) (exact z z<P)
     where
       z : ℕ
       z = get_or log T 0
@@ -54,19 +54,19 @@ module _ (log : List ℕ) (R P : ℕ) (Q : ℕ → Type 0) (T : ℕ) (s : ℕ �
       go (quiet e' a b c) e = omega arith
       go (later e' a b) e = b refl
 
-  idle-at : (y : ℕ) → y < P → Q y
-  idle-at y h = go (claims y h) (exact y h)
+  idle_at : (y : ℕ) → y < P → Q y
+  idle_at y h = go (claims y h) (exact y h)
     where
       go : Claim log R (Q y) y (s y) T → s y ≡ firsts log T y → Q y
       go (over k) e = absurd (omega arith)
       go (quiet e' a b c) e = c
-      go (later e' a b) e = absurd (not-later a)
+      go (later e' a b) e = absurd (not_later a)
 
-  sent-all : Dec (T < length log) → length log ≡ T
-  sent-all (yes h) = absurd (not-later h)
-  sent-all (no h) = omega arith
+  sent_all_lem : Dec (T < length log) → length log ≡ T
+  sent_all_lem (yes h) = absurd (not_later h)
+  sent_all_lem (no h) = omega arith
 
   pub final : Quiet log R P Q T
   final =
-      let e = sent-all (dec_lt T (length log)) in
-      record { all_sent_lem = e; all_taken_lem = omega arith; all_idle = idle-at }
+      let e = sent_all_lem (dec_lt T (length log)) in
+      record { all_sent_lem = e; all_taken_lem = omega arith; all_idle = idle_at }

@@ -61,9 +61,9 @@ module _ {P p : ℕ} (tree : Tree P p) where
   abbrev pub BusyAtStart : PhaseBoard → Type 0
   BusyAtStart b = (a : ℕ) → (b.nodes a).busy ≡ true → ((b.nodes a).step ≡ 0) × ((b.nodes a).flag ≡ true)
 
-  none-stands : (v : State) (s : ℕ) → v.step ≡ 0 → v.flag ≡ true → Stands v s → ⊥
-  none-stands v s e f (inl l) = omega arith
-  none-stands v s e f (inr q) =
+  none_stands : (v : State) (s : ℕ) → v.step ≡ 0 → v.flag ≡ true → Stands v s → ⊥
+  none_stands v s e f (inl l) = omega arith
+  none_stands v s e f (inr q) =
       let z : ◌≡◌ {A = Bool} true false = sym f ∙ q.1 in let y : ◌≡◌ {A = ℕ} 0 1 = cc in omega arith
 
   -- the receiver's side and the sender's side of an event at one node
@@ -72,11 +72,11 @@ module _ {P p : ℕ} (tree : Tree P p) where
       u.step < p + p → ((b.nodes c).step < p + p)
       × (latest s w c is (u.stored s) ≡ latest s w c b.items ((b.nodes c).stored s))
 
-  latest-keep : (b : PhaseBoard) → Latest b → (a : ℕ) (v : State) (is : List Parcel)
+  latest_keep : (b : PhaseBoard) → Latest b → (a : ℕ) (v : State) (is : List Parcel)
       → ((w c s : ℕ) → c < P → tree.awaited (dim_of p s) c ≡ some w → Receives b s w is c (update b.nodes a v c))
       → ((c s : ℕ) → c < P → tree.awaited (dim_of p s) c ≡ some a → Stands v s
       → Stands (b.nodes a) s × (frame_of p v s ≡ frame_of p (b.nodes a) s)) → Latest (placed b a v is)
-  latest-keep b j a v is r t w c s h l e sd u =
+  latest_keep b j a v is r t w c s h l e sd u =
       let q = r w c s h e u in
       let z = update_all (λ w n. tree.awaited (dim_of p s) c ≡ some w → Stands n s
       → Stands (b.nodes w) s × (frame_of p n s ≡ frame_of p (b.nodes w) s)) b.nodes a v (λ e' d. t c s h e' d)
@@ -84,21 +84,21 @@ module _ {P p : ℕ} (tree : Tree P p) where
       q.1 ∙ j w c s h l e z.0 q.0 ∙ ap some (sym z.1)
 
   -- the store is as it was, and the items tell the same
-  receives-same : (b : PhaseBoard) (a : ℕ) (v : State) (is : List Parcel)
+  receives_same : (b : PhaseBoard) (a : ℕ) (v : State) (is : List Parcel)
       → ((s : ℕ) → v.stored s ≡ (b.nodes a).stored s)
       → (v.step < p + p → (b.nodes a).step < p + p)
       → ((w c s : ℕ) (o : Option Entries) → latest s w c is o ≡ latest s w c b.items o) → (w c s : ℕ)
       → Receives b s w is c (update b.nodes a v c)
-  receives-same b a v is e f g w c s =
+  receives_same b a v is e f g w c s =
       update_all (λ c u. Receives b s w is c u) b.nodes a v (λ l. (f l, rw (e s) (g w a s ((b.nodes a).stored s))))
       (λ y n l. (l, g w y s ((b.nodes y).stored s))) c
 
   -- ---- the events
 
-  go-sends : (b : PhaseBoard) → Latest b → BusyAtStart b → (a c : ℕ) (t : Entries) → (b.nodes a).busy ≡ true
+  go_sends : (b : PhaseBoard) → Latest b → BusyAtStart b → (a c : ℕ) (t : Entries) → (b.nodes a).busy ≡ true
       → Latest (placed b a (with_tallies (b.nodes a) true t) (b.items ++ posts a message (c ∷ [])))
-  go-sends b j z a c t bu = latest-keep b j a v is (λ w d s h e. receives-same b a v is (λ s. refl) (λ l. l) tell w d s)
-      (λ d s h e sd. absurd (none-stands v s (z a bu).0 (z a bu).1 sd))
+  go_sends b j z a c t bu = latest_keep b j a v is (λ w d s h e. receives_same b a v is (λ s. refl) (λ l. l) tell w d s)
+      (λ d s h e sd. absurd (none_stands v s (z a bu).0 (z a bu).1 sd))
     where
       v : State
       v = with_tallies (b.nodes a) true t
@@ -111,22 +111,22 @@ module _ {P p : ℕ} (tree : Tree P p) where
           latest_append s w d b.items (posts a message (c ∷ [])) o
           ∙ newer_message s w d a c (latest s w d b.items o)
 
-  go-rests : (b : PhaseBoard) → Latest b → (a : ℕ)
+  go_rests : (b : PhaseBoard) → Latest b → (a : ℕ)
       → Latest (placed b a (with_tallies (b.nodes a) false (b.nodes a).tallies) b.items)
-  go-rests b j a =
-      latest-keep b j a v b.items
-      (λ w d s h e. receives-same b a v b.items (λ s. refl) (λ l. l) (λ w d s o. refl) w d s)
+  go_rests b j a =
+      latest_keep b j a v b.items
+      (λ w d s h e. receives_same b a v b.items (λ s. refl) (λ l. l) (λ w d s o. refl) w d s)
       (λ d s h e sd. (sd, refl))
     where
       v : State
       v = with_tallies (b.nodes a) false (b.nodes a).tallies
 
-  go-takes : (b : PhaseBoard) → Latest b → (xs ys : List Parcel) (a c : ℕ) (busy : Bool) (t : Entries)
+  go_takes : (b : PhaseBoard) → Latest b → (xs ys : List Parcel) (a c : ℕ) (busy : Bool) (t : Entries)
       → b.items ≡ xs ++ record { from = a; to = c; load = message } ∷ ys
       → (b.nodes c).step < p + p → Latest (placed b c (at_step (with_tallies (b.nodes c) busy t) 0 true 0) (xs ++ ys))
-  go-takes b j xs ys a c busy t e l =
-      latest-keep b j c v (xs ++ ys) (λ w d s h q. receives-same b c v (xs ++ ys) (λ s. refl) (λ u. l) tell w d s)
-      (λ d s h q sd. absurd (none-stands v s refl refl sd))
+  go_takes b j xs ys a c busy t e l =
+      latest_keep b j c v (xs ++ ys) (λ w d s h q. receives_same b c v (xs ++ ys) (λ s. refl) (λ u. l) tell w d s)
+      (λ d s h q sd. absurd (none_stands v s refl refl sd))
     where
       v : State
       v = at_step (with_tallies (b.nodes c) busy t) 0 true 0
@@ -137,12 +137,12 @@ module _ {P p : ℕ} (tree : Tree P p) where
           (λ o. newer_message s w d a c o)))
 
   -- a frame goes from the link into the store of c
-  receives-stores : (b : PhaseBoard) (xs ys : List Parcel) (a c s₀ : ℕ) (x : Entries) (v : State)
+  receives_stores : (b : PhaseBoard) (xs ys : List Parcel) (a c s₀ : ℕ) (x : Entries) (v : State)
       → b.items ≡ xs ++ record { from = a; to = c; load = report s₀ x } ∷ ys → First xs a c
       → tree.awaited (dim_of p s₀) c ≡ some a → (b.nodes c).step < p + p
       → v.stored ≡ update (b.nodes c).stored s₀ (some x)
       → (w d s : ℕ) → tree.awaited (dim_of p s) d ≡ some w → Receives b s w (xs ++ ys) d (update b.nodes c v d)
-  receives-stores b xs ys a c s₀ x v e fi aw l ev w d s q =
+  receives_stores b xs ys a c s₀ x v e fi aw l ev w d s q =
       update_all (λ d u. tree.awaited (dim_of p s) d ≡ some w → Receives b s w (xs ++ ys) d u) b.nodes c v
       (λ q u. (l, rw (ev, e) (here q (ℕ_discrete s s₀) (ℕ_discrete a w)))) (λ y n q u. (
         u,
@@ -167,16 +167,16 @@ module _ {P p : ℕ} (tree : Tree P p) where
           rw (update_other (b.nodes c).stored s₀ (some x) s f)
           (sym (latest_skip s w c xs ys i ((b.nodes c).stored s) (λ o. newer_else s w c a c s₀ x o (λ z. f (sym z)))))
 
-  update-before : (g : ℕ → Option Entries) (s₀ : ℕ) (x : Option Entries) (s i : ℕ) → i < s → s ≤ s₀
+  update_before : (g : ℕ → Option Entries) (s₀ : ℕ) (x : Option Entries) (s i : ℕ) → i < s → s ≤ s₀
       → update g s₀ x i ≡ g i
-  update-before g s₀ x s i l m = update_other g s₀ x i (omega arith)
+  update_before g s₀ x s i l m = update_other g s₀ x i (omega arith)
 
-  go-stores : (b : PhaseBoard) → Latest b → (xs ys : List Parcel) (a c s₀ : ℕ) (x : Entries)
+  go_stores : (b : PhaseBoard) → Latest b → (xs ys : List Parcel) (a c s₀ : ℕ) (x : Entries)
       → b.items ≡ xs ++ record { from = a; to = c; load = report s₀ x } ∷ ys → First xs a c
       → (b.nodes c).step < p + p → tree.awaited (dim_of p s₀) c ≡ some a → (b.nodes c).step ≤ s₀
       → Latest (placed b c (with_stored (b.nodes c) s₀ x) (xs ++ ys))
-  go-stores b j xs ys a c s₀ x e fi l aw m =
-      latest-keep b j c v (xs ++ ys) (λ w d s h q. receives-stores b xs ys a c s₀ x v e fi aw l refl w d s q)
+  go_stores b j xs ys a c s₀ x e fi l aw m =
+      latest_keep b j c v (xs ++ ys) (λ w d s h q. receives_stores b xs ys a c s₀ x v e fi aw l refl w d s q)
       (λ d s h q sd. (sd, same s sd))
     where
       v : State
@@ -188,16 +188,16 @@ module _ {P p : ℕ} (tree : Tree P p) where
 
       same : (s : ℕ) → Stands v s → frame_of p v s ≡ frame_of p (b.nodes c) s
       same s sd =
-          frame_same p (b.nodes c) v s refl (λ i k. update-before (b.nodes c).stored s₀ (some x) s i k (early s sd))
+          frame_same p (b.nodes c) v s refl (λ i k. update_before (b.nodes c).stored s₀ (some x) s i k (early s sd))
           (λ k. refl)
 
-  go-falls : (b : PhaseBoard) → Latest b → (xs ys : List Parcel) (a c s₀ : ℕ) (x : Entries) (T : ℕ)
+  go_falls : (b : PhaseBoard) → Latest b → (xs ys : List Parcel) (a c s₀ : ℕ) (x : Entries) (T : ℕ)
       → b.items ≡ xs ++ record { from = a; to = c; load = report s₀ x } ∷ ys → First xs a c
       → (b.nodes c).step < p + p → tree.awaited (dim_of p s₀) c ≡ some a → s₀ < (b.nodes c).step
       → (p ≤ s₀ → T ≡ (b.nodes c).agreed)
       → Latest (placed b c (at_step (with_stored (b.nodes c) s₀ x) s₀ false T) (xs ++ ys))
-  go-falls b j xs ys a c s₀ x T e fi l aw m t =
-      latest-keep b j c v (xs ++ ys) (λ w d s h q. receives-stores b xs ys a c s₀ x v e fi aw l refl w d s q)
+  go_falls b j xs ys a c s₀ x T e fi l aw m t =
+      latest_keep b j c v (xs ++ ys) (λ w d s h q. receives_stores b xs ys a c s₀ x v e fi aw l refl w d s q)
       (λ d s h q sd. (inl (omega (arith, early s sd)), same s sd))
     where
       v : State
@@ -209,13 +209,13 @@ module _ {P p : ℕ} (tree : Tree P p) where
 
       same : (s : ℕ) → Stands v s → frame_of p v s ≡ frame_of p (b.nodes c) s
       same s sd =
-          frame_same p (b.nodes c) v s refl (λ i k. update-before (b.nodes c).stored s₀ (some x) s i k (early s sd))
+          frame_same p (b.nodes c) v s refl (λ i k. update_before (b.nodes c).stored s₀ (some x) s i k (early s sd))
           (λ k. t (omega (arith, early s sd)))
 
-  go-drops : (b : PhaseBoard) → Latest b → (xs ys : List Parcel) (a c s₀ : ℕ) (x : Entries)
+  go_drops : (b : PhaseBoard) → Latest b → (xs ys : List Parcel) (a c s₀ : ℕ) (x : Entries)
       → b.items ≡ xs ++ record { from = a; to = c; load = report s₀ x } ∷ ys
       → p + p ≤ (b.nodes c).step → Latest (placed b c (b.nodes c) (xs ++ ys))
-  go-drops b j xs ys a c s₀ x e l = latest-keep b j c (b.nodes c) (xs ++ ys)
+  go_drops b j xs ys a c s₀ x e l = latest_keep b j c (b.nodes c) (xs ++ ys)
       (λ w d s h q. update_all (λ d u. Receives b s w (xs ++ ys) d u) b.nodes c (b.nodes c)
       (λ u. absurd (omega arith))
       (λ y n u. (
@@ -234,11 +234,11 @@ module _ {P p : ℕ} (tree : Tree P p) where
   stood v a d s h q (inl f) (inr e) = inr (e, f)
   stood v a d s h q (inr f) (inr e) = absurd (f d h (rw e at q))
 
-  go-waits : (b : PhaseBoard) → Latest b → (a : ℕ) → ((b.nodes a).flag ≡ false) ⊎ Unheard tree a (b.nodes a).step
+  go_waits : (b : PhaseBoard) → Latest b → (a : ℕ) → ((b.nodes a).flag ≡ false) ⊎ Unheard tree a (b.nodes a).step
       → Latest (placed b a (at_step (b.nodes a) (b.nodes a).step false (b.nodes a).agreed) b.items)
-  go-waits b j a f =
-      latest-keep b j a v b.items
-      (λ w d s h e. receives-same b a v b.items (λ s. refl) (λ l. l) (λ w d s o. refl) w d s)
+  go_waits b j a f =
+      latest_keep b j a v b.items
+      (λ w d s h e. receives_same b a v b.items (λ s. refl) (λ l. l) (λ w d s o. refl) w d s)
       (λ d s h q sd. (stood (b.nodes a) a d s h q f (near s sd), refl))
     where
       v : State
@@ -248,12 +248,12 @@ module _ {P p : ℕ} (tree : Tree P p) where
       near s (inl l) = inl l
       near s (inr l) = inr l.0
 
-  go-moves : (b : PhaseBoard) → Latest b → (a T : ℕ) → (b.nodes a).step < p + p
+  go_moves : (b : PhaseBoard) → Latest b → (a T : ℕ) → (b.nodes a).step < p + p
       → ((b.nodes a).flag ≡ false) ⊎ Unheard tree a (b.nodes a).step → (p ≤ (b.nodes a).step → T ≡ (b.nodes a).agreed)
       → Latest (placed b a (at_step (b.nodes a) (suc (b.nodes a).step) true T) b.items)
-  go-moves b j a T l f t =
-      latest-keep b j a v b.items
-      (λ w d s h e. receives-same b a v b.items (λ s. refl) (λ u. l) (λ w d s o. refl) w d s) (λ d s h q sd. (
+  go_moves b j a T l f t =
+      latest_keep b j a v b.items
+      (λ w d s h e. receives_same b a v b.items (λ s. refl) (λ u. l) (λ w d s o. refl) w d s) (λ d s h q sd. (
         stood (b.nodes a) a d s h q f (near s sd (ℕ_discrete s (b.nodes a).step)),
         frame_same p (b.nodes a) v s refl (λ i k. refl) (λ k. t (omega (arith, upto s sd))),
       ))
@@ -269,13 +269,13 @@ module _ {P p : ℕ} (tree : Tree P p) where
       near s sd (yes e) = inr e
       near s sd (no e) = inl (omega (arith, upto s sd))
 
-  go-puts : (b : PhaseBoard) → Latest b → (a : ℕ) (rs : List ℕ)
+  go_puts : (b : PhaseBoard) → Latest b → (a : ℕ) (rs : List ℕ)
       → ((c : ℕ) → c < P → tree.awaited (dim_of p (b.nodes a).step) c ≡ some a
       → (xs : List ℕ) × ((ys : List ℕ) × (rs ≡ xs ++ c ∷ ys)))
       → Latest (placed b a (at_step (b.nodes a) (b.nodes a).step false (b.nodes a).agreed)
       (b.items ++ posts a (report (b.nodes a).step (frame_of p (b.nodes a) (b.nodes a).step)) rs))
-  go-puts b j a rs rc w c s h l e sd u =
-      ap (λ o. latest s w c is o) (st-same c) ∙ latest_append s w c b.items ps ((b.nodes c).stored s)
+  go_puts b j a rs rc w c s h l e sd u =
+      ap (λ o. latest s w c is o) (st_same c) ∙ latest_append s w c b.items ps ((b.nodes c).stored s)
       ∙ now (ℕ_discrete w a) (ℕ_discrete s s₀) ∙ ap some (sym (own_same w))
     where
       s₀ : ℕ
@@ -293,8 +293,8 @@ module _ {P p : ℕ} (tree : Tree P p) where
       is : List Parcel
       is = b.items ++ ps
 
-      st-same : (c : ℕ) → (update b.nodes a v c).stored s ≡ (b.nodes c).stored s
-      st-same = update_all (λ c n. n.stored s ≡ (b.nodes c).stored s) b.nodes a v refl (λ y n. refl)
+      st_same : (c : ℕ) → (update b.nodes a v c).stored s ≡ (b.nodes c).stored s
+      st_same = update_all (λ c n. n.stored s ≡ (b.nodes c).stored s) b.nodes a v refl (λ y n. refl)
 
       own_same : (w : ℕ) → frame_of p (update b.nodes a v w) s ≡ frame_of p (b.nodes w) s
       own_same = update_all (λ w n. frame_of p n s ≡ frame_of p (b.nodes w) s) b.nodes a v refl (λ y n. refl)
@@ -315,9 +315,9 @@ module _ {P p : ℕ} (tree : Tree P p) where
       old : (w ≢ a) ⊎ (s ≢ s₀) → latest s w c b.items ((b.nodes c).stored s) ≡ some (frame_of p (b.nodes w) s)
       old q = j w c s h l e (was q) (omega (arith, at_same c))
 
-      put-now : (xs : List ℕ) × ((ys : List ℕ) × (rs ≡ xs ++ c ∷ ys)) → (o : Option Entries)
+      put_now : (xs : List ℕ) × ((ys : List ℕ) × (rs ≡ xs ++ c ∷ ys)) → (o : Option Entries)
           → latest s₀ a c ps o ≡ some fr
-      put-now r o = rw r.1.1 (latest_put s₀ a c fr r.0 r.1.0 o)
+      put_now r o = rw r.1.1 (latest_put s₀ a c fr r.0 r.1.0 o)
 
       now : Dec (w ≡ a) → Dec (s ≡ s₀)
           → latest s w c ps (latest s w c b.items ((b.nodes c).stored s)) ≡ some (frame_of p (b.nodes w) s)
@@ -329,20 +329,20 @@ module _ {P p : ℕ} (tree : Tree P p) where
           ∙ old (inr n)
       now (yes f) (yes g) =
           let e' : tree.awaited (dim_of p s₀) c ≡ some a = rw (f, g) at e in
-          rw (f, g) (put-now (rc c h e') (latest s₀ a c b.items ((b.nodes c).stored s₀)))
+          rw (f, g) (put_now (rc c h e') (latest s₀ a c b.items ((b.nodes c).stored s₀)))
 
-  pub latest-keeps : (limit : ℕ) (b b' : PhaseBoard) → Turn tree limit b b' → BusyAtStart b
+  pub latest_keeps : (limit : ℕ) (b b' : PhaseBoard) → Turn tree limit b b' → BusyAtStart b
       → (b.lossy ≡ false → Latest b) → b'.lossy ≡ false → Latest b'
-  latest-keeps limit b b' (Turn.sends a c j h hc l sl bu lm) z i q =
-      go-sends b (i q) z a c (bump_sent (b.nodes a).tallies j) bu
-  latest-keeps limit b b' (Turn.rests a h) z i q = go-rests b (i q) a
-  latest-keeps limit b b' (Turn.takes xs ys a c j busy ha h l sl e u) z i q =
-      go-takes b (i q) xs ys a c busy (bump_taken (b.nodes c).tallies j) e u
-  latest-keeps limit b b' (Turn.stores xs ys a c s x h sp e f l aw m) z i q = go-stores b (i q) xs ys a c s x e f l aw m
-  latest-keeps limit b b' (Turn.falls xs ys a c s x T h sp e f l aw m t) z i q =
-      go-falls b (i q) xs ys a c s x T e f l aw m t
-  latest-keeps limit b b' (Turn.drops xs ys a c s x h e l) z i q = go-drops b (i q) xs ys a c s x e l
-  latest-keeps limit b b' (Turn.puts a rs h bu l rc) z i q = go-puts b (i q) a rs rc
-  latest-keeps limit b b' (Turn.waits a h bu f) z i q = go-waits b (i q) a f
-  latest-keeps limit b b' (Turn.moves a T h bu l f ag t t1) z i q = go-moves b (i q) a T l f t
-  latest-keeps limit b b' (Turn.loses xs ys t e) z i q = let y : ◌≡◌ {A = ℕ} 0 1 = cc in absurd (omega arith)
+  latest_keeps limit b b' (Turn.sends a c j h hc l sl bu lm) z i q =
+      go_sends b (i q) z a c (bump_sent (b.nodes a).tallies j) bu
+  latest_keeps limit b b' (Turn.rests a h) z i q = go_rests b (i q) a
+  latest_keeps limit b b' (Turn.takes xs ys a c j busy ha h l sl e u) z i q =
+      go_takes b (i q) xs ys a c busy (bump_taken (b.nodes c).tallies j) e u
+  latest_keeps limit b b' (Turn.stores xs ys a c s x h sp e f l aw m) z i q = go_stores b (i q) xs ys a c s x e f l aw m
+  latest_keeps limit b b' (Turn.falls xs ys a c s x T h sp e f l aw m t) z i q =
+      go_falls b (i q) xs ys a c s x T e f l aw m t
+  latest_keeps limit b b' (Turn.drops xs ys a c s x h e l) z i q = go_drops b (i q) xs ys a c s x e l
+  latest_keeps limit b b' (Turn.puts a rs h bu l rc) z i q = go_puts b (i q) a rs rc
+  latest_keeps limit b b' (Turn.waits a h bu f) z i q = go_waits b (i q) a f
+  latest_keeps limit b b' (Turn.moves a T h bu l f ag t t1) z i q = go_moves b (i q) a T l f t
+  latest_keeps limit b b' (Turn.loses xs ys t e) z i q = let y : ◌≡◌ {A = ℕ} 0 1 = cc in absurd (omega arith)

@@ -13,8 +13,8 @@ use Rattle.cycle.proofs.Tree.{Tree}
 use Rattle.cycle.proofs.Exact.{taken_all}
 use Rattle.cycle.proofs.OnePhase.{Parcel, State, PhaseBoard, Turn}
 use Rattle.cycle.proofs.PhaseInvariant.{PhaseInvariant}
-use Rattle.cycle.proofs.PhaseKept.{phase-keeps}
-use Rattle.cycle.proofs.Opening.{fresh, start-ok}
+use Rattle.cycle.proofs.PhaseKept.{phase_keeps}
+use Rattle.cycle.proofs.Opening.{fresh, start_ok}
 
 -- an item and the phase that it belongs to
 pub record Dated : Type 0 where
@@ -115,7 +115,7 @@ module _ {P p : ℕ} (tree : Tree P p) (limit : ℕ) where
       → (m : ℕ) → PhaseInvariant tree limit (board_of (update b.pages n w m) (of_phase m ms))
   fit_all b i n w ms g o =
       update_all (λ m w. PhaseInvariant tree limit (board_of w (of_phase m ms))) b.pages n w
-      (phase-keeps tree limit (phase_of b n) (board_of w (of_phase n ms)) g (i.fit n))
+      (phase_keeps tree limit (phase_of b n) (board_of w (of_phase n ms)) g (i.fit n))
       (λ m q. subst (λ is. PhaseInvariant tree limit (board_of (b.pages m) is)) (sym (o m q)) (i.fit m))
 
   keeps : (b b' : Ledger) → Step b b' → Invariant b → Invariant b'
@@ -181,15 +181,15 @@ module _ {P p : ℕ} (tree : Tree P p) (limit : ℕ) where
     first : Reached opening
     next : {b b' : Ledger} → Reached b → Step b b' → Reached b'
 
-  pub reached-invariant : (b : Ledger) → Reached b → Invariant b
-  reached-invariant b first =
+  pub reached_invariant : (b : Ledger) → Reached b → Invariant b
+  reached_invariant b first =
       record {
-        fit = λ n. start-ok tree limit;
+        fit = λ n. start_ok tree limit;
         ahead = λ y n l. refl;
         now = λ y n e. omega arith;
         past = λ y n l. absurd (omega arith);
       }
-  reached-invariant b (next {b = c} r s) = keeps c b s (reached-invariant c r)
+  reached_invariant b (next {b = c} r s) = keeps c b s (reached_invariant c r)
 
   -- the phase is over: all taken, all idle, everybody there or past it
   pub record Over (b : Ledger) (n : ℕ) : Type 0 where

@@ -10,8 +10,8 @@ use Rattle.cycle.proofs.Sums.{sum, sum_zero, sum_plus, count}
 use Rattle.cycle.proofs.Tree.{Tree}
 use Rattle.cycle.proofs.Growth.{Course, total_taken, Claimed}
 use Rattle.cycle.proofs.OwnSums.{Confirmed, first_number, second_number, first_sum, second_sum, FirstStored}
-use Rattle.cycle.proofs.OwnSums.{SecondStored, Agreed, first-sum-ok, second-sum-ok}
-use Rattle.cycle.proofs.Exact.{Entry, sent_to, taken_from, sent_all, taken_all, Entries, entry_of, own_sums, runSum}
+use Rattle.cycle.proofs.OwnSums.{SecondStored, Agreed, first_sum_ok, second_sum_ok}
+use Rattle.cycle.proofs.Exact.{Entry, sent_to, taken_from, sent_all, taken_all, Entries, entry_of, own_sums, run_sum}
 use Rattle.cycle.proofs.OnePhase.{Content, message, report, Parcel, State, PhaseBoard, frame_of, dim_of, Agrees}
 use Rattle.cycle.proofs.OnePhase.{alone, first, second, HasEntry}
 use Rattle.cycle.proofs.Latest.{own_same}
@@ -68,14 +68,14 @@ agree_same p limit v v' s o t e q (second w x l g c3 c5 c6) =
 module _ {P p : ℕ} (tree : Tree P p) (limit : ℕ) where
   -- a frame of pass 1: no number is above the true sum over its sender's run, and the shells add up to the totals
   pub record FirstGood (b : PhaseBoard) (s w : ℕ) (x : Entries) : Type 0 where
-    pub le : (f : Entry) → HasEntry p f → x f ≤ runSum tree (λ y. (b.nodes y).tallies f) s w
-    pub taken-total : x taken_all ≡ sum (λ j. x (taken_from j)) 0 p
-    pub sent-total : x sent_all ≡ sum (λ j. x (sent_to j)) 0 p
+    pub le : (f : Entry) → HasEntry p f → x f ≤ run_sum tree (λ y. (b.nodes y).tallies f) s w
+    pub taken_total_lem : x taken_all ≡ sum (λ j. x (taken_from j)) 0 p
+    pub sent_total_lem : x sent_all ≡ sum (λ j. x (sent_to j)) 0 p
 
   -- a frame of step s, from w
   pub record FrameOk (b : PhaseBoard) (s w : ℕ) (x : Entries) : Type 0 where
-    pub in-first : s < p → FirstGood b s w x
-    pub in-second : (k : ℕ) → s ≡ p + k → Claimed P (world b) (tree.low k w) (tree.size k w) (x taken_all) (x sent_all)
+    pub in_first : s < p → FirstGood b s w x
+    pub in_second : (k : ℕ) → s ≡ p + k → Claimed P (world b) (tree.low k w) (tree.size k w) (x taken_all) (x sent_all)
 
   abbrev pub StoredOk : PhaseBoard → ℕ → Option ℕ → Option Entries → Type 0
   StoredOk b s a none = Unit {0}
@@ -93,37 +93,37 @@ module _ {P p : ℕ} (tree : Tree P p) (limit : ℕ) where
   -- totals are what it has sent and what it has taken
   pub record NodeOk (b : PhaseBoard) (a : ℕ) (v : State) : Type 0 where
     pub stored_ok : (s : ℕ) → s < p + p → StoredOk b s (tree.awaited (dim_of p s) a) (v.stored s)
-    pub agreed-is : p ≤ v.step → v.agreed ≡ own_sums v.tallies v.stored p taken_all
+    pub agreed_is : p ≤ v.step → v.agreed ≡ own_sums v.tallies v.stored p taken_all
     pub agrees : (s : ℕ) → s < v.step → Agrees p limit v s (tree.awaited (dim_of p s) a)
-    pub taken-total : v.tallies taken_all ≡ sum (λ j. v.tallies (taken_from j)) 0 p
-    pub sent-total : v.tallies sent_all ≡ sum (λ j. v.tallies (sent_to j)) 0 p
-    pub count-is : v.tallies sent_all ≡ count a b.senders
-    pub step-le : v.step ≤ p + p
+    pub taken_total_lem : v.tallies taken_all ≡ sum (λ j. v.tallies (taken_from j)) 0 p
+    pub sent_total_lem : v.tallies sent_all ≡ sum (λ j. v.tallies (sent_to j)) 0 p
+    pub count_is : v.tallies sent_all ≡ count a b.senders
+    pub step_le : v.step ≤ p + p
 
   -- ---- what a node would write is good
 
-  first-stored-of : (b : PhaseBoard) (k : ℕ) (f : Entry) → HasEntry p f → k < p → (o : Option ℕ) (s : Option Entries)
+  first_stored_of : (b : PhaseBoard) (k : ℕ) (f : Entry) → HasEntry p f → k < p → (o : Option ℕ) (s : Option Entries)
       → StoredOk b k o s
       → FirstStored tree (record { senders = []; taken = λ y. (b.nodes y).tallies f; done = λ y. ⊥ }) k o (entry_in f s)
-  first-stored-of b k f v l none none h = tt
-  first-stored-of b k f v l none (some x) h = absurd h
-  first-stored-of b k f v l (some w) none h = tt
-  first-stored-of b k f v l (some w) (some x) h = (h.in-first l).le f v
+  first_stored_of b k f v l none none h = tt
+  first_stored_of b k f v l none (some x) h = absurd h
+  first_stored_of b k f v l (some w) none h = tt
+  first_stored_of b k f v l (some w) (some x) h = (h.in_first l).le f v
 
-  pub own-most : (b : PhaseBoard) (a : ℕ) (n : State) → a < P → NodeOk b a n → n.tallies ≡ (b.nodes a).tallies
+  pub own_most : (b : PhaseBoard) (a : ℕ) (n : State) → a < P → NodeOk b a n → n.tallies ≡ (b.nodes a).tallies
       → (f : Entry) → HasEntry p f → (k : ℕ) → k ≤ p
-      → own_sums n.tallies n.stored k f ≤ runSum tree (λ y. (b.nodes y).tallies f) k a
-  own-most b a n h ok e f v k l =
-      let q = first-sum-ok tree (record { senders = []; taken = λ y. (b.nodes y).tallies f; done = λ y. ⊥ }) a
+      → own_sums n.tallies n.stored k f ≤ run_sum tree (λ y. (b.nodes y).tallies f) k a
+  own_most b a n h ok e f v k l =
+      let q = first_sum_ok tree (record { senders = []; taken = λ y. (b.nodes y).tallies f; done = λ y. ⊥ }) a
       (n.tallies f) (λ i. entry_in f (n.stored i)) h (rw e (omega arith))
-      (λ i m. first-stored-of b i f v m (tree.awaited i a) (n.stored i)
+      (λ i m. first_stored_of b i f v m (tree.awaited i a) (n.stored i)
       (rw (dim_first p i m) at (ok.stored_ok i (omega arith)))) k l in
       omega (arith, first_own n.tallies n.stored f k)
 
   pub linear : (b : PhaseBoard) (a : ℕ) (n : State) → NodeOk b a n → (k : ℕ) → k ≤ p
       → (own_sums n.tallies n.stored k taken_all ≡ sum (λ j. own_sums n.tallies n.stored k (taken_from j)) 0 p)
       × (own_sums n.tallies n.stored k sent_all ≡ sum (λ j. own_sums n.tallies n.stored k (sent_to j)) 0 p)
-  linear b a n ok zero l = (ok.taken-total, ok.sent-total)
+  linear b a n ok zero l = (ok.taken_total_lem, ok.sent_total_lem)
   linear b a n ok (suc k) l =
       let r = linear b a n ok k (omega arith) in
       let q = part (tree.awaited (dim_of p k) a) (n.stored k) (ok.stored_ok k (omega arith)) in (
@@ -149,43 +149,43 @@ module _ {P p : ℕ} (tree : Tree P p) (limit : ℕ) where
       part none none h = (sym (sum_zero 0 p), sym (sum_zero 0 p))
       part none (some x) h = absurd h
       part (some w) none h = (sym (sum_zero 0 p), sym (sum_zero 0 p))
-      part (some w) (some x) h = ((h.in-first (omega arith)).taken-total, (h.in-first (omega arith)).sent-total)
+      part (some w) (some x) h = ((h.in_first (omega arith)).taken_total_lem, (h.in_first (omega arith)).sent_total_lem)
 
-  second-stored-of : (b : PhaseBoard) (k : ℕ) (o : Option ℕ) (s : Option Entries) → StoredOk b (p + k) o s
+  second_stored_of : (b : PhaseBoard) (k : ℕ) (o : Option ℕ) (s : Option Entries) → StoredOk b (p + k) o s
       → SecondStored tree (world b) k o (confirmed_in s)
-  second-stored-of b k none none h = tt
-  second-stored-of b k none (some x) h = absurd h
-  second-stored-of b k (some w) none h = tt
-  second-stored-of b k (some w) (some x) h = h.in-second k refl
+  second_stored_of b k none none h = tt
+  second_stored_of b k none (some x) h = absurd h
+  second_stored_of b k (some w) none h = tt
+  second_stored_of b k (some w) (some x) h = h.in_second k refl
 
-  pub agreed-of : (v : State) (k : ℕ) (o : Option ℕ) → Agrees p limit v (p + k) o
+  pub agreed_of : (v : State) (k : ℕ) (o : Option ℕ) → Agrees p limit v (p + k) o
       → Agreed tree v.agreed o (confirmed_in (v.stored (p + k)))
-  agreed-of v k o alone = tt
-  agreed-of v k o (first w x l g c1 c2 c3 c4) = absurd (omega arith)
-  agreed-of v k o (second w x l g c3 c5 c6) = rw g c5
+  agreed_of v k o alone = tt
+  agreed_of v k o (first w x l g c1 c2 c3 c4) = absurd (omega arith)
+  agreed_of v k o (second w x l g c3 c5 c6) = rw g c5
 
-  agreed-low : (b : PhaseBoard) (a : ℕ) (n : State) → a < P → NodeOk b a n → n.tallies ≡ (b.nodes a).tallies
+  agreed_low : (b : PhaseBoard) (a : ℕ) (n : State) → a < P → NodeOk b a n → n.tallies ≡ (b.nodes a).tallies
       → p ≤ n.step → n.agreed ≤ total_taken P (world b)
-  agreed-low b a n h ok e l =
-      let q = rw (tree.low_top a h, tree.size_top a h) at (own-most b a n h ok e taken_all tt p (omega arith)) in
-      omega (arith, ok.agreed-is l)
+  agreed_low b a n h ok e l =
+      let q = rw (tree.low_top a h, tree.size_top a h) at (own_most b a n h ok e taken_all tt p (omega arith)) in
+      omega (arith, ok.agreed_is l)
 
-  pub second-ok : (b : PhaseBoard) (a : ℕ) (n : State) → a < P → NodeOk b a n → n.tallies ≡ (b.nodes a).tallies
+  pub second_ok_lem : (b : PhaseBoard) (a : ℕ) (n : State) → a < P → NodeOk b a n → n.tallies ≡ (b.nodes a).tallies
       → total_taken P (world b) ≤ length b.senders → (b.nodes a).busy ≡ false → (k : ℕ) → k ≤ p → p ≤ n.step
       → ((j : ℕ) → j < k → Agreed tree n.agreed (tree.awaited j a) (confirmed_in (n.stored (p + j))))
       → Claimed P (world b) (tree.low k a) (tree.size k a) n.agreed
       (own_sums n.tallies (λ i. n.stored (p + i)) k sent_all)
-  second-ok b a n h ok e r bu k l m ag =
+  second_ok_lem b a n h ok e r bu k l m ag =
       rw (second_own n.tallies (λ i. n.stored (p + i)) k) at
-      (second-sum-ok tree (world b) a (n.tallies sent_all) n.agreed
-      (λ i. confirmed_in (n.stored (p + i))) h ok.count-is (agreed-low b a n h ok e m) r bu
-      (λ j q. second-stored-of b j (tree.awaited j a) (n.stored (p + j))
+      (second_sum_ok tree (world b) a (n.tallies sent_all) n.agreed
+      (λ i. confirmed_in (n.stored (p + i))) h ok.count_is (agreed_low b a n h ok e m) r bu
+      (λ j q. second_stored_of b j (tree.awaited j a) (n.stored (p + j))
       (rw (dim_second p j) at (ok.stored_ok (p + j) (omega arith)))) k l ag)
 
-  pub frame-ok : (b : PhaseBoard) (a : ℕ) → a < P → NodeOk b a (b.nodes a)
+  pub frame_ok : (b : PhaseBoard) (a : ℕ) → a < P → NodeOk b a (b.nodes a)
       → total_taken P (world b) ≤ length b.senders → (b.nodes a).busy ≡ false
       → (s : ℕ) → s < p + p → s ≤ (b.nodes a).step → FrameOk b s a (frame_of p (b.nodes a) s)
-  frame-ok b a h ok r bu s l m = record { in-first = low; in-second = high }
+  frame_ok b a h ok r bu s l m = record { in_first = low; in_second = high }
     where
       v : State
       v = b.nodes a
@@ -193,13 +193,13 @@ module _ {P p : ℕ} (tree : Tree P p) (limit : ℕ) where
       low : s < p → FirstGood b s a (frame_of p v s)
       low q =
           rw (frame_first p v s q) (record {
-            le = λ f u. own-most b a v h ok refl f u s (omega arith);
-            taken-total = (linear b a v ok s (omega arith)).0;
-            sent-total = (linear b a v ok s (omega arith)).1;
+            le = λ f u. own_most b a v h ok refl f u s (omega arith);
+            taken_total_lem = (linear b a v ok s (omega arith)).0;
+            sent_total_lem = (linear b a v ok s (omega arith)).1;
           })
 
       high : (k : ℕ) → s ≡ p + k → Claimed P (world b) (tree.low k a) (tree.size k a) (frame_of p v s taken_all)
           (frame_of p v s sent_all)
       high k q =
-          rw (q, frame_second p v k) (second-ok b a v h ok refl r bu k (omega arith) (omega arith)
-          (λ j u. agreed-of v j (tree.awaited j a) (rw (dim_second p j) at (ok.agrees (p + j) (omega arith)))))
+          rw (q, frame_second p v k) (second_ok_lem b a v h ok refl r bu k (omega arith) (omega arith)
+          (λ j u. agreed_of v j (tree.awaited j a) (rw (dim_second p j) at (ok.agrees (p + j) (omega arith)))))

@@ -27,28 +27,28 @@ start =
     }
 
 module _ {P p : ℕ} (tree : Tree P p) (limit : ℕ) where
-  pub start-ok : PhaseInvariant tree limit start
-  start-ok =
+  pub start_ok : PhaseInvariant tree limit start
+  start_ok =
       record {
-        nodes-ok = λ a h. record {
+        nodes_ok = λ a h. record {
           stored_ok = λ s l. tt;
-          agreed-is = λ q. absurd (omega arith);
+          agreed_is = λ q. absurd (omega arith);
           agrees = λ s l. absurd (omega arith);
-          taken-total = sym (sum_zero 0 p);
-          sent-total = sym (sum_zero 0 p);
-          count-is = refl;
-          step-le = zero-le;
+          taken_total_lem = sym (sum_zero 0 p);
+          sent_total_lem = sym (sum_zero 0 p);
+          count_is = refl;
+          step_le = zero-le;
         };
-        items-ok = tt;
+        items_ok = tt;
         below = λ i l. absurd (omega arith);
         covers = omega (arith, sum_zero 0 P);
-        covers-pairs = λ y z. omega arith;
+        covers_pairs = λ y z. omega arith;
         balance = λ q. omega (arith, sum_zero 0 P);
         pairs = λ q y z. omega arith;
-        sent-shells = λ y h k l. sum_zero (tree.low k y) (tree.size k y) ∙ sym (sum_zero 0 k);
-        taken-shells = λ z h k l. sum_zero (tree.low k z) (tree.size k z) ∙ sym (sum_zero 0 k);
+        sent_shells = λ y h k l. sum_zero (tree.low k y) (tree.size k y) ∙ sym (sum_zero 0 k);
+        taken_shells = λ z h k l. sum_zero (tree.low k z) (tree.size k z) ∙ sym (sum_zero 0 k);
         small = zero-le;
-        busy-start = λ a q. (refl, refl);
+        busy_start = λ a q. (refl, refl);
         quiet = λ a h l. absurd (omega arith);
         latest = λ q w c s h l e sd u. none_yet w s sd;
       }

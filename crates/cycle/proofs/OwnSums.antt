@@ -75,12 +75,12 @@ module _ {P p : ℕ} (tree : Tree P p) where
   Agreed T (some v) none = ⊥
   Agreed T (some v) (some x) = x.agreed ≡ T
 
-  pub first-sum-ok : (w : Course) (a base : ℕ) (st : ℕ → Option ℕ) → a < P → base ≤ w.taken a
+  pub first_sum_ok : (w : Course) (a base : ℕ) (st : ℕ → Option ℕ) → a < P → base ≤ w.taken a
       → ((k : ℕ) → k < p → FirstStored w k (tree.awaited k a) (st k))
       → (k : ℕ) → k ≤ p → AtMost w (tree.low k a) (tree.size k a) (first_sum base st k)
-  first-sum-ok w a base st h b ok zero l = rw (tree.low_zero a h, tree.size_zero a h, add-zero) (omega arith)
-  first-sum-ok w a base st h b ok (suc k) l =
-      go (tree.awaited k a) (st k) refl (ok k (omega arith)) (first-sum-ok w a base st h b ok k (omega arith))
+  first_sum_ok w a base st h b ok zero l = rw (tree.low_zero a h, tree.size_zero a h, add-zero) (omega arith)
+  first_sum_ok w a base st h b ok (suc k) l =
+      go (tree.awaited k a) (st k) refl (ok k (omega arith)) (first_sum_ok w a base st h b ok k (omega arith))
     where
       go : (o : Option ℕ) (s : Option ℕ) → tree.awaited k a ≡ o → FirstStored w k o s
           → first_sum base st k ≤ sum w.taken (tree.low k a) (tree.size k a)
@@ -92,15 +92,15 @@ module _ {P p : ℕ} (tree : Tree P p) where
       go (some v) (some x) e t ih =
           let m = meet_sum tree.low tree.size k a v w.taken (tree.meet k a v (omega arith) h e) in omega arith
 
-  alone-ok : (w : Course) (k a T x x' : ℕ)
+  alone_ok : (w : Course) (k a T x x' : ℕ)
       → (tree.low (suc k) a ≡ tree.low k a) × (tree.size (suc k) a ≡ tree.size k a) → x ≡ x'
       → Claimed P w (tree.low k a) (tree.size k a) T x → Claimed P w (tree.low (suc k) a) (tree.size (suc k) a) T x'
-  alone-ok w k a T x x' al e h = rw (al.0, al.1, ← e) h
+  alone_ok w k a T x x' al e h = rw (al.0, al.1, ← e) h
 
-  join-ok : (w : Course) (k a v T x x' : ℕ) → Meet tree.low tree.size k a v
+  join_ok : (w : Course) (k a v T x x' : ℕ) → Meet tree.low tree.size k a v
       → Claimed P w (tree.low k a) (tree.size k a) T x → Claimed P w (tree.low k v) (tree.size k v) T x'
       → Claimed P w (tree.low (suc k) a) (tree.size (suc k) a) T (x + x')
-  join-ok w k a v T x x' m h h' = record { in_reach = h.in_reach; part = s; adds = adds'; claims = claims' }
+  join_ok w k a v T x x' m h h' = record { in_reach = h.in_reach; part = s; adds = adds'; claims = claims' }
     where
       s : ℕ → ℕ
       s = patch h'.part (tree.low k v) (tree.size k v) h.part
@@ -127,34 +127,34 @@ module _ {P p : ℕ} (tree : Tree P p) where
               let r = meet_in tree.low tree.size k a v y m b c q in
               rw (patch_out h'.part (tree.low k v) (tree.size k v) h.part y q) (h.claims y r.0 r.1)
 
-  pub second-sum-ok : (w : Course) (a base T : ℕ) (st : ℕ → Option Confirmed) → a < P → base ≡ count a w.senders
+  pub second_sum_ok : (w : Course) (a base T : ℕ) (st : ℕ → Option Confirmed) → a < P → base ≡ count a w.senders
       → T ≤ total_taken P w → total_taken P w ≤ length w.senders → w.done a
       → ((k : ℕ) → k < p → SecondStored w k (tree.awaited k a) (st k))
       → (k : ℕ) → k ≤ p → ((j : ℕ) → j < k → Agreed T (tree.awaited j a) (st j))
       → Claimed P w (tree.low k a) (tree.size k a) T (second_sum base st k)
-  second-sum-ok w a base T st h b t r d ok zero l ag =
+  second_sum_ok w a base T st h b t r d ok zero l ag =
       record {
         in_reach = t;
         part = λ y. base;
         adds = rw (tree.low_zero a h, tree.size_zero a h) (omega arith);
-        claims = λ y i j. one-claim y i j;
+        claims = λ y i j. one_claim y i j;
       }
     where
-      one-claim : (y : ℕ) → tree.low 0 a ≤ y → y < tree.low 0 a + tree.size 0 a → Claims P w y base T
-      one-claim y i j =
+      one_claim : (y : ℕ) → tree.low 0 a ≤ y → y < tree.low 0 a + tree.size 0 a → Claims P w y base T
+      one_claim y i j =
           let e : y ≡ a = omega (arith, tree.low_zero a h, tree.size_zero a h) in
           rw (e, b) (claim_make w.senders (total_taken P w) (w.done a) a T t r d)
-  second-sum-ok w a base T st h b t r d ok (suc k) l ag =
+  second_sum_ok w a base T st h b t r d ok (suc k) l ag =
       go (tree.awaited k a) (st k) refl (ok k (omega arith)) (ag k (omega arith))
-      (second-sum-ok w a base T st h b t r d ok k (omega arith) (λ j q. ag j (omega arith)))
+      (second_sum_ok w a base T st h b t r d ok k (omega arith) (λ j q. ag j (omega arith)))
     where
       go : (o : Option ℕ) (s : Option Confirmed) → tree.awaited k a ≡ o → SecondStored w k o s → Agreed T o s
           → Claimed P w (tree.low k a) (tree.size k a) T (second_sum base st k)
           → Claimed P w (tree.low (suc k) a) (tree.size (suc k) a) T (second_sum base st k + second_number s)
       go none none e q g ih =
-          alone-ok w k a T (second_sum base st k) (second_sum base st k + 0) (tree.alone k a (omega arith) h e)
+          alone_ok w k a T (second_sum base st k) (second_sum base st k + 0) (tree.alone k a (omega arith) h e)
           (omega arith) ih
       go none (some x) e q g ih = absurd q
       go (some v) none e q g ih = absurd g
       go (some v) (some x) e q g ih =
-          join-ok w k a v T (second_sum base st k) x.issued (tree.meet k a v (omega arith) h e) ih (rw g at q)
+          join_ok w k a v T (second_sum base st k) x.issued (tree.meet k a v (omega arith) h e) ih (rw g at q)

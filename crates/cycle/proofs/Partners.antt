@@ -10,7 +10,7 @@ use Rattle.tree.specs.Tree.{dimension, run_of, awaited, receivers, distance}
 use Rattle.tree.specs.declared.Run.{Run}
 use Rattle.tree.proofs.Dimension.{positive}
 use Rattle.tree.proofs.Runs.{In, size, run_zero, run_top, run_has, run_same}
-use Rattle.tree.proofs.Halves.{Joined, before, after, joined, awaited-below, alone-keeps, alone-not-last}
+use Rattle.tree.proofs.Halves.{Joined, before, after, joined, awaited_below, alone_keeps, alone_not_last}
 use Rattle.tree.proofs.Places.{awaits_receives, receives_awaits}
 use Rattle.tree.proofs.Distances.{near, nearer}
 use Rattle.cycle.proofs.Lists.{All}
@@ -48,16 +48,16 @@ partners P confirming =
       size_zero = λ a h. ap size (run_zero P a h) ∙ (omega arith);
       low_top = λ a h. ap (λ (r : Run). r.low) (run_top P a);
       size_top = λ a h. ap size (run_top P a) ∙ (omega arith);
-      below = λ k a w l h e. awaited-below P k a l h w e;
-      alone = λ k a l h e. let q = alone-keeps P k a l h e in (ap (λ (r : Run). r.low) q, ap size q);
-      meet = λ k a w l h e. sides P k a w h (awaited-below P k a l h w e) (joined P k a l h w e);
+      below = λ k a w l h e. awaited_below P k a l h w e;
+      alone = λ k a l h e. let q = alone_keeps P k a l h e in (ap (λ (r : Run). r.low) q, ap size q);
+      meet = λ k a w l h e. sides P k a w h (awaited_below P k a l h w e) (joined P k a l h w e);
       positive = positive P confirming;
       self = λ k a h. let i = run_has P k a h in omega arith;
       same =
           λ k a y h i.
           let s = run_same P k a y h (within (run_of P k a) a y (run_has P k a h) i) in
           (s.0, ap (λ (r : Run). r.low) s.1, ap size s.1);
-      not_last = λ k a h e q. alone-not-last P k a (omega arith) h confirming e q;
+      not_last = λ k a h e q. alone_not_last P k a (omega arith) h confirming e q;
     }
 
 -- c stands somewhere in the list
@@ -77,24 +77,24 @@ all_of F [] h = tt
 all_of F (r ∷ rs) h = (h r (Memᴰ.head refl), all_of F rs (λ c m. h c (Memᴰ.tail m)))
 
 module _ (P : ℕ) (confirming : 2 ≤ P) where
-  pub await-is : (k a : ℕ) → (partners P confirming).awaited k a ≡ awaited P k a
+  pub await_is : (k a : ℕ) → (partners P confirming).awaited k a ≡ awaited P k a
   unfolding partners
-  await-is k a = refl
+  await_is k a = refl
 
   -- whoever awaits a hears a
   pub hear : (k a c : ℕ) → c < P → (partners P confirming).awaited k c ≡ some a → Among (receivers P k a) c
-  hear k a c h e = among c (receivers P k a) (awaits_receives P k a c h (sym (await-is k c) ∙ e))
+  hear k a c h e = among c (receivers P k a) (awaits_receives P k a c h (sym (await_is k c) ∙ e))
 
-  pub receivers-await : (k a : ℕ) → a < P
+  pub receivers_await : (k a : ℕ) → a < P
       → All (λ c. (c < P) × ((partners P confirming).awaited k c ≡ some a)) (receivers P k a)
-  receivers-await k a h =
+  receivers_await k a h =
       all_of (λ c. (c < P) × ((partners P confirming).awaited k c ≡ some a)) (receivers P k a)
-      (λ c m. let r = receives_awaits P k a c h m in (r.0, await-is k c ∙ r.1))
+      (λ c m. let r = receives_awaits P k a c h m in (r.0, await_is k c ∙ r.1))
 
   -- the distance is the shell
-  pub shell-ok : (a b : ℕ) → a < P → b < P → a ≢ b → Shell (partners P confirming) a b (distance P a b)
+  pub shell_ok_lem : (a b : ℕ) → a < P → b < P → a ≢ b → Shell (partners P confirming) a b (distance P a b)
   unfolding partners
-  shell-ok a b ha hb ne k l = (
+  shell_ok_lem a b ha hb ne k l = (
     (λ i. near P a b ha ne hb k l (within (run_of P k a) a b (run_has P k a ha) i)),
     (λ d. let i = nearer P a b ha ne hb k l d in omega arith),
   )

@@ -11,16 +11,16 @@ use Rattle.cycle.proofs.Tree.{Tree}
 use Rattle.cycle.proofs.Lists.{All, all_map}
 use Rattle.cycle.proofs.OnePhase.{message, dim_of, Unheard, Agrees}
 use Rattle.cycle.proofs.Messages.{is_message, messages, messages_append}
-use Rattle.cycle.proofs.NoStick.{no-stick}
-use Rattle.cycle.proofs.Ledger.{Dated, of_phase, phase_of, Ledger, Invariant, Reached, reached-invariant, Over}
+use Rattle.cycle.proofs.NoStick.{no_stick}
+use Rattle.cycle.proofs.Ledger.{Dated, of_phase, phase_of, Ledger, Invariant, Reached, reached_invariant, Over}
 use Rattle.cycle.proofs.Dating.{phase_mid}
 
 module _ {P p : ℕ} {tree : Tree P p} {limit : ℕ} {b : Ledger} (r : Reached tree limit b) where
   pub invariant : Invariant tree limit b
-  invariant = reached-invariant tree limit b r
+  invariant = reached_invariant tree limit b r
 
-  idle-means : (y n : ℕ) → ((b.pages n).nodes y).busy ≡ false → n ≤ b.phase y
-  idle-means y n e = go (dec_lt (b.phase y) n)
+  idle_means : (y n : ℕ) → ((b.pages n).nodes y).busy ≡ false → n ≤ b.phase y
+  idle_means y n e = go (dec_lt (b.phase y) n)
     where
       go : Dec (b.phase y < n) → n ≤ b.phase y
       go (no l) = omega arith
@@ -34,21 +34,21 @@ module _ {P p : ℕ} {tree : Tree P p} {limit : ℕ} {b : Ledger} (r : Reached t
       record {
         taken = q.all_taken_lem ∙ sym q.all_sent_lem;
         idle = q.all_idle;
-        reached = λ y k. idle-means y n (q.all_idle y k);
+        reached = λ y k. idle_means y n (q.all_idle y k);
       }
 
   -- the phases of two nodes are within one of one another
-  pub within-one : (a c : ℕ) → a < P → c < P → b.phase a ≤ suc (b.phase c)
-  within-one a c h k = go (dec_lt (suc (b.phase c)) (b.phase a))
+  pub within_one : (a c : ℕ) → a < P → c < P → b.phase a ≤ suc (b.phase c)
+  within_one a c h k = go (dec_lt (suc (b.phase c)) (b.phase a))
     where
       go : Dec (suc (b.phase c) < b.phase a) → b.phase a ≤ suc (b.phase c)
       go (no l) = omega arith
       go (yes l) = absurd (omega (arith, (safe a (suc (b.phase c)) h l).reached c k))
 
   -- while a message is under way nobody has left its phase
-  pub message-holds : (xs ys : List Dated) (m : Dated) → b.items ≡ xs ++ m ∷ ys → m.item.load ≡ message
+  pub message_holds : (xs ys : List Dated) (m : Dated) → b.items ≡ xs ++ m ∷ ys → m.item.load ≡ message
       → (y : ℕ) → y < P → b.phase y ≤ m.phase
-  message-holds xs ys m e l y h = go (dec_lt m.phase (b.phase y))
+  message_holds xs ys m e l y h = go (dec_lt m.phase (b.phase y))
     where
       n : ℕ
       n = m.phase
@@ -66,7 +66,7 @@ module _ {P p : ℕ} {tree : Tree P p} {limit : ℕ} {b : Ledger} (r : Reached t
           ))
 
   -- where nobody in the oldest phase is busy, has something of it under way to it, or would send, a step agrees
-  pub no-board-sticks : (u : ℕ) → u < P → (b.pages (b.phase u)).lossy ≡ false
+  pub no_board_sticks : (u : ℕ) → u < P → (b.pages (b.phase u)).lossy ≡ false
       → ((y : ℕ) → y < P → b.phase u ≤ b.phase y)
       → ((a : ℕ) → a < P → b.phase a ≡ b.phase u → ((b.pages (b.phase u)).nodes a).busy ≡ false)
       → All (λ t. (t.to < P) × (b.phase u < b.phase t.to)) (of_phase (b.phase u) b.items)
@@ -74,8 +74,8 @@ module _ {P p : ℕ} {tree : Tree P p} {limit : ℕ} {b : Ledger} (r : Reached t
       → (((b.pages (b.phase u)).nodes a).flag ≡ false) ⊎ Unheard tree a ((b.pages (b.phase u)).nodes a).step)
       → (a : ℕ) × ((a < P) × ((b.phase a ≡ b.phase u) × Agrees p limit ((b.pages (b.phase u)).nodes a)
       ((b.pages (b.phase u)).nodes a).step (tree.awaited (dim_of p ((b.pages (b.phase u)).nodes a).step) a)))
-  no-board-sticks u hu whole old rest nothing nobody =
-      let q = no-stick tree limit (phase_of b n) (invariant.fit n) whole resting
+  no_board_sticks u hu whole old rest nothing nobody =
+      let q = no_stick tree limit (phase_of b n) (invariant.fit n) whole resting
       (all_map (λ t. (t.to < P) × (n < b.phase t.to))
       (λ t. (t.to < P) × (p + p ≤ ((b.pages n).nodes t.to).step))
       (λ t x. (x.0, invariant.past t.to n x.1)) (of_phase n b.items) nothing)

@@ -71,15 +71,15 @@ sum_tight f g low zero h t i a b = absurd (omega arith)
 sum_tight f g low (suc n) h t i a b =
     go (λ t' b'. sum_tight f g low n (λ j c d. h j c (omega arith)) t' i a b') (ℕ_discrete i (low + n))
   where
-    le-last : f (low + n) ≤ g (low + n)
-    le-last = h (low + n) (omega arith) (omega arith)
+    le_last : f (low + n) ≤ g (low + n)
+    le_last = h (low + n) (omega arith) (omega arith)
 
-    le-rest : sum f low n ≤ sum g low n
-    le-rest = sum_le f g low n (λ j c d. h j c (omega arith))
+    le_rest : sum f low n ≤ sum g low n
+    le_rest = sum_le f g low n (λ j c d. h j c (omega arith))
 
     go : (sum g low n ≤ sum f low n → i < low + n → g i ≡ f i) → Dec (i ≡ low + n) → g i ≡ f i
-    go ih (yes e) = rw e (omega (arith, le-last, le-rest))
-    go ih (no ne) = ih (omega (arith, le-last, le-rest)) (omega arith)
+    go ih (yes e) = rw e (omega (arith, le_last, le_rest))
+    go ih (no ne) = ih (omega (arith, le_last, le_rest)) (omega arith)
 
 pub sum_update_out : (f : ℕ → ℕ) (i v low n : ℕ) → (i < low) ⊎ (low + n ≤ i) → sum (update f i v) low n ≡ sum f low n
 sum_update_out f i v low n (inl l) = sum_ext (update f i v) f low n (λ j a b. update_other f i v j (omega arith))

@@ -104,10 +104,10 @@ module _ (awaited : ℕ → ℕ → Option ℕ) where
         window = (all_mid (Close phase) xs ys m (subst (All (Close phase)) e i.window)).1;
       }
 
-  pub window-keeps : {phase : ℕ → ℕ} {holds : ℕ → ℕ → Bool} {items : List Dated} {phase' : ℕ → ℕ}
+  pub window_keeps : {phase : ℕ → ℕ} {holds : ℕ → ℕ → Bool} {items : List Dated} {phase' : ℕ → ℕ}
       {holds' : ℕ → ℕ → Bool} {items' : List Dated}
       → Move phase holds items phase' holds' items' → Window phase holds items → Window phase' holds' items'
-  window-keeps {phase} {holds} {items} (out m e w pa) i =
+  window_keeps {phase} {holds} {items} (out m e w pa) i =
       record {
         order = ordered_snoc items m i.order (all_map (Sent phase) (λ k. SameLink k m → k.phase ≤ m.phase)
             (λ k l s. let z : phase m.item.from ≡ phase k.item.from = ap phase s.0 in omega arith) items
@@ -122,8 +122,8 @@ module _ (awaited : ℕ → ℕ → Option ℕ) where
         partner = all_append Partnered items (m ∷ []) i.partner (pa, tt);
         window = all_append (Close phase) items (m ∷ []) i.window ((λ s q. w), tt);
       }
-  window-keeps {phase} {holds} {items} (off xs ys m e) i = window_off phase holds items xs ys m e i
-  window-keeps {phase} {holds} {items} (store xs ys m s e f q p) i =
+  window_keeps {phase} {holds} {items} (off xs ys m e) i = window_off phase holds items xs ys m e i
+  window_keeps {phase} {holds} {items} (store xs ys m s e f q p) i =
       let r = window_off phase holds items xs ys m e i in
       record {
         order = r.order;
@@ -137,7 +137,7 @@ module _ (awaited : ℕ → ℕ → Option ℕ) where
         behind =
             update_all (λ c g. (a s : ℕ) → awaited s c ≡ some a → g s ≡ true → phase c ≤ phase a) holds c₀
             (update (holds c₀) s true)
-            (λ a t aw h. new-behind a t aw h (ℕ_discrete t s)) (λ c n a t aw h. i.behind c a t aw h);
+            (λ a t aw h. new_behind a t aw h (ℕ_discrete t s)) (λ c n a t aw h. i.behind c a t aw h);
       }
     where
       c₀ : ℕ
@@ -147,8 +147,8 @@ module _ (awaited : ℕ → ℕ → Option ℕ) where
       mine = (all_mid Partnered xs ys m
           (subst (All Partnered) e i.partner)).0 s q
 
-      sent-m : m.phase ≤ phase m.item.from
-      sent-m = (all_mid (Sent phase) xs ys m (subst (All (Sent phase)) e i.sent)).0
+      sent_m : m.phase ≤ phase m.item.from
+      sent_m = (all_mid (Sent phase) xs ys m (subst (All (Sent phase)) e i.sent)).0
 
       from_is : (a t : ℕ) → awaited t c₀ ≡ some a → t ≡ s → m.item.from ≡ a
       from_is a t aw z = let aw' : awaited s c₀ ≡ some a = subst (λ t. awaited t c₀ ≡ some a) z aw in let k = mine in cc
@@ -164,11 +164,11 @@ module _ (awaited : ℕ → ℕ → Option ℕ) where
           (all_mid (Later phase a c₀) xs ys m
           (subst (All (Later phase a c₀)) e (i.heard c₀ a t aw (sym (update_other (holds c₀) s true t z) ∙ h)))).1
 
-      new-behind : (a t : ℕ) → awaited t c₀ ≡ some a → update (holds c₀) s true t ≡ true → Dec (t ≡ s)
+      new_behind : (a t : ℕ) → awaited t c₀ ≡ some a → update (holds c₀) s true t ≡ true → Dec (t ≡ s)
           → phase c₀ ≤ phase a
-      new-behind a t aw h (yes z) = let k = ap phase (from_is a t aw z) in omega (arith, sent-m, p)
-      new-behind a t aw h (no z) = i.behind c₀ a t aw (sym (update_other (holds c₀) s true t z) ∙ h)
-  window-keeps {phase} {holds} {items} (leave c st) i =
+      new_behind a t aw h (yes z) = let k = ap phase (from_is a t aw z) in omega (arith, sent_m, p)
+      new_behind a t aw h (no z) = i.behind c₀ a t aw (sym (update_other (holds c₀) s true t z) ∙ h)
+  window_keeps {phase} {holds} {items} (leave c st) i =
       record {
         order = i.order;
         sent =

@@ -1,1 +1,3 @@
 // The barrier over many steps, apart from bytes and states: sums, claims, one phase, all phases. Theorems only.
+
+#![tactic(auto)]

@@ -20,28 +20,28 @@ module _ (x : ℕ) where
   abbrev pub thousands : ℕ
   thousands = 48 + x / 1000 % 10
 
-  pub digits-one : (a : ℕ) → a ≡ ones → x < 10 → (a ∷ []) ≡ digits x
+  pub digits_one : (a : ℕ) → a ≡ ones → x < 10 → (a ∷ []) ≡ digits x
   unfolding digits
-  digits-one a p h = let e : x % 10 ≡ x = omega arith in rw (lt-ltb x 10 h, p, e)
+  digits_one a p h = let e : x % 10 ≡ x = omega arith in rw (lt-ltb x 10 h, p, e)
 
-  pub digits-two : (a b : ℕ) → a ≡ tens → b ≡ ones → 10 ≤ x → x < 100 → (a ∷ b ∷ []) ≡ digits x
+  pub digits_two : (a b : ℕ) → a ≡ tens → b ≡ ones → 10 ≤ x → x < 100 → (a ∷ b ∷ []) ≡ digits x
   unfolding digits
-  digits-two a b p q l h =
+  digits_two a b p q l h =
       let e : x / 10 % 10 ≡ x / 10 = omega arith in
       rw (le-ltb x 10 l, lt-ltb x 100 h, p, q, e)
 
-  pub digits-three : (a b c : ℕ) → a ≡ hundreds → b ≡ tens → c ≡ ones → 100 ≤ x → x < 1000
+  pub digits_three : (a b c : ℕ) → a ≡ hundreds → b ≡ tens → c ≡ ones → 100 ≤ x → x < 1000
       → (a ∷ b ∷ c ∷ []) ≡ digits x
   unfolding digits
-  digits-three a b c p q r l h =
+  digits_three a b c p q r l h =
       let e : x / 100 % 10 ≡ x / 100 = omega arith in
       let m : 10 ≤ x = omega arith in
       rw (le-ltb x 10 m, le-ltb x 100 l, lt-ltb x 1000 h, p, q, r, e)
 
-  pub digits-four : (a b c d : ℕ) → a ≡ thousands → b ≡ hundreds → c ≡ tens → d ≡ ones → 1000 ≤ x
+  pub digits_four : (a b c d : ℕ) → a ≡ thousands → b ≡ hundreds → c ≡ tens → d ≡ ones → 1000 ≤ x
       → (a ∷ b ∷ c ∷ d ∷ []) ≡ digits x
   unfolding digits
-  digits-four a b c d p q r s l =
+  digits_four a b c d p q r s l =
       let m : 10 ≤ x = omega arith in
       let n : 100 ≤ x = omega arith in
       rw (le-ltb x 10 m, le-ltb x 100 n, le-ltb x 1000 l, p, q, r, s)

@@ -1,5 +1,7 @@
 // Decimal numbers put into a lent buffer. Any number and place may be handed; what has no room is left out, and the answer
 // is where the text ends.
+#![tactic(auto)]
+
 ghost use Rattle.std.specs.Prelude.{◌≡◌, ◌+◌, ◌%◌};
 ghost use Rattle.printing.specs.Put.{digits, put, ends};
 

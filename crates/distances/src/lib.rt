@@ -1,5 +1,7 @@
 // The distance of two nodes, on any board.
 // Any number may be handed; what is not allowed is refused with its number (rule R3).
+#![tactic(auto)]
+
 ghost use Rattle.std.specs.Prelude.{◌≡◌, ◌≤◌, ◌<◌};
 ghost use Rattle.base.specs.Limits.{base, limits_of};
 ghost use Rattle.tree.specs.Tree.{dimension, middle, part, inside, distance_below};

@@ -17,8 +17,8 @@ module _ (L : Limits) (fit : Fits L) (P k a b : ℕ) where
   unfolding receivers
   sends x e i = subst (λ y. Memᴰ b (sends_to y)) e i
 
-  pub receivers-low : Memᴰ b (to_whom (place_lookup L P k a)) → b < base.nodes
-  receivers-low m = go (place_lookup L P k a) refl m
+  pub receivers_low : Memᴰ b (to_whom (place_lookup L P k a)) → b < base.nodes
+  receivers_low m = go (place_lookup L P k a) refl m
     where
       go : (r : Answered Place) → place_lookup L P k a ≡ r → Memᴰ b (to_whom r) → b < base.nodes
       go (refused x) e i = absurd (Memᴰ.not-nil i)

@@ -1,4 +1,6 @@
 // To whom the frame goes that a node is due to send, by lent words.
+#![tactic(auto)]
+
 ghost use Rattle.std.specs.Prelude.{◌≡◌, ℕ, ◌≤◌, ◌<◌, length};
 ghost use mathlib.Core.List.{Memᴰ};
 ghost use Rattle.base.specs.Limits.{base, limits_of};
@@ -12,7 +14,7 @@ use node::{Extra, Receivers};
 use tree::Placed;
 
 // The receivers of a frame, if any.
-#[derive(Drop)]
+#[derive(Clone, Copy)]
 pub enum Whom {
     Nobody,
     To(Receivers),

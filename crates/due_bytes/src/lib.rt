@@ -1,4 +1,6 @@
 // The frame that a node is due to send, put together from lent words.
+#![tactic(auto)]
+
 ghost use Rattle.std.specs.Prelude.{◌≡◌, length};
 ghost use Rattle.base.specs.Choice.{choose};
 ghost use Rattle.second_frame.specs.Putting.{put_length, put_bytes};

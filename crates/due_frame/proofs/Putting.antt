@@ -8,13 +8,13 @@ use Rattle.frame.specs.Numbers.{bytes_of}
 use Rattle.frame.specs.Parts.{pasted}
 use Rattle.layout.specs.Places.{sum_words}
 use Rattle.wire.specs.Wire.{put_at, put_numbers}
-use Rattle.wire.proofs.Putting.{one_put, next-put, length_part}
+use Rattle.wire.proofs.Putting.{one_put, next_put, length_part}
 use Rattle.due_frame.specs.Frames.{sent_part, taken_part, first_numbers}
 
 module _ (buf head : List ℕ) (four : length head ≡ 4) where
-  pub two-put : (xs ys : List ℕ) (at : ℕ) → at ≡ 4 + 4 * length xs → 4 + 4 * length xs + 4 * length ys ≤ length buf
+  pub two_put : (xs ys : List ℕ) (at : ℕ) → at ≡ 4 + 4 * length xs → 4 + 4 * length xs + 4 * length ys ≤ length buf
       → put_numbers (put_numbers (put_at buf 0 head) 4 xs) at ys ≡ pasted buf 0 (head ++ bytes_of (xs ++ ys))
-  two-put xs ys at e h = next-put buf head four _ xs ys at (one_put buf head four xs (omega arith)) e h
+  two_put xs ys at e h = next_put buf head four _ xs ys at (one_put buf head four xs (omega arith)) e h
 
 -- how many numbers a frame of pass 1 has
 pub length_first : (sums : List ℕ) (p k : ℕ) → k ≤ p → sum_words p ≤ length sums

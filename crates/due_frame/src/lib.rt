@@ -1,4 +1,6 @@
 // The frame of pass 1, put together from lent words and put into a buffer.
+#![tactic(auto)]
+
 ghost use Rattle.std.specs.Prelude.{◌≡◌, ◌∷◌, ◌+◌, ◌-◌, ◌*◌, ◌%◌, ◌≤◌, length};
 ghost use Rattle.base.specs.Choice.{choose};
 ghost use Rattle.frame.specs.Numbers.{bytes_of};

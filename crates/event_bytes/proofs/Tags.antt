@@ -1,19 +1,19 @@
--- What the kinds of a line that is matched on say of its bytes.
+-- A line that is of no event's kind has no bytes.
 use mathlib.Core.Path.{◌≡◌, refl}
-use mathlib.Core.List.{[], ◌∷◌}
+use mathlib.Core.List.{[]}
 use Prim.Native.Nat.{ℕ}
-use types.Run.{OneOf, miss}
-use denote.Enum.Declared.{tag_of}
+use Rattle.base.specs.declared.Kind.{Kind}
 use Rattle.line_forms.specs.declared.Line.{Line}
 use Rattle.line_forms.specs.declared.Line.TheVariants.{Nodes, Sends, Delivers, Idles, Calls, Bad}
-use Rattle.line_forms.specs.contracts.Line as LineT
 use Rattle.event_bytes.specs.Bytes.{event_bytes}
 
-pub no_event : (line : Line) (answer : ℕ) → OneOf (0 ∷ 5 ∷ []) (tag_of LineT.the_type line) → event_bytes line answer ≡ []
+pub no_event : (line : Line) (answer : ℕ) → ((kind : Kind) (a b : ℕ) → line ≡ Sends kind a b → ⊥)
+    → ((a b : ℕ) → line ≡ Delivers a b → ⊥) → ((a : ℕ) → line ≡ Idles a → ⊥) → ((a : ℕ) → line ≡ Calls a → ⊥)
+    → event_bytes line answer ≡ []
 unfolding event_bytes
-no_event (Nodes P) answer h = refl
-no_event (Sends kind a b) answer h = absurd (miss (0 ∷ 5 ∷ []) 1 tt h)
-no_event (Delivers a b) answer h = absurd (miss (0 ∷ 5 ∷ []) 2 tt h)
-no_event (Idles a) answer h = absurd (miss (0 ∷ 5 ∷ []) 3 tt h)
-no_event (Calls a) answer h = absurd (miss (0 ∷ 5 ∷ []) 4 tt h)
-no_event Bad answer h = refl
+no_event (Nodes P) answer s d i c = refl
+no_event (Sends kind a b) answer s d i c = absurd (s kind a b refl)
+no_event (Delivers a b) answer s d i c = absurd (d a b refl)
+no_event (Idles a) answer s d i c = absurd (i a refl)
+no_event (Calls a) answer s d i c = absurd (c a refl)
+no_event Bad answer s d i c = refl

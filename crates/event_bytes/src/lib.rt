@@ -1,5 +1,7 @@
 // The bytes of an event: of a line of a script, and the answer that was printed for it. Any line, answer and place may be
 // handed.
+#![tactic(auto)]
+
 ghost use Rattle.std.specs.Prelude.{◌≡◌, ◌%◌};
 ghost use Rattle.printing.specs.Put.{put, ends};
 ghost use Rattle.event_bytes.specs.Bytes.{letter_of, four_of, event_bytes};

@@ -16,15 +16,15 @@ use Rattle.cycle.proofs.Exact.{taken_all}
 use Rattle.cycle.proofs.OnePhase.{State, Content}
 use Rattle.cycle.proofs.OnePhase.{OnLink}
 use Rattle.cycle.proofs.Ledger.{Dated, Page, Ledger, Step, Reached}
-use Rattle.cycle.proofs.Reached.{within-one}
-use Rattle.cycle.proofs.Window.{Window, Move, window-keeps, Sent}
+use Rattle.cycle.proofs.Reached.{within_one}
+use Rattle.cycle.proofs.Window.{Window, Move, window_keeps, Sent}
 use Rattle.cycle.proofs.Dating.{FirstDated}
-use Rattle.cycle.proofs.Events.{ledger_with, page_lost, act-lose}
+use Rattle.cycle.proofs.Events.{ledger_with, page_lost, act_lose}
 use Rattle.events.proofs.Setting.{Setting, tree}
-use Rattle.events.proofs.Pairs.{Pair, pair-append, Cut, cut, pair-all, Found, found}
-use Rattle.events.proofs.Sim.{has_stored, awaitedIn, Carried, Sim}
+use Rattle.events.proofs.Pairs.{Pair, pair_append, Cut, cut, pair_all, Found, found}
+use Rattle.events.proofs.Sim.{has_stored, awaited_in, Carried, Sim}
 use Rattle.events.proofs.Sim.{unmoved, carried}
-use Rattle.events.proofs.Marks.{Named, Apart, Marks, marks-same, less-named, less-apart, log-same}
+use Rattle.events.proofs.Marks.{Named, Apart, Marks, marks_same, less_named, less_apart, log_same}
 use Rattle.events.proofs.Played.{Played, Next, Mishap, held}
 
 -- the oldest item of the link from a to b
@@ -50,9 +50,9 @@ module _ {L : Limits} {P : ℕ} {setting : Setting L P} {w : Board} (play : Play
   abbrev marks : Marks P w.untaken w.sends w.items play.ledger
   marks = play.marks
 
-  msg-is : (u : Dated) (n a b : ℕ) → n ≡ u.phase → a ≡ u.item.from → b ≡ u.item.to
+  msg_is : (u : Dated) (n a b : ℕ) → n ≡ u.phase → a ≡ u.item.from → b ≡ u.item.to
       → u ≡ record { phase = n; item = record { from = a; to = b; load = u.item.load } }
-  msg-is u n a b x y z =
+  msg_is u n a b x y z =
       ap (λ n. record { phase = n; item = u.item }) (sym x)
       ∙ ap (λ a. record { phase = n; item = record { from = a; to = u.item.to; load = u.item.load } }) (sym y)
       ∙ ap (λ b. record { phase = n; item = record { from = a; to = b; load = u.item.load } }) (sym z)
@@ -67,49 +67,49 @@ module _ {L : Limits} {P : ℕ} {setting : Setting L P} {w : Board} (play : Play
         cut (Carried setting) place.pre place.post m ledger.items
         (subst (λ l. Pair (Carried setting) l ledger.items) place.whole sim.items)
 
-    pub sender-lt : a < P
-    sender-lt = omega (arith, twin.related.from-lt, place.from_is)
+    pub sender_lt : a < P
+    sender_lt = omega (arith, twin.related.from_lt, place.from_is)
 
-    pub receiver-lt : b < P
-    receiver-lt = omega (arith, twin.related.to-lt, place.to_is)
+    pub receiver_lt : b < P
+    receiver_lt = omega (arith, twin.related.to_lt, place.to_is)
 
     pub whole : (l : Content) → twin.one.item.load ≡ l
         → ledger.items ≡ twin.pre ++ record { phase = m.phase; item = record { from = a; to = b; load = l } }
         ∷ twin.post
     whole l q =
         twin.whole ∙ ap (λ u. twin.pre ++ u ∷ twin.post)
-        (msg-is twin.one m.phase a b twin.related.phase (sym place.from_is ∙ twin.related.from)
+        (msg_is twin.one m.phase a b twin.related.phase (sym place.from_is ∙ twin.related.from)
         (sym place.to_is ∙ twin.related.to)
         ∙ ap (λ l. record { phase = m.phase; item = record { from = a; to = b; load = l } }) q)
 
-    pub nothing-before : FirstDated twin.pre a b
-    nothing-before =
-        pair-all (Carried setting) (λ k. (k.from ≡ a) × (k.to ≡ b) → ⊥) (λ u. OnLink a b u.item → ⊥)
+    pub nothing_before : FirstDated twin.pre a b
+    nothing_before =
+        pair_all (Carried setting) (λ k. (k.from ≡ a) × (k.to ≡ b) → ⊥) (λ u. OnLink a b u.item → ⊥)
         (λ x y z n o. n (z.from ∙ o.0, z.to ∙ o.1)) place.pre twin.pre twin.before place.none_before
 
     pub pairs : Pair (Carried setting) (place.pre ++ place.post) (twin.pre ++ twin.post)
     pairs =
-        pair-append (Carried setting) place.pre place.post twin.pre twin.post twin.before twin.after
+        pair_append (Carried setting) place.pre place.post twin.pre twin.post twin.before twin.after
 
-    pub off-win : Window (awaitedIn setting) ledger.phase (has_stored ledger) (twin.pre ++ twin.post)
-    off-win =
-        window-keeps (awaitedIn setting) (Move.off twin.pre twin.post twin.one twin.whole) sim.win
+    pub off_win : Window (awaited_in setting) ledger.phase (has_stored ledger) (twin.pre ++ twin.post)
+    off_win =
+        window_keeps (awaited_in setting) (Move.off twin.pre twin.post twin.one twin.whole) sim.win
 
-    pub named-less : All (Named w.untaken w.sends) (place.pre ++ place.post)
-    named-less =
-        less-named P w.untaken w.sends place.pre place.post m
+    pub named_less : All (Named w.untaken w.sends) (place.pre ++ place.post)
+    named_less =
+        less_named P w.untaken w.sends place.pre place.post m
         (subst (All (Named w.untaken w.sends)) place.whole marks.named)
 
     pub apart_less : Apart (place.pre ++ place.post)
-    apart_less = less-apart P place.pre place.post m (subst Apart place.whole marks.apart)
+    apart_less = less_apart P place.pre place.post m (subst Apart place.whole marks.apart)
 
     -- not after the receiver's next phase
-    pub not-ahead : m.phase ≤ suc (ledger.phase b)
-    not-ahead =
+    pub not_ahead : m.phase ≤ suc (ledger.phase b)
+    not_ahead =
         let q = (all_mid (Sent ledger.phase) twin.pre twin.post
         (record { phase = m.phase; item = record { from = a; to = b; load = twin.one.item.load } })
         (subst (All (Sent ledger.phase)) (whole twin.one.item.load refl) sim.win.sent)).0 in
-        omega (arith, within-one reached a b sender-lt receiver-lt)
+        omega (arith, within_one reached a b sender_lt receiver_lt)
 
     -- the item is off, and nothing else
     pub off_next : (u : Page) → Step (tree setting) (field_limit L) ledger
@@ -128,26 +128,26 @@ module _ {L : Limits} {P : ℕ} {setting : Setting L P} {w : Board} (play : Play
                 (place.pre ++ place.post)
                 (twin.pre ++ twin.post) pairs (update ledger.pages m.phase u)
                 (λ n y. update_all (λ n w. w.nodes y ≡ (ledger.pages n).nodes y) ledger.pages m.phase u (nd y)
-                (λ n z. refl) n) off-win w.untaken w.sends;
+                (λ n z. refl) n) off_win w.untaken w.sends;
             marks =
-                marks-same P marks named-less apart_less
+                marks_same P marks named_less apart_less
                 (update_all (λ n w. sum (λ y. (w.nodes y).tallies taken_all) 0 P ≡ sum
                 (λ y. ((ledger.pages n).nodes y).tallies taken_all) 0 P) ledger.pages m.phase u
                 (sum_ext (λ y. (u.nodes y).tallies taken_all)
                 (λ y. ((ledger.pages m.phase).nodes y).tallies taken_all) 0 P
                 (λ y x z. ap (λ (nd : State). nd.tallies taken_all) (nd y))) (λ n z. refl))
-                (log-same P ledger m.phase u (twin.pre ++ twin.post) lg);
+                (log_same P ledger m.phase u (twin.pre ++ twin.post) lg);
           };
           calm = ca;
         }
 
-    pub refused-next : (x : ℕ) → (x ≢ 7 → Mishap setting w (delivers a b))
+    pub refused_next : (x : ℕ) → (x ≢ 7 → Mishap setting w (delivers a b))
         → Next setting w play (delivers a b) (off_unless_early (gave w b (w.nodes b)) a b x)
-    refused-next x bad =
+    refused_next x bad =
         cases (Next setting w play (delivers a b)) _ (gave w b (w.nodes b))
         (carries (gave w b (w.nodes b)) (without a b w.items)) (λ q. held play (delivers a b) b)
         (λ q. subst (λ l. Next setting w play (delivers a b) (carries (gave w b (w.nodes b)) l)) (sym place.rest)
         (off_next (page_lost (ledger.pages m.phase))
-        (act-lose reached twin.pre twin.post m.phase a b
+        (act_lose reached twin.pre twin.post m.phase a b
         twin.one.item.load
         (whole twin.one.item.load refl)) (λ y. refl) refl (inr (bad (eqb-false x 7 q)))))

@@ -20,14 +20,14 @@ use Rattle.cycle.proofs.Partners.{Among}
 use Rattle.cycle.proofs.Events.{state_of}
 use Rattle.events.proofs.Setting.{Setting, tree, awaited_is, hear}
 use Rattle.node.proofs.Ways.{NoneDue}
-use Rattle.events.proofs.View.{view, agree-like, agree_first, agree_second}
+use Rattle.events.proofs.View.{view, agree_like, agree_first, agree_second}
 use Rattle.events.proofs.Changes.{like_at}
 use Rattle.events.proofs.Sim.{Holds}
 use Rattle.events.proofs.Sim.{Sim}
 use Rattle.events.proofs.Marks.{Marks}
 use Rattle.node.proofs.Valid.{step_first, step_second}
 use Rattle.events.proofs.Emit.{dim_step}
-use Rattle.events.proofs.Played.{Played, hold, dims-is}
+use Rattle.events.proofs.Played.{Played, hold, dims_is}
 
 module _ {L : Limits} {P : ℕ} {setting : Setting L P} {w : Board} (play : Played setting w) where
   abbrev p : ℕ
@@ -46,8 +46,8 @@ module _ {L : Limits} {P : ℕ} {setting : Setting L P} {w : Board} (play : Play
   marks = play.marks
 
   module _ (a : ℕ) (h : a < P) where
-    pub dim-at : dim_of p (state_of ledger a).step ≡ (w.nodes a).dim
-    dim-at =
+    pub dim_at : dim_of p (state_of ledger a).step ≡ (w.nodes a).dim
+    dim_at =
         ap (dim_of p) (sym (hold play a h).like.step)
         ∙ dim_step p (w.nodes a).pass (w.nodes a).dim (hold play a h).pass (hold play a h).low
 
@@ -61,26 +61,26 @@ module _ {L : Limits} {P : ℕ} {setting : Setting L P} {w : Board} (play : Play
         go [] q = let z : ◌≡◌ {A = ℕ} 0 1 = cc in omega arith
         go (x ∷ xs) q = let z : ◌≡◌ {A = ℕ} 0 1 = cc in omega arith
 
-    pub rcv-is : receivers (w.nodes a).nodes (w.nodes a).dim (w.nodes a).number ≡ receivers P (w.nodes a).dim a
-    rcv-is = rw ((hold play a h).nodes, (hold play a h).number) refl
+    pub rcv_is : receivers (w.nodes a).nodes (w.nodes a).dim (w.nodes a).number ≡ receivers P (w.nodes a).dim a
+    rcv_is = rw ((hold play a h).nodes, (hold play a h).number) refl
 
-    pub heard-by : (c : ℕ) → c < P → (tree setting).awaited (dim_of p (state_of ledger a).step) c ≡ some a
+    pub heard_by : (c : ℕ) → c < P → (tree setting).awaited (dim_of p (state_of ledger a).step) c ≡ some a
         → Among (receivers (w.nodes a).nodes (w.nodes a).dim (w.nodes a).number) c
-    heard-by c hc q =
-        subst (λ rs. Among rs c) (sym rcv-is)
-        (hear setting (w.nodes a).dim a c hc (subst (λ d. (tree setting).awaited d c ≡ some a) dim-at q))
+    heard_by c hc q =
+        subst (λ rs. Among rs c) (sym rcv_is)
+        (hear setting (w.nodes a).dim a c hc (subst (λ d. (tree setting).awaited d c ≡ some a) dim_at q))
 
-    pub mute-of : NoneDue L (w.nodes a)
+    pub mute_of : NoneDue L (w.nodes a)
         → ((state_of ledger a).flag ≡ false) ⊎ Unheard (tree setting) a (state_of ledger a).step
-    mute-of (inl f) = inl (sym (hold play a h).like.flag ∙ f)
-    mute-of (inr e) = inr (λ c hc q. no_one c _ e (heard-by c hc q))
+    mute_of (inl f) = inl (sym (hold play a h).like.flag ∙ f)
+    mute_of (inr e) = inr (λ c hc q. no_one c _ e (heard_by c hc q))
 
     pub agree_of : agrees L (w.nodes a) (w.nodes a).pass (w.nodes a).dim ≡ true
         → Agrees p (field_limit L) (state_of ledger a) (state_of ledger a).step
         ((tree setting).awaited (dim_of p (state_of ledger a).step) a)
     agree_of g =
         subst (λ d. Agrees p (field_limit L) (state_of ledger a) (state_of ledger a).step ((tree setting).awaited d a))
-        (sym dim-at) (agree-like p (view p n) (state_of ledger a) o.like (field_limit L) (state_of ledger a).step
+        (sym dim_at) (agree_like p (view p n) (state_of ledger a) o.like (field_limit L) (state_of ledger a).step
         ((tree setting).awaited n.dim a)
         ((invariant reached).now a (ledger.phase a) refl)
         (subst (Agrees p (field_limit L) (view p n) (state_of ledger a).step) awaits
@@ -105,12 +105,12 @@ module _ {L : Limits} {P : ℕ} {setting : Setting L P} {w : Board} (play : Play
         by (inl e) =
             subst (λ s. Agrees p (field_limit L) (view p n) s (awaited n.nodes n.dim n.number))
             (sym (step_first p n.pass n.dim e))
-            (agree_first L p n n.dim (dims-is play a h) o.low
+            (agree_first L p n n.dim (dims_is play a h) o.low
             (subst (λ q. agrees L n q n.dim ≡ true) e g))
         by (inr e) =
             subst (λ s. Agrees p (field_limit L) (view p n) s (awaited n.nodes n.dim n.number))
             (sym (step_second p n.pass n.dim e))
-            (agree_second L p n n.dim (dims-is play a h) o.low
+            (agree_second L p n n.dim (dims_is play a h) o.low
             (subst (λ q. agrees L n q n.dim ≡ true) e g))
 
     pub hold_at : (pass d s : ℕ) (f : Bool) (t : ℕ) → (pass ≡ 1) ⊎ (pass ≡ 2) → d < p → step_number p pass d ≡ s
@@ -124,13 +124,13 @@ module _ {L : Limits} {P : ℕ} {setting : Setting L P} {w : Board} (play : Play
           pass = q;
           low = l;
           sized = o.sized;
-          like = like_at p (w.nodes a) (state_of ledger a) (dims-is play a h) o.like pass d f t s e;
+          like = like_at p (w.nodes a) (state_of ledger a) (dims_is play a h) o.like pass d f t s e;
         }
 
-    pub hold-still : Holds setting a (w.count a)
+    pub hold_still : Holds setting a (w.count a)
         (at (w.nodes a) (w.nodes a).pass (w.nodes a).dim false (w.nodes a).agreed)
         (at_step (state_of ledger a) (state_of ledger a).step false (state_of ledger a).agreed)
-    hold-still =
+    hold_still =
         let o = hold play a h in
         subst (λ t. Holds setting a (w.count a)
         (at (w.nodes a) (w.nodes a).pass (w.nodes a).dim false (w.nodes a).agreed)

@@ -50,8 +50,8 @@ module _ {A : Type 0} (sel : A → ℕ) (l : List A) (d r : A) (m : ℕ) (h : m 
       go (yes q) = ap (λ i. sel (get_or (set l m r) i d)) q ∙ ap sel (get_or-set_same l m r d h) ∙ omega arith
       go (no q) = ap sel (get_or-set_other l m j r d q)
 
-  bump-total : (p : ℕ) → m < p → total (λ j. sel (get_or (set l m r) j d)) p ≡ suc (total (λ j. sel (get_or l j d)) p)
-  bump-total p b =
+  bump_total : (p : ℕ) → m < p → total (λ j. sel (get_or (set l m r) j d)) p ≡ suc (total (λ j. sel (get_or l j d)) p)
+  bump_total p b =
       let same = update_same (λ i. sel (get_or l i d)) m (suc (sel (get_or l m d))) in
       total_more (λ j. sel (get_or l j d)) (λ j. sel (get_or (set l m r) j d)) m p b (bump_at m ∙ same ∙ omega arith)
       (λ j q. bump_at j ∙ update_other (λ i. sel (get_or l i d)) m (suc (sel (get_or l m d))) j q)
@@ -66,9 +66,9 @@ update_like f g m j a b = go (ℕ_discrete j m)
     go (no q) = b
 
 module _ (p : ℕ) (n : Node) (u : State) (e : dims n ≡ p) (like : Like p (view p n) u) where
-  pub like-sent : (m : ℕ) → m < p → m < length n.sent → n.busy ≡ true
+  pub like_sent : (m : ℕ) → m < p → m < length n.sent → n.busy ≡ true
       → Like p (view p (one_sent n m)) (with_tallies u true (bump_sent u.tallies m))
-  like-sent m l h b =
+  like_sent m l h b =
       record {
         busy = b;
         tallies = tal;
@@ -85,14 +85,14 @@ module _ (p : ℕ) (n : Node) (u : State) (e : dims n ≡ p) (like : Like p (vie
           (λ i. u.tallies (sent_to i)) m j (like.tallies (sent_to m) (omega arith)) (like.tallies (sent_to j) q)
       tal (taken_from j) q = like.tallies (taken_from j) q
       tal sent_all q =
-          bump-total (λ (x : Sent). x.0) n.sent (sent_number 0) (record { 0 = tally n (sent_in m) + 1 }) m h refl
+          bump_total (λ (x : Sent). x.0) n.sent (sent_number 0) (record { 0 = tally n (sent_in m) + 1 }) m h refl
           (dims n) (omega arith) ∙ ap suc (like.tallies sent_all tt)
       tal taken_all q = like.tallies taken_all tt
 
-  pub like-taken : (kind : Kind) (m : ℕ) → m < p → m < length n.taken
+  pub like_taken : (kind : Kind) (m : ℕ) → m < p → m < length n.taken
       → Like p (view p (counted n kind m))
       (at_step (with_tallies u (wakes kind u.busy) (bump_taken u.tallies m)) 0 true 0)
-  like-taken kind m l h =
+  like_taken kind m l h =
       record { busy = ap (wakes kind) like.busy; tallies = tal; step = refl; flag = refl; agreed = refl; stored = like.stored }
     where
       tal : (f : Entry) → Has p 0 (field_of f)
@@ -105,11 +105,11 @@ module _ (p : ℕ) (n : Node) (u : State) (e : dims n ≡ p) (like : Like p (vie
           (like.tallies (taken_from j) q)
       tal sent_all q = like.tallies sent_all tt
       tal taken_all q =
-          bump-total (λ (x : Taken). x.0) n.taken (taken_number 0) (record { 0 = tally n (taken_in m) + 1 }) m h refl
+          bump_total (λ (x : Taken). x.0) n.taken (taken_number 0) (record { 0 = tally n (taken_in m) + 1 }) m h refl
           (dims n) (omega arith) ∙ ap suc (like.tallies taken_all tt)
 
-  pub like-idle : Like p (view p (with_busy n false)) (with_tallies u false u.tallies)
-  like-idle =
+  pub like_idle : Like p (view p (with_busy n false)) (with_tallies u false u.tallies)
+  like_idle =
       record {
         busy = refl;
         tallies = λ f q. same_tal n (with_busy n false) refl refl refl (field_of f)
@@ -133,10 +133,10 @@ module _ (p : ℕ) (n : Node) (u : State) (e : dims n ≡ p) (like : Like p (vie
         stored = like.stored;
       }
 
-  pub like-first : (k : ℕ) (x : Stored) (y : Entries) → k < p → k < length n.first → x.present ≡ true
+  pub like_first : (k : ℕ) (x : Stored) (y : Entries) → k < p → k < length n.first → x.present ≡ true
       → ((f : Entry) → Has p k (field_of f) → first_entries x f ≡ y f)
       → Like p (view p (with_first n (set n.first k x))) (with_stored u k y)
-  like-first k x y l h pr q =
+  like_first k x y l h pr q =
       record {
         busy = like.busy;
         tallies =
@@ -168,10 +168,10 @@ module _ (p : ℕ) (n : Node) (u : State) (e : dims n ≡ p) (like : Like p (vie
               ∙ ap first_slot (get_or-set_same n.first k x past_end h) ∙ choose_yes (some (first_entries x)) none pr)) q)
           go (no z) = subst (λ o. Alike p s o (u.stored s)) (sym (other z (dec_lt s p))) (like.stored s b)
 
-  pub like-second : (k : ℕ) (x : Confirm) (y : Entries) → k < p → k < length n.second → x.present ≡ true
+  pub like_second : (k : ℕ) (x : Confirm) (y : Entries) → k < p → k < length n.second → x.present ≡ true
       → ((f : Entry) → Has p (p + k) (field_of f) → second_entries x f ≡ y f)
       → Like p (view p (with_second n (set n.second k x))) (with_stored u (p + k) y)
-  like-second k x y l h pr q =
+  like_second k x y l h pr q =
       record {
         busy = like.busy;
         tallies =

@@ -7,7 +7,6 @@ use Prim.Native.Nat.{ℕ, suc, ◌+◌, ◌≤◌, ◌<◌, zero-le}
 use native.Mathlib.Decide.{ℕ_discrete, dec_lt}
 use native.Mathlib.Omega.{arith}
 use lib.ListN.{length}
-use Rattle.base.specs.Choice.{both}
 use Rattle.base.specs.declared.Kind.{Kind}
 use Rattle.events.specs.Board.{put, work, frame, Item, posted}
 use Rattle.cycle.proofs.Sums.{sum_at, pick, update, update_all, sum, sum_ext, sum_update, length_snoc}
@@ -77,44 +76,44 @@ abbrev pub Named : (ℕ → Option ℕ) → ℕ → Item → Type 0
 Named untaken sends m = IsWork m → (m.name < sends) × (untaken m.name ≡ some m.phase)
 
 module _ (P : ℕ) where
-  abbrev pub takesIn : Ledger → ℕ → ℕ
-  takesIn B n = sum (λ y. ((B.pages n).nodes y).tallies taken_all) 0 P
+  abbrev pub takes_in : Ledger → ℕ → ℕ
+  takes_in B n = sum (λ y. ((B.pages n).nodes y).tallies taken_all) 0 P
 
   pub record Marks (untaken : ℕ → Option ℕ) (sends : ℕ) (is : List Item) (B : Ledger) : Type 0 where
     pub tidy : (i : ℕ) → sends ≤ i → untaken i ≡ none
-    pub sums : (n : ℕ) → sum (λ i. hit n (untaken i)) 0 sends + takesIn B n ≡ length (B.pages n).senders
+    pub sums : (n : ℕ) → sum (λ i. hit n (untaken i)) 0 sends + takes_in B n ≡ length (B.pages n).senders
     pub named : All (Named untaken sends) is
     pub apart : Apart is
 
   -- nothing sent, nothing taken
-  pub marks-same : {untaken : ℕ → Option ℕ} {sends : ℕ} {is js : List Item} {B C : Ledger} → Marks untaken sends is B
+  pub marks_same : {untaken : ℕ → Option ℕ} {sends : ℕ} {is js : List Item} {B C : Ledger} → Marks untaken sends is B
       → All (Named untaken sends) js → Apart js
-      → ((n : ℕ) → takesIn C n ≡ takesIn B n) → ((n : ℕ) → (C.pages n).senders ≡ (B.pages n).senders)
+      → ((n : ℕ) → takes_in C n ≡ takes_in B n) → ((n : ℕ) → (C.pages n).senders ≡ (B.pages n).senders)
       → Marks untaken sends js C
-  marks-same m na ap' t l =
+  marks_same m na ap' t l =
       record { tidy = m.tidy; sums = λ n. omega (arith, m.sums n, t n, ap length (l n)); named = na; apart = ap' }
 
-  pub less-named : (untaken : ℕ → Option ℕ) (sends : ℕ) (xs ys : List Item) (m : Item)
+  pub less_named : (untaken : ℕ → Option ℕ) (sends : ℕ) (xs ys : List Item) (m : Item)
       → All (Named untaken sends) (xs ++ m ∷ ys) → All (Named untaken sends) (xs ++ ys)
-  less-named untaken sends xs ys m h = (all_mid (Named untaken sends) xs ys m h).1
+  less_named untaken sends xs ys m h = (all_mid (Named untaken sends) xs ys m h).1
 
-  pub less-apart : (xs ys : List Item) (m : Item) → Apart (xs ++ m ∷ ys) → Apart (xs ++ ys)
-  less-apart = apart_less
+  pub less_apart : (xs ys : List Item) (m : Item) → Apart (xs ++ m ∷ ys) → Apart (xs ++ ys)
+  less_apart = apart_less
 
   -- frames go out
-  pub frames-named : (untaken : ℕ → Option ℕ) (sends : ℕ) (xs : List Item) (a : ℕ) (bs : List ℕ) (c : ℕ) (rs : List ℕ)
+  pub frames_named : (untaken : ℕ → Option ℕ) (sends : ℕ) (xs : List Item) (a : ℕ) (bs : List ℕ) (c : ℕ) (rs : List ℕ)
       → All (Named untaken sends) xs → All (Named untaken sends) (xs ++ posted a bs c rs)
-  frames-named untaken sends xs a bs c rs h = all_append (Named untaken sends) xs (posted a bs c rs) h (new rs)
+  frames_named untaken sends xs a bs c rs h = all_append (Named untaken sends) xs (posted a bs c rs) h (new rs)
     where
       new : (rs : List ℕ) → All (Named untaken sends) (posted a bs c rs)
       new [] = tt
       new (r ∷ rs) =
           ((λ w. frame_not_work (record { from = a; to = r; load = frame bs; phase = c; name = 0 }) bs refl w), new rs)
 
-  pub frames-apart : (xs : List Item) (a : ℕ) (bs : List ℕ) (c : ℕ) (rs : List ℕ) → Apart xs
+  pub frames_apart : (xs : List Item) (a : ℕ) (bs : List ℕ) (c : ℕ) (rs : List ℕ) → Apart xs
       → Apart (xs ++ posted a bs c rs)
-  frames-apart [] a bs c [] h = tt
-  frames-apart [] a bs c (r ∷ rs) h = (new rs, frames-apart [] a bs c rs tt)
+  frames_apart [] a bs c [] h = tt
+  frames_apart [] a bs c (r ∷ rs) h = (new rs, frames_apart [] a bs c rs tt)
     where
       m : Item
       m = record { from = a; to = r; load = frame bs; phase = c; name = 0 }
@@ -124,9 +123,9 @@ module _ (P : ℕ) where
       new [] = tt
       new (s ∷ rs) =
           ((λ w. frame_not_work (record { from = a; to = r; load = frame bs; phase = c; name = 0 }) bs refl w), new rs)
-  frames-apart (x ∷ xs) a bs c rs h = (
+  frames_apart (x ∷ xs) a bs c rs h = (
     all_append (λ k. IsWork x → IsWork k → k.name ≢ x.name) xs (posted a bs c rs) h.0 (new rs),
-    frames-apart xs a bs c rs h.1,
+    frames_apart xs a bs c rs h.1,
   )
     where
       new : (rs : List ℕ) → All (λ k. IsWork x → IsWork k → k.name ≢ x.name) (posted a bs c rs)
@@ -139,26 +138,26 @@ module _ (P : ℕ) where
   -- the takes of every phase, after node a has changed
   pub takes_same : (B : Ledger) (a : ℕ) (u : Page) (v : State) (ms : List Dated)
       → u.nodes ≡ update (B.pages (B.phase a)).nodes a v → v.tallies taken_all ≡ (state_of B a).tallies taken_all
-      → (n : ℕ) → takesIn (ledger_with B (B.phase a) u ms) n ≡ takesIn B n
+      → (n : ℕ) → takes_in (ledger_with B (B.phase a) u ms) n ≡ takes_in B n
   takes_same B a u v ms e q =
-      update_all (λ m w. sum (λ y. (w.nodes y).tallies taken_all) 0 P ≡ takesIn B m) B.pages (B.phase a) u
-      (subst (λ (f : ℕ → State). sum (λ y. (f y).tallies taken_all) 0 P ≡ takesIn B (B.phase a)) (sym e)
+      update_all (λ m w. sum (λ y. (w.nodes y).tallies taken_all) 0 P ≡ takes_in B m) B.pages (B.phase a) u
+      (subst (λ (f : ℕ → State). sum (λ y. (f y).tallies taken_all) 0 P ≡ takes_in B (B.phase a)) (sym e)
       (sum_ext (λ y. (update (B.pages (B.phase a)).nodes a v y).tallies taken_all)
       (λ y. ((B.pages (B.phase a)).nodes y).tallies taken_all) 0 P
       (λ y k l. update_all (λ y nd. nd.tallies taken_all ≡ ((B.pages (B.phase a)).nodes y).tallies taken_all)
       (B.pages (B.phase a)).nodes a v q (λ y z. refl) y))) (λ m z. refl)
 
-  pub log-same : (B : Ledger) (n : ℕ) (u : Page) (ms : List Dated) → u.senders ≡ (B.pages n).senders → (m : ℕ)
+  pub log_same : (B : Ledger) (n : ℕ) (u : Page) (ms : List Dated) → u.senders ≡ (B.pages n).senders → (m : ℕ)
       → ((ledger_with B n u ms).pages m).senders ≡ (B.pages m).senders
-  log-same B n u ms e = update_all (λ m w. w.senders ≡ (B.pages m).senders) B.pages n u e (λ m z. refl)
+  log_same B n u ms e = update_all (λ m w. w.senders ≡ (B.pages m).senders) B.pages n u e (λ m z. refl)
 
   -- a message goes out
-  pub marks-send : {untaken : ℕ → Option ℕ} {sends : ℕ} {is : List Item} {B : Ledger} → Marks untaken sends is B
+  pub marks_send : {untaken : ℕ → Option ℕ} {sends : ℕ} {is : List Item} {B : Ledger} → Marks untaken sends is B
       → (a c : ℕ) (v : State) (ms : List Dated) (m : Item) → v.tallies taken_all ≡ (state_of B a).tallies taken_all
       → m.name ≡ sends → m.phase ≡ B.phase a
       → Marks (put untaken sends (some m.phase)) (suc sends) (is ++ (m ∷ []))
       (ledger_with B (B.phase a) (page_sent (B.pages (B.phase a)) a c v) ms)
-  marks-send {untaken} {sends} {is} {B} k a c v ms m tv nm ph =
+  marks_send {untaken} {sends} {is} {B} k a c v ms m tv nm ph =
       record {
         tidy = λ i l. put_other untaken sends (some m.phase) i (omega arith) ∙ k.tidy i (omega arith);
         sums = λ n. sums n;
@@ -199,7 +198,7 @@ module _ (P : ℕ) where
           (omega (arith, length_snoc (B.pages (B.phase a)).senders a, hit_same (B.phase a)))
           (λ n z. omega (arith, hit_other (B.phase a) n (λ q. z (sym q))))
 
-      sums : (n : ℕ) → sum (λ i. hit n (put untaken sends (some m.phase) i)) 0 (suc sends) + takesIn
+      sums : (n : ℕ) → sum (λ i. hit n (put untaken sends (some m.phase) i)) 0 (suc sends) + takes_in
           (ledger_with B (B.phase a) (page_sent (B.pages (B.phase a)) a c v) ms) n
           ≡ length ((ledger_with B (B.phase a) (page_sent (B.pages (B.phase a)) a c v) ms).pages n).senders
       sums n =
@@ -213,16 +212,16 @@ module _ (P : ℕ) where
           )
 
   -- a message is taken
-  pub marks-take : (untaken : ℕ → Option ℕ) (sends : ℕ) (xs ys : List Item) (m : Item) (B : Ledger)
+  pub marks_take : (untaken : ℕ → Option ℕ) (sends : ℕ) (xs ys : List Item) (m : Item) (B : Ledger)
       → Marks untaken sends (xs ++ m ∷ ys) B → IsWork m → (a c : ℕ) (v : State) (ms : List Dated) → c < P
       → m.phase ≡ B.phase c → v.tallies taken_all ≡ suc ((state_of B c).tallies taken_all)
       → Marks (put untaken m.name none) sends (xs ++ ys)
       (ledger_with B (B.phase c) (page_taken (B.pages (B.phase c)) a c v) ms)
-  marks-take untaken sends xs ys m B k w a c v ms hc ph tv =
+  marks_take untaken sends xs ys m B k w a c v ms hc ph tv =
       record {
         tidy = λ i l. put_other untaken m.name none i (omega (arith, mine.0)) ∙ k.tidy i l;
         sums = sums;
-        named = both (xs ++ ys) (less-named untaken sends xs ys m k.named) (apart_from xs ys m k.apart);
+        named = both (xs ++ ys) (less_named untaken sends xs ys m k.named) (apart_from xs ys m k.apart);
         apart = apart_less xs ys m k.apart;
       }
     where
@@ -253,10 +252,10 @@ module _ (P : ℕ) where
               go (yes d) = refl
               go (no d) = refl
 
-      took : (n : ℕ) → takesIn (ledger_with B (B.phase c) (page_taken (B.pages (B.phase c)) a c v) ms) n
-          ≡ takesIn B n + hit n (some (B.phase c))
+      took : (n : ℕ) → takes_in (ledger_with B (B.phase c) (page_taken (B.pages (B.phase c)) a c v) ms) n
+          ≡ takes_in B n + hit n (some (B.phase c))
       took =
-          update_all (λ n w. sum (λ y. (w.nodes y).tallies taken_all) 0 P ≡ takesIn B n + hit n (some (B.phase c)))
+          update_all (λ n w. sum (λ y. (w.nodes y).tallies taken_all) 0 P ≡ takes_in B n + hit n (some (B.phase c)))
           B.pages (B.phase c) (page_taken (B.pages (B.phase c)) a c v)
           (let s = sum_update (λ y. ((B.pages (B.phase c)).nodes y).tallies taken_all) c
           (v.tallies taken_all) 0 P zero-le (omega arith) in
@@ -276,7 +275,7 @@ module _ (P : ℕ) where
               go (yes d) = refl
               go (no d) = refl
 
-      sums : (n : ℕ) → sum (λ i. hit n (put untaken m.name none i)) 0 sends + takesIn
+      sums : (n : ℕ) → sum (λ i. hit n (put untaken m.name none i)) 0 sends + takes_in
           (ledger_with B (B.phase c) (page_taken (B.pages (B.phase c)) a c v) ms) n
           ≡ length ((ledger_with B (B.phase c) (page_taken (B.pages (B.phase c)) a c v) ms).pages n).senders
       sums n =
@@ -285,12 +284,12 @@ module _ (P : ℕ) where
             k.sums n,
             gone n,
             took n,
-            ap length (log-same B (B.phase c) (page_taken (B.pages (B.phase c)) a c v) ms refl n),
+            ap length (log_same B (B.phase c) (page_taken (B.pages (B.phase c)) a c v) ms refl n),
           )
 
   -- all of a phase taken: no mark of it is left
   pub none_left : {untaken : ℕ → Option ℕ} {sends : ℕ} {is : List Item} {B : Ledger} → Marks untaken sends is B
-      → (n : ℕ) → takesIn B n ≡ length (B.pages n).senders → (i : ℕ) → untaken i ≢ some n
+      → (n : ℕ) → takes_in B n ≡ length (B.pages n).senders → (i : ℕ) → untaken i ≢ some n
   none_left {untaken} {sends} {is} {B} k n e i q = go (dec_lt i sends)
     where
       go : Dec (i < sends) → ⊥

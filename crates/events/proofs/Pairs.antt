@@ -30,11 +30,11 @@ module _ {A B : Type 0} (R : A → B → Type 0) where
   Pair (x ∷ xs) [] = ⊥
   Pair (x ∷ xs) (y ∷ ys) = R x y × Pair xs ys
 
-  pub pair-append : (xs us : List A) (ys vs : List B) → Pair xs ys → Pair us vs → Pair (xs ++ us) (ys ++ vs)
-  pair-append [] us [] vs h k = k
-  pair-append [] us (y ∷ ys) vs h k = absurd h
-  pair-append (x ∷ xs) us [] vs h k = absurd h
-  pair-append (x ∷ xs) us (y ∷ ys) vs h k = (h.0, pair-append xs us ys vs h.1 k)
+  pub pair_append : (xs us : List A) (ys vs : List B) → Pair xs ys → Pair us vs → Pair (xs ++ us) (ys ++ vs)
+  pair_append [] us [] vs h k = k
+  pair_append [] us (y ∷ ys) vs h k = absurd h
+  pair_append (x ∷ xs) us [] vs h k = absurd h
+  pair_append (x ∷ xs) us (y ∷ ys) vs h k = (h.0, pair_append xs us ys vs h.1 k)
 
   pub record Cut (xs zs : List A) (x : A) (ms : List B) : Type 0 where
     pub pre : List B
@@ -65,12 +65,12 @@ module _ {A B : Type 0} (R : A → B → Type 0) where
   pub mate : (x : A) (l : List A) (ms : List B) (at : Placed x l) → Pair l ms → Cut at.pre at.post x ms
   mate x l ms at h = cut at.pre at.post x ms (subst (λ l. Pair l ms) at.whole h)
 
-  pub pair-all : (F : A → Type 0) (G : B → Type 0) → ((x : A) (y : B) → R x y → F x → G y) → (xs : List A) (ys : List B)
+  pub pair_all : (F : A → Type 0) (G : B → Type 0) → ((x : A) (y : B) → R x y → F x → G y) → (xs : List A) (ys : List B)
       → Pair xs ys → All F xs → All G ys
-  pair-all F G f [] [] h k = tt
-  pair-all F G f [] (y ∷ ys) h k = absurd h
-  pair-all F G f (x ∷ xs) [] h k = absurd h
-  pair-all F G f (x ∷ xs) (y ∷ ys) h k = (f x y h.0 k.0, pair-all F G f xs ys h.1 k.1)
+  pair_all F G f [] [] h k = tt
+  pair_all F G f [] (y ∷ ys) h k = absurd h
+  pair_all F G f (x ∷ xs) [] h k = absurd h
+  pair_all F G f (x ∷ xs) (y ∷ ys) h k = (f x y h.0 k.0, pair_all F G f xs ys h.1 k.1)
 
 -- ---- the oldest of a link
 

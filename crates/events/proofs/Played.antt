@@ -13,7 +13,7 @@ use Rattle.node.specs.Answers.{refused}
 use Rattle.node.specs.Calls.{take, frame_in}
 use Rattle.node.specs.declared.Node.{Node}
 use Rattle.events.specs.Board.{put, work, frame, Item, Board, Event, delivers, loses, oldest, gave}
-use Rattle.cycle.proofs.Sums.{update_all, count}
+use Rattle.cycle.proofs.Sums.{update_all}
 use Rattle.cycle.proofs.Lists.{All}
 use Rattle.cycle.proofs.Exact.{sent_all, taken_all, Entries}
 use Rattle.cycle.proofs.OnePhase.{State}
@@ -22,8 +22,8 @@ use Rattle.cycle.proofs.Window.{Window}
 use Rattle.cycle.proofs.Events.{state_of, ledger_with, with_state, page_with}
 use Rattle.events.proofs.Setting.{Setting, tree, awaited_is}
 use Rattle.events.proofs.Pairs.{Pair}
-use Rattle.events.proofs.Sim.{has_stored, window_same, awaitedIn, Holds, Carried, Sim, acted, stored_same, unmoved}
-use Rattle.events.proofs.Marks.{Named, Apart, Marks, marks-same, takes_same, log-same}
+use Rattle.events.proofs.Sim.{has_stored, window_same, awaited_in, Holds, Carried, Sim, acted, stored_same, unmoved}
+use Rattle.events.proofs.Marks.{Named, Apart, Marks, marks_same, takes_same, log_same}
 
 pub lossy_same : (B : Ledger) (n : ℕ) (u : Page) (ms : List Dated) → u.lossy ≡ (B.pages n).lossy → (m : ℕ)
     → ((ledger_with B n u ms).pages m).lossy ≡ (B.pages m).lossy
@@ -40,9 +40,9 @@ module _ {L : Limits} {P : ℕ} (setting : Setting L P) where
   -- an item that goes without being taken, stored or late
   pub data Mishap (w : Board) : Event → Type 0 where
     loss : (j : ℕ) → Mishap w (loses j)
-    badTake : (a b : ℕ) (m : Item) (kind : Kind) (byte x : ℕ) → oldest a b w.items ≡ some m
+    bad_take : (a b : ℕ) (m : Item) (kind : Kind) (byte x : ℕ) → oldest a b w.items ≡ some m
         → m.load ≡ work kind byte → (take L (w.nodes b) kind a byte).answer ≡ refused x → x ≢ 7 → Mishap w (delivers a b)
-    badFrame : (a b : ℕ) (m : Item) (bs : List ℕ) (x : ℕ) → oldest a b w.items ≡ some m → m.load ≡ frame bs
+    bad_frame : (a b : ℕ) (m : Item) (bs : List ℕ) (x : ℕ) → oldest a b w.items ≡ some m → m.load ≡ frame bs
         → (frame_in L (w.nodes b) bs).answer ≡ refused x → x ≢ 7 → Mishap w (delivers a b)
 
   pub record Next (w : Board) (play : Played w) (e : Event) (w' : Board) : Type 0 where
@@ -81,14 +81,14 @@ module _ {L : Limits} {P : ℕ} {setting : Setting L P} {w : Board} (play : Play
       }
 
   -- node a turns to v, with its tallies as they were
-  pub turned-to : (e : Event) (a : ℕ) (h : a < P) (v : State) (n : Node) (ms : List Dated)
+  pub turned_to : (e : Event) (a : ℕ) (h : a < P) (v : State) (n : Node) (ms : List Dated)
       → v.tallies ≡ (state_of ledger a).tallies → Step (tree setting) (field_limit L) ledger (with_state ledger a v ms)
       → Holds setting a (w.count a) n v → (is : List Item) → Pair (Carried setting) is ms
-      → Window (awaitedIn setting) ledger.phase (has_stored (with_state ledger a v ms)) ms
+      → Window (awaited_in setting) ledger.phase (has_stored (with_state ledger a v ms)) ms
       → (bu : ℕ → Bool) → n.busy ≡ bu a → ((y : ℕ) → y ≢ a → bu y ≡ w.busy y)
       → All (Named w.untaken w.sends) is → Apart is → Next setting w play e (record
       { nodes = put w.nodes a n; items = is; count = w.count; busy = bu; untaken = w.untaken; sends = w.sends })
-  turned-to e a h v n ms tv st ok is it wi bu b1 b2 na ap' =
+  turned_to e a h v n ms tv st ok is it wi bu b1 b2 na ap' =
       record {
         played = record {
           ledger = with_state ledger a v ms;
@@ -99,16 +99,16 @@ module _ {L : Limits} {P : ℕ} {setting : Setting L P} {w : Board} (play : Play
               bu
               b1 b2 w.untaken w.sends;
           marks =
-              marks-same P marks na ap'
+              marks_same P marks na ap'
               (takes_same P ledger a (page_with (ledger.pages (ledger.phase a)) a v) v ms refl
               (ap (λ (t : Entries). t taken_all) tv))
-              (log-same P ledger (ledger.phase a) (page_with (ledger.pages (ledger.phase a)) a v) ms refl);
+              (log_same P ledger (ledger.phase a) (page_with (ledger.pages (ledger.phase a)) a v) ms refl);
         };
         calm = inl (lossy_same ledger (ledger.phase a) (page_with (ledger.pages (ledger.phase a)) a v) ms refl);
       }
 
   -- the same, nothing stored, nothing sent
-  pub turns-still : (e : Event) (a : ℕ) (h : a < P) (v : State) (n : Node) → v.tallies ≡ (state_of ledger a).tallies
+  pub turns_still : (e : Event) (a : ℕ) (h : a < P) (v : State) (n : Node) → v.tallies ≡ (state_of ledger a).tallies
       → v.stored ≡ (state_of ledger a).stored
       → Step (tree setting) (field_limit L) ledger (with_state ledger a v ledger.items)
       → Holds setting a (w.count a) n v → (bu : ℕ → Bool) → n.busy ≡ bu a → ((y : ℕ) → y ≢ a → bu y ≡ w.busy y)
@@ -120,8 +120,8 @@ module _ {L : Limits} {P : ℕ} {setting : Setting L P} {w : Board} (play : Play
         untaken = w.untaken;
         sends = w.sends;
       })
-  turns-still e a h v n tv sv st ok bu b1 b2 =
-      turned-to e a h v n ledger.items tv st ok w.items sim.items (window_same
+  turns_still e a h v n tv sv st ok bu b1 b2 =
+      turned_to e a h v n ledger.items tv st ok w.items sim.items (window_same
       (stored_same setting sim a h (page_with (ledger.pages (ledger.phase a)) a v) v refl n ok
       (subst (λ (t : Entries). t sent_all ≤ L.sends) (sym tv) (sim.capped (ledger.phase a) a h)) ledger.items
       (λ s. ap (λ (g : ℕ → Option Entries). g s) sv)) sim.win)
@@ -130,9 +130,9 @@ module _ {L : Limits} {P : ℕ} {setting : Setting L P} {w : Board} (play : Play
   pub hold : (a : ℕ) → a < P → Holds setting a (w.count a) (w.nodes a) (state_of ledger a)
   hold a h = sim.node a h
 
-  pub dims-is : (a : ℕ) → a < P → dims (w.nodes a) ≡ p
-  dims-is a h = ap dimension (hold a h).nodes
+  pub dims_is : (a : ℕ) → a < P → dims (w.nodes a) ≡ p
+  dims_is a h = ap dimension (hold a h).nodes
 
-  pub awaits-at : (a : ℕ) → a < P → (k : ℕ)
+  pub awaits_at_lem : (a : ℕ) → a < P → (k : ℕ)
       → awaited (w.nodes a).nodes k (w.nodes a).number ≡ (tree setting).awaited k a
-  awaits-at a h k = rw ((hold a h).nodes, (hold a h).number) (awaited_is setting k a)
+  awaits_at_lem a h k = rw ((hold a h).nodes, (hold a h).number) (awaited_is setting k a)

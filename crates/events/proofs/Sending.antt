@@ -20,17 +20,17 @@ use Rattle.cycle.proofs.Sums.{sum_count, sum_ext, sum_less, count}
 use Rattle.cycle.proofs.Exact.{sent_all}
 use Rattle.cycle.proofs.OnePhase.{message, State, with_tallies, bump_sent, Shell}
 use Rattle.cycle.proofs.Ledger.{Dated, Page, Ledger, Reached}
-use Rattle.cycle.proofs.Reached.{invariant, within-one}
-use Rattle.cycle.proofs.Window.{Move, window-keeps}
-use Rattle.cycle.proofs.Events.{state_of, ledger_with, page_sent, act-rest, act-send}
+use Rattle.cycle.proofs.Reached.{invariant, within_one}
+use Rattle.cycle.proofs.Window.{Move, window_keeps}
+use Rattle.cycle.proofs.Events.{state_of, ledger_with, page_sent, act_rest, act_send}
 use Rattle.events.proofs.Tools.{put_same, put_other}
-use Rattle.events.proofs.Setting.{Setting, tree, dim-low, shell-ok, shell-lt}
+use Rattle.events.proofs.Setting.{Setting, tree, dim_low, shell_ok_lem, shell_lt}
 use Rattle.node.proofs.Ways.{SendWay, IdleWay}
-use Rattle.events.proofs.Changes.{like-sent, like-idle}
-use Rattle.events.proofs.Pairs.{pair-append}
-use Rattle.events.proofs.Sim.{window_same, awaitedIn, Holds, Carried, Sim, acted, stored_same}
-use Rattle.events.proofs.Marks.{Marks, marks-send}
-use Rattle.events.proofs.Played.{Played, Next, lossy_same, held, turns-still, hold, dims-is}
+use Rattle.events.proofs.Changes.{like_sent, like_idle}
+use Rattle.events.proofs.Pairs.{pair_append}
+use Rattle.events.proofs.Sim.{window_same, awaited_in, Holds, Carried, Sim, acted, stored_same}
+use Rattle.events.proofs.Marks.{Marks, marks_send}
+use Rattle.events.proofs.Played.{Played, Next, lossy_same, held, turns_still, hold, dims_is}
 
 module _ {L : Limits} {P : ℕ} {setting : Setting L P} {w : Board} (play : Played setting w) where
   abbrev p : ℕ
@@ -50,13 +50,13 @@ module _ {L : Limits} {P : ℕ} {setting : Setting L P} {w : Board} (play : Play
 
   -- ---- idle
 
-  pub idle-next : (a : ℕ) → a < P → (q : Given Outcome) → IdleWay L (w.nodes a) q
+  pub idle_next : (a : ℕ) → a < P → (q : Given Outcome) → IdleWay L (w.nodes a) q
       → Next setting w play (idles a) (after_idle (gave w a q.node) a q.answer)
-  idle-next a h q (IdleWay.refused x s) = held play (idles a) a
-  idle-next a h q (IdleWay.done v) =
+  idle_next a h q (IdleWay.refused x s) = held play (idles a) a
+  idle_next a h q (IdleWay.done v) =
       let o = hold play a h in
-      turns-still play (idles a) a h (with_tallies (state_of ledger a) false (state_of ledger a).tallies)
-      (with_busy (w.nodes a) false) refl refl (act-rest reached a h)
+      turns_still play (idles a) a h (with_tallies (state_of ledger a) false (state_of ledger a).tallies)
+      (with_busy (w.nodes a) false) refl refl (act_rest reached a h)
       (record {
         nodes = o.nodes;
         number = o.number;
@@ -64,19 +64,19 @@ module _ {L : Limits} {P : ℕ} {setting : Setting L P} {w : Board} (play : Play
         pass = o.pass;
         low = o.low;
         sized = o.sized;
-        like = like-idle p (w.nodes a) (state_of ledger a) (dims-is play a h) o.like;
+        like = like_idle p (w.nodes a) (state_of ledger a) (dims_is play a h) o.like;
       })
       (put w.busy a false) (sym (put_same w.busy a false)) (λ y z. put_other w.busy a false y z)
 
   -- ---- send
 
-  log-room : (a : ℕ) → a < P → (state_of ledger a).tallies sent_all < L.sends
+  log_room : (a : ℕ) → a < P → (state_of ledger a).tallies sent_all < L.sends
       → length (ledger.pages (ledger.phase a)).senders < field_limit L
-  log-room a h l =
+  log_room a h l =
       let f = (invariant reached).fit (ledger.phase a) in
       let e = sum_count P (ledger.pages (ledger.phase a)).senders f.below in
       let g = sum_ext (λ y. ((ledger.pages (ledger.phase a)).nodes y).tallies sent_all)
-      (λ y. count y (ledger.pages (ledger.phase a)).senders) 0 P (λ y x z. (f.nodes-ok y (omega arith)).count-is) in
+      (λ y. count y (ledger.pages (ledger.phase a)).senders) 0 P (λ y x z. (f.nodes_ok y (omega arith)).count_is) in
       omega (
         arith,
         sum_less (λ y. ((ledger.pages (ledger.phase a)).nodes y).tallies sent_all) L.sends P a
@@ -84,40 +84,40 @@ module _ {L : Limits} {P : ℕ} {setting : Setting L P} {w : Board} (play : Play
         mul-le-mul_right L.sends setting.few,
       )
 
-  pub send-next : (kind : Kind) (a b : ℕ) → a < P → (q : Given Outcome) → SendWay L (w.nodes a) b q
+  pub send_next : (kind : Kind) (a b : ℕ) → a < P → (q : Given Outcome) → SendWay L (w.nodes a) b q
       → Next setting w play (sends kind a b) (after_send (gave w a q.node) kind a b q.answer)
-  send-next kind a b h q (SendWay.refused x s) = held play (sends kind a b) a
-  send-next kind a b h q (SendWay.done va b1 b2 bu cap) =
+  send_next kind a b h q (SendWay.refused x s) = held play (sends kind a b) a
+  send_next kind a b h q (SendWay.done va b1 b2 bu cap) =
       record {
         played = record {
           ledger = ledger_with ledger (ledger.phase a) u ms;
           reached = Reached.next reached
-              (act-send reached a b j h hb jp shell (sym o.like.busy ∙ bu)
-              (log-room a h less));
+              (act_send reached a b j h hb jp shell (sym o.like.busy ∙ bu)
+              (log_room a h less));
           sim =
               acted setting sim a h u v refl n'
               ok' (omega (arith, less)) _ ms
-              (pair-append (Carried setting) w.items (item ∷ []) ledger.items
+              (pair_append (Carried setting) w.items (item ∷ []) ledger.items
               (record { phase = ledger.phase a; item = record { from = a; to = b; load = message } } ∷ [])
               sim.items (
                 record {
                   from = refl;
                   to = refl;
                   phase = sim.counts a;
-                  from-lt = h;
-                  to-lt = hb;
+                  from_lt = h;
+                  to_lt = hb;
                   load = ap (λ (n : Node). n.phase) (put_same w.nodes a n') ∙ o.phase;
                 },
                 tt,
               )) (window_same (stored_same setting sim a h u v refl n'
               ok' (omega (arith, less)) ms (λ s. refl))
-              (window-keeps (awaitedIn setting) (Move.out
+              (window_keeps (awaited_in setting) (Move.out
               (record { phase = ledger.phase a; item = record { from = a; to = b; load = message } }) refl
-              (within-one reached b a hb h)
+              (within_one reached b a hb h)
               (λ s q. let z : ◌≡◌ {A = ℕ} 0 1 = cc in absurd (omega arith))) sim.win))
               w.busy (bu ∙ sym (sym (sim.busy a h) ∙ bu))
               (λ y z. refl) (put w.untaken w.sends (some (w.count a))) (suc w.sends);
-          marks = marks-send P marks a b v ms item refl refl (sim.counts a);
+          marks = marks_send P marks a b v ms item refl refl (sim.counts a);
         };
         calm = inl (lossy_same ledger (ledger.phase a) u ms refl);
       }
@@ -167,14 +167,14 @@ module _ {L : Limits} {P : ℕ} {setting : Setting L P} {w : Board} (play : Play
       ne : a ≢ b
       ne q = b2 (sym q ∙ sym (hold play a h).number)
 
-      j-is : distance P a b ≡ distance (w.nodes a).nodes (w.nodes a).number b
-      j-is = rw ((hold play a h).nodes, (hold play a h).number) refl
+      j_is : distance P a b ≡ distance (w.nodes a).nodes (w.nodes a).number b
+      j_is = rw ((hold play a h).nodes, (hold play a h).number) refl
 
       shell : Shell (tree setting) a b (distance (w.nodes a).nodes (w.nodes a).number b)
-      shell = subst (Shell (tree setting) a b) j-is (shell-ok setting a b h hb ne)
+      shell = subst (Shell (tree setting) a b) j_is (shell_ok_lem setting a b h hb ne)
 
       jp : distance (w.nodes a).nodes (w.nodes a).number b < p
-      jp = omega (arith, j-is, shell-lt setting a b h hb ne)
+      jp = omega (arith, j_is, shell_lt setting a b h hb ne)
 
       less : (state_of ledger a).tallies sent_all < L.sends
       less = omega (arith, cap, (hold play a h).like.tallies sent_all tt)
@@ -196,6 +196,6 @@ module _ {L : Limits} {P : ℕ} {setting : Setting L P} {w : Board} (play : Play
                   second = o.sized.second;
                 };
             like =
-                like-sent p n (state_of ledger a) (dims-is play a h) o.like j jp
-                (omega (arith, o.sized.sent, jp, dim-low setting)) bu;
+                like_sent p n (state_of ledger a) (dims_is play a h) o.like j jp
+                (omega (arith, o.sized.sent, jp, dim_low setting)) bu;
           }

@@ -53,8 +53,8 @@ seats B a u ms v e F at rest y =
         subst (F y) (sym (update_other (B.pages (B.phase a)).nodes a v y z))
         (subst (λ m. F y ((B.pages m).nodes y)) (sym q) (rest y z))
 
-pub window_same : {awaitedIn : ℕ → ℕ → Option ℕ} {ph : ℕ → ℕ} {h g : ℕ → ℕ → Bool} {ms : List Dated}
-    → ((c s : ℕ) → g c s ≡ h c s) → Window awaitedIn ph h ms → Window awaitedIn ph g ms
+pub window_same : {awaited_in : ℕ → ℕ → Option ℕ} {ph : ℕ → ℕ} {h g : ℕ → ℕ → Bool} {ms : List Dated}
+    → ((c s : ℕ) → g c s ≡ h c s) → Window awaited_in ph h ms → Window awaited_in ph g ms
 window_same e w =
     record {
       order = w.order;
@@ -70,20 +70,20 @@ module _ {L : Limits} {P : ℕ} (setting : Setting L P) where
   p = dimension P
 
   -- the node whose frame c awaits in step s
-  abbrev pub awaitedIn : ℕ → ℕ → Option ℕ
-  awaitedIn s c = pick (dec_lt s (p + p)) ((tree setting).awaited (dim_of p s) c) none
+  abbrev pub awaited_in : ℕ → ℕ → Option ℕ
+  awaited_in s c = pick (dec_lt s (p + p)) ((tree setting).awaited (dim_of p s) c) none
 
-  pub awaited-in : (s c : ℕ) → s < p + p → awaitedIn s c ≡ (tree setting).awaited (dim_of p s) c
-  awaited-in s c h = go (dec_lt s (p + p))
+  pub awaited_in_lem : (s c : ℕ) → s < p + p → awaited_in s c ≡ (tree setting).awaited (dim_of p s) c
+  awaited_in_lem s c h = go (dec_lt s (p + p))
     where
       go : (d : Dec (s < p + p)) → pick {A = Option ℕ} d
           ((tree setting).awaited (dim_of p s) c) none ≡ (tree setting).awaited (dim_of p s) c
       go (yes d) = refl
       go (no d) = absurd (d h)
 
-  pub awaited-below : (s c a : ℕ) → awaitedIn s c ≡ some a
+  pub awaited_below : (s c a : ℕ) → awaited_in s c ≡ some a
       → (s < p + p) × ((tree setting).awaited (dim_of p s) c ≡ some a)
-  awaited-below s c a h = go (dec_lt s (p + p)) h
+  awaited_below s c a h = go (dec_lt s (p + p)) h
     where
       go : (d : Dec (s < p + p)) → pick {A = Option ℕ} d ((tree setting).awaited (dim_of p s) c) none ≡ some a
           → (s < p + p) × ((tree setting).awaited (dim_of p s) c ≡ some a)
@@ -121,8 +121,8 @@ module _ {L : Limits} {P : ℕ} (setting : Setting L P) where
     pub from : m.from ≡ u.item.from
     pub to : m.to ≡ u.item.to
     pub phase : m.phase ≡ u.phase
-    pub from-lt : m.from < P
-    pub to-lt : m.to < P
+    pub from_lt : m.from < P
+    pub to_lt : m.to < P
     pub load : Loads m.from m.phase m.load u.item.load
 
   -- the board is as the ledger says
@@ -131,7 +131,7 @@ module _ {L : Limits} {P : ℕ} (setting : Setting L P) where
     pub node : (y : ℕ) → y < P → Holds y (w.count y) (w.nodes y) (state_of B y)
     pub busy : (y : ℕ) → y < P → (w.nodes y).busy ≡ w.busy y
     pub items : Pair Carried w.items B.items
-    pub win : Window awaitedIn B.phase (has_stored B) B.items
+    pub win : Window awaited_in B.phase (has_stored B) B.items
     pub capped : (n y : ℕ) → y < P → ((B.pages n).nodes y).tallies sent_all ≤ L.sends
 
   -- ---- a node has changed in its phase
@@ -140,7 +140,7 @@ module _ {L : Limits} {P : ℕ} (setting : Setting L P) where
       (e : u.nodes ≡ update (B.pages (B.phase a)).nodes a v)
       (n : Node) (ok : Holds a (w.count a) n v) (cap : v.tallies sent_all ≤ L.sends) where
     pub acted : (is : List Item) (ms : List Dated) → Pair Carried is ms
-        → Window awaitedIn B.phase (has_stored (ledger_with B (B.phase a) u ms)) ms
+        → Window awaited_in B.phase (has_stored (ledger_with B (B.phase a) u ms)) ms
         → (busy : ℕ → Bool) → n.busy ≡ busy a → ((y : ℕ) → y ≢ a → busy y ≡ w.busy y)
         → (untaken : ℕ → Option ℕ) (sends : ℕ)
         → Sim (record {
@@ -198,7 +198,7 @@ module _ {L : Limits} {P : ℕ} (setting : Setting L P) where
   -- other items and other history
   pub carried : {w : Board} {B : Ledger} → Sim w B → (is : List Item) (ms : List Dated) → Pair Carried is ms
       → (ps : ℕ → Page) → ((n y : ℕ) → (ps n).nodes y ≡ (B.pages n).nodes y)
-      → Window awaitedIn B.phase (has_stored B) ms → (untaken : ℕ → Option ℕ) (sends : ℕ)
+      → Window awaited_in B.phase (has_stored B) ms → (untaken : ℕ → Option ℕ) (sends : ℕ)
       → Sim (record {
         nodes = w.nodes;
         items = is;

@@ -17,21 +17,21 @@ use Rattle.events.specs.Board.{put, work, Item, Board, delivers, gave, carries, 
 use Rattle.cycle.proofs.OnePhase.{message, report, State, at_step, with_tallies, bump_taken, Content}
 use Rattle.cycle.proofs.OnePhase.{Shell}
 use Rattle.cycle.proofs.Ledger.{Dated, Page, Ledger, Reached}
-use Rattle.cycle.proofs.Reached.{message-holds}
+use Rattle.cycle.proofs.Reached.{message_holds}
 use Rattle.cycle.proofs.Events.{state_of, ledger_with, page_taken}
-use Rattle.cycle.proofs.Events.{act-take}
+use Rattle.cycle.proofs.Events.{act_take}
 use Rattle.events.proofs.Tools.{put_same, put_other}
 use Rattle.events.proofs.PhaseByte.{apart_same}
-use Rattle.events.proofs.Setting.{Setting, tree, dim-low, dim-pos, shell-ok, shell-lt}
+use Rattle.events.proofs.Setting.{Setting, tree, dim_low, dim_pos, shell_ok_lem, shell_lt}
 use Rattle.node.proofs.Ways.{TakeWay}
-use Rattle.events.proofs.Changes.{like-taken}
+use Rattle.events.proofs.Changes.{like_taken}
 use Rattle.events.proofs.Pairs.{Cut, Found}
 use Rattle.events.proofs.Sim.{window_same, Holds, Loads, Carried, Sim}
 use Rattle.events.proofs.Sim.{acted, stored_same}
-use Rattle.events.proofs.Marks.{Marks, marks-take}
-use Rattle.events.proofs.Played.{Played, Next, Mishap, lossy_same, hold, dims-is}
-use Rattle.events.proofs.Arriving.{Arrives, place as place_of, twin as twinOf, sender-lt, receiver-lt, whole, pairs}
-use Rattle.events.proofs.Arriving.{off-win, not-ahead, refused-next}
+use Rattle.events.proofs.Marks.{Marks, marks_take}
+use Rattle.events.proofs.Played.{Played, Next, Mishap, lossy_same, hold, dims_is}
+use Rattle.events.proofs.Arriving.{Arrives, place as place_of, twin as twinOf, sender_lt, receiver_lt, whole, pairs}
+use Rattle.events.proofs.Arriving.{off_win, not_ahead, refused_next}
 
 module _ {L : Limits} {P : ℕ} {setting : Setting L P} {w : Board} (play : Played setting w) where
   abbrev p : ℕ
@@ -56,8 +56,8 @@ module _ {L : Limits} {P : ℕ} {setting : Setting L P} {w : Board} (play : Play
     abbrev twin : Cut (Carried setting) place.pre place.post m ledger.items
     twin = twinOf play arrival
 
-    pub message-of : (kind : Kind) (byte : ℕ) → m.load ≡ work kind byte → (twin.one.item.load ≡ message) × (byte ≡ m.phase % 256)
-    message-of kind byte q =
+    pub message_of : (kind : Kind) (byte : ℕ) → m.load ≡ work kind byte → (twin.one.item.load ≡ message) × (byte ≡ m.phase % 256)
+    message_of kind byte q =
         go twin.one.item.load refl (subst
         (λ l. Loads setting m.from m.phase l twin.one.item.load) q twin.related.load)
       where
@@ -72,23 +72,23 @@ module _ {L : Limits} {P : ℕ} {setting : Setting L P} {w : Board} (play : Play
       -- while it is under way nobody has left its phase
       pub not_behind : (y : ℕ) → y < P → ledger.phase y ≤ m.phase
       not_behind =
-          message-holds reached twin.pre twin.post
+          message_holds reached twin.pre twin.post
           (record { phase = m.phase; item = record { from = a; to = b; load = message } })
           (whole play arrival message lj) refl
 
-      pub same-phase : difference byte (w.nodes b).phase ≡ 0 → m.phase ≡ ledger.phase b
-      same-phase q =
-          apart_same m.phase (ledger.phase b) (not-ahead play arrival)
-          (omega (arith, not_behind b (receiver-lt play arrival)))
+      pub same_phase : difference byte (w.nodes b).phase ≡ 0 → m.phase ≡ ledger.phase b
+      same_phase q =
+          apart_same m.phase (ledger.phase b) (not_ahead play arrival)
+          (omega (arith, not_behind b (receiver_lt play arrival)))
           (ap (λ x. (x + 256 - ledger.phase b % 256) % 256) (sym by)
           ∙ ap (λ x. (byte + 256 - x) % 256)
-          (sym ((hold play b (receiver-lt play arrival)).phase ∙ ap (λ n. n % 256) (sim.counts b)))
+          (sym ((hold play b (receiver_lt play arrival)).phase ∙ ap (λ n. n % 256) (sim.counts b)))
           ∙ q)
 
       pub take_next : (q : Given Outcome) → take L (w.nodes b) kind a byte ≡ q → TakeWay L (w.nodes b) kind a byte q
           → Next setting w play (delivers a b) (after_take (gave w b q.node) a b m kind q.answer)
       take_next q eq (TakeWay.refused x s) =
-          refused-next play arrival x (λ z. Mishap.badTake a b m kind byte x arrival.first lw
+          refused_next play arrival x (λ z. Mishap.bad_take a b m kind byte x arrival.first lw
           (ap (λ (q : Given Outcome). q.answer) eq) z)
       take_next q eq (TakeWay.done va a1 a2 df cap) =
           subst (λ l. Next setting w play (delivers a b) (carries (after_take (gave w b n') a b m kind done) l))
@@ -97,28 +97,28 @@ module _ {L : Limits} {P : ℕ} {setting : Setting L P} {w : Board} (play : Play
             played = record {
               ledger = ledger_with ledger (ledger.phase b) u ms;
               reached = Reached.next reached
-                  (act-take reached twin.pre twin.post m.phase a b j (wakes kind (state_of ledger b).busy)
-                  (whole play arrival message lj) ph (sender-lt play arrival) (receiver-lt play arrival) jp shell);
+                  (act_take reached twin.pre twin.post m.phase a b j (wakes kind (state_of ledger b).busy)
+                  (whole play arrival message lj) ph (sender_lt play arrival) (receiver_lt play arrival) jp shell);
               sim =
-                  acted setting sim b (receiver-lt play arrival) u v refl n' ok'
-                  (sim.capped (ledger.phase b) b (receiver-lt play arrival))
+                  acted setting sim b (receiver_lt play arrival) u v refl n' ok'
+                  (sim.capped (ledger.phase b) b (receiver_lt play arrival))
                   (place.pre ++ place.post) ms (pairs play arrival) (window_same
-                  (stored_same setting sim b (receiver-lt play arrival) u v refl n' ok'
-                  (sim.capped (ledger.phase b) b (receiver-lt play arrival)) ms
-                  (λ s. refl)) (off-win play arrival))
+                  (stored_same setting sim b (receiver_lt play arrival) u v refl n' ok'
+                  (sim.capped (ledger.phase b) b (receiver_lt play arrival)) ms
+                  (λ s. refl)) (off_win play arrival))
                   (put w.busy b busy)
-                  (ap (wakes kind) (sim.busy b (receiver-lt play arrival)) ∙ sym (put_same w.busy b busy))
+                  (ap (wakes kind) (sim.busy b (receiver_lt play arrival)) ∙ sym (put_same w.busy b busy))
                   (λ y z. put_other w.busy b busy y z) _ w.sends;
               marks =
-                  marks-take P w.untaken w.sends place.pre place.post m ledger
+                  marks_take P w.untaken w.sends place.pre place.post m ledger
                   (subst (λ l. Marks P w.untaken w.sends l ledger) place.whole marks)
-                  (kind, (byte, lw)) a b v ms (receiver-lt play arrival) ph refl;
+                  (kind, (byte, lw)) a b v ms (receiver_lt play arrival) ph refl;
             };
             calm = inl (lossy_same ledger (ledger.phase b) u ms refl);
           })
         where
           o : Holds setting b (w.count b) (w.nodes b) (state_of ledger b)
-          o = hold play b (receiver-lt play arrival)
+          o = hold play b (receiver_lt play arrival)
 
           j : ℕ
           j = distance (w.nodes b).nodes (w.nodes b).number a
@@ -144,21 +144,21 @@ module _ {L : Limits} {P : ℕ} {setting : Setting L P} {w : Board} (play : Play
           ms = twin.pre ++ twin.post
 
           ph : m.phase ≡ ledger.phase b
-          ph = same-phase df
+          ph = same_phase df
 
           ne : b ≢ a
-          ne z = a2 (sym z ∙ sym (hold play b (receiver-lt play arrival)).number)
+          ne z = a2 (sym z ∙ sym (hold play b (receiver_lt play arrival)).number)
 
-          j-is : distance P b a ≡ distance (w.nodes b).nodes (w.nodes b).number a
-          j-is = rw ((hold play b (receiver-lt play arrival)).nodes, (hold play b (receiver-lt play arrival)).number) refl
+          j_is : distance P b a ≡ distance (w.nodes b).nodes (w.nodes b).number a
+          j_is = rw ((hold play b (receiver_lt play arrival)).nodes, (hold play b (receiver_lt play arrival)).number) refl
 
           shell : Shell (tree setting) b a (distance (w.nodes b).nodes (w.nodes b).number a)
           shell =
-              subst (Shell (tree setting) b a) j-is
-              (shell-ok setting b a (receiver-lt play arrival) (sender-lt play arrival) ne)
+              subst (Shell (tree setting) b a) j_is
+              (shell_ok_lem setting b a (receiver_lt play arrival) (sender_lt play arrival) ne)
 
           jp : distance (w.nodes b).nodes (w.nodes b).number a < p
-          jp = omega (arith, j-is, shell-lt setting b a (receiver-lt play arrival) (sender-lt play arrival) ne)
+          jp = omega (arith, j_is, shell_lt setting b a (receiver_lt play arrival) (sender_lt play arrival) ne)
 
           ok' : Holds setting b (w.count b) n' v
           ok' =
@@ -167,7 +167,7 @@ module _ {L : Limits} {P : ℕ} {setting : Setting L P} {w : Board} (play : Play
                 number = o.number;
                 phase = o.phase;
                 pass = inl refl;
-                low = dim-pos setting;
+                low = dim_pos setting;
                 sized =
                     record {
                       sent = o.sized.sent;
@@ -177,7 +177,7 @@ module _ {L : Limits} {P : ℕ} {setting : Setting L P} {w : Board} (play : Play
                       second = o.sized.second;
                     };
                 like =
-                    like-taken p (w.nodes b) (state_of ledger b) (dims-is play b (receiver-lt play arrival))
+                    like_taken p (w.nodes b) (state_of ledger b) (dims_is play b (receiver_lt play arrival))
                     o.like kind j jp
-                    (omega (arith, o.sized.taken, jp, dim-low setting));
+                    (omega (arith, o.sized.taken, jp, dim_low setting));
               }

@@ -22,7 +22,7 @@ use Rattle.cycle.proofs.Sums.{pick}
 use Rattle.cycle.proofs.Exact.{Entry, sent_to, taken_from, sent_all, taken_all, Entries, entry_of, own_sums}
 use Rattle.cycle.proofs.OnePhase.{State, confirming, Agrees, Above}
 use Rattle.node.specs.Sums.{Has}
-use Rattle.node.proofs.Clauses.{has_lower, first-agrees, second-agrees}
+use Rattle.node.proofs.Clauses.{has_lower, first_agrees, second_agrees}
 
 -- what an array of stored frames gives past its end
 abbrev pub past_end : Stored
@@ -147,24 +147,24 @@ module _ (p : ℕ) (v u : State) (like : Like p v u) where
       let z = alike_entry p k (v.stored k) (u.stored k) (like.stored k (omega arith)) f q in
       omega arith
 
-  pub own2-like : (k : ℕ) → k ≤ p → own_sums v.tallies (λ i. v.stored (p + i)) k sent_all ≡ own_sums u.tallies
+  pub own2_like : (k : ℕ) → k ≤ p → own_sums v.tallies (λ i. v.stored (p + i)) k sent_all ≡ own_sums u.tallies
       (λ i. u.stored (p + i)) k sent_all
-  own2-like zero l = like.tallies sent_all tt
-  own2-like (suc k) l =
-      let r = own2-like k (omega arith) in
+  own2_like zero l = like.tallies sent_all tt
+  own2_like (suc k) l =
+      let r = own2_like k (omega arith) in
       let z = alike_entry p (p + k) (v.stored (p + k)) (u.stored (p + k))
       (like.stored (p + k) (omega arith)) sent_all tt in
       omega arith
 
-  above-shown : (s : ℕ) (f : Entry) → Above s p f → Has p s (field_of f)
-  above-shown s (sent_to j) h = omega arith
-  above-shown s (taken_from j) h = omega arith
-  above-shown s sent_all h = tt
-  above-shown s taken_all h = tt
+  above_shown : (s : ℕ) (f : Entry) → Above s p f → Has p s (field_of f)
+  above_shown s (sent_to j) h = omega arith
+  above_shown s (taken_from j) h = omega arith
+  above_shown s sent_all h = tt
+  above_shown s taken_all h = tt
 
-  pub agree-like : (limit s : ℕ) (o : Option ℕ) → s < p + p → Agrees p limit v s o → Agrees p limit u s o
-  agree-like limit s o b Agrees.alone = Agrees.alone
-  agree-like limit s o b (Agrees.first w x l g c1 c2 c3 c4) =
+  pub agree_like : (limit s : ℕ) (o : Option ℕ) → s < p + p → Agrees p limit v s o → Agrees p limit u s o
+  agree_like limit s o b Agrees.alone = Agrees.alone
+  agree_like limit s o b (Agrees.first w x l g c1 c2 c3 c4) =
       go (u.stored s) refl (subst (λ o. Alike p s o (u.stored s)) g (like.stored s b))
     where
       go : (q : Option Entries) → u.stored s ≡ q → Alike p s (some x) q → Agrees p limit u s (some w)
@@ -173,7 +173,7 @@ module _ (p : ℕ) (v u : State) (like : Like p v u) where
           Agrees.first w y l e (sym (own_like s (omega arith) (sent_to s) (omega arith)) ∙ c1
           ∙ h (taken_from s) (omega arith))
           (sym (own_like s (omega arith) (taken_from s) (omega arith)) ∙ c2 ∙ h (sent_to s) (omega arith))
-          (λ f a. omega (arith, own_like s (omega arith) f (above-shown s f a), h f (above-shown s f a), c3 f a))
+          (λ f a. omega (arith, own_like s (omega arith) f (above_shown s f a), h f (above_shown s f a), c3 f a))
           (λ z. omega (
             arith,
             own_like s (omega arith) sent_all tt,
@@ -182,15 +182,15 @@ module _ (p : ℕ) (v u : State) (like : Like p v u) where
             h taken_all tt,
             c4 z,
           ))
-  agree-like limit s o b (Agrees.second w x l g c3 c5 c6) =
+  agree_like limit s o b (Agrees.second w x l g c3 c5 c6) =
       go (u.stored s) refl (subst (λ o. Alike p s o (u.stored s)) g (like.stored s b))
     where
       go : (q : Option Entries) → u.stored s ≡ q → Alike p s (some x) q → Agrees p limit u s (some w)
       go none e h = absurd h
       go (some y) e h =
-          Agrees.second w y l e (omega (arith, own2-like (s - p) (omega arith), h sent_all tt))
+          Agrees.second w y l e (omega (arith, own2_like (s - p) (omega arith), h sent_all tt))
           (sym (h taken_all tt) ∙ c5 ∙ like.agreed)
-          (λ z. omega (arith, own2-like (s - p) (omega arith), h sent_all tt, c6 z, like.agreed))
+          (λ z. omega (arith, own2_like (s - p) (omega arith), h sent_all tt, c6 z, like.agreed))
 
 -- ---- agreement, as the proof has it
 
@@ -201,7 +201,7 @@ agree_first L p n k e l a = go (awaited n.nodes k n.number) refl
     go : (o : Option ℕ) → awaited n.nodes k n.number ≡ o → Agrees p (field_limit L) (view p n) k o
     go none q = Agrees.alone
     go (some w) q =
-        let c = first-agrees L n k a (ap is_none q) in
+        let c = first_agrees L n k a (ap is_none q) in
         Agrees.first w (first_entries (first_at n k)) l
         (slots_first p n k l ∙ choose_yes (some (first_entries (first_at n k))) none c.stored)
         (sym (own_is p n k (omega arith) (sent_to k)) ∙ c.sent)
@@ -232,7 +232,7 @@ agree_second L p n k e l a = go (awaited n.nodes k n.number) refl
     go : (o : Option ℕ) → awaited n.nodes k n.number ≡ o → Agrees p (field_limit L) (view p n) (p + k) o
     go none q = Agrees.alone
     go (some w) q =
-        let c = second-agrees L n k a (ap is_none q) in
+        let c = second_agrees L n k a (ap is_none q) in
         Agrees.second w (second_entries (second_at n k)) (omega arith)
         (slots_second p n k ∙ choose_yes (some (second_entries (second_at n k))) none c.stored)
         (omega (arith, own2, c.within)) c.same (λ u. omega (arith, own2, c.last (omega arith)))

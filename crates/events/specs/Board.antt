@@ -190,26 +190,26 @@ module _ (L : Limits) (P : ℕ) where
       let r = frame_in L (w.nodes b) bytes in after_frame (gave w b r.node) a b r.answer
 
   -- with nothing on the link nothing happens
-  abbrev pub deliveredOldest : Board → ℕ → ℕ → Option Item → Board
-  deliveredOldest w a b none = w
-  deliveredOldest w a b (some m) = delivered w a b m m.load
+  abbrev pub delivered_oldest : Board → ℕ → ℕ → Option Item → Board
+  delivered_oldest w a b none = w
+  delivered_oldest w a b (some m) = delivered w a b m m.load
 
-  abbrev pub sendEvent : Board → Kind → ℕ → ℕ → Board
-  sendEvent w kind a b = let r = send L (w.nodes a) b in after_send (gave w a r.node) kind a b r.answer
+  abbrev pub send_event : Board → Kind → ℕ → ℕ → Board
+  send_event w kind a b = let r = send L (w.nodes a) b in after_send (gave w a r.node) kind a b r.answer
 
-  abbrev pub idleEvent : Board → ℕ → Board
-  idleEvent w a = let r = idle L (w.nodes a) in after_idle (gave w a r.node) a r.answer
+  abbrev pub idle_event : Board → ℕ → Board
+  idle_event w a = let r = idle L (w.nodes a) in after_idle (gave w a r.node) a r.answer
 
-  abbrev pub callEvent : Board → ℕ → ℕ → Board
-  callEvent w a room =
+  abbrev pub call_event : Board → ℕ → ℕ → Board
+  call_event w a room =
       let r = barrier L (w.nodes a) room in after_call (gave w a r.node) a (w.nodes a) r.answer
 
   -- a call is at a node of the board
   unfoldable pub step : Board → Event → Board
-  step w (sends kind a b) = choose (ltb a P) (sendEvent w kind a b) w
-  step w (idles a) = choose (ltb a P) (idleEvent w a) w
-  step w (calls a room) = choose (ltb a P) (callEvent w a room) w
-  step w (delivers a b) = deliveredOldest w a b (oldest a b w.items)
+  step w (sends kind a b) = choose (ltb a P) (send_event w kind a b) w
+  step w (idles a) = choose (ltb a P) (idle_event w a) w
+  step w (calls a room) = choose (ltb a P) (call_event w a room) w
+  step w (delivers a b) = delivered_oldest w a b (oldest a b w.items)
   step w (loses j) = carries w (less_one j w.items)
 
   abbrev pub after : Board → List Event → Board

@@ -1,5 +1,7 @@
 // What the frame writer asks of a frame's fields before it writes, in the order of rule R3.
 // Any words and number of nodes may be handed; what is not allowed is refused with its number.
+#![tactic(auto)]
+
 ghost use Rattle.std.specs.Prelude.{◌≡◌};
 ghost use Rattle.base.specs.Limits.{limits_of};
 ghost use Rattle.tree.specs.Lookups.{found_answer};

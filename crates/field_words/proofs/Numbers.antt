@@ -27,14 +27,14 @@ none_low x = go (ℕ_discrete x 0)
 
 -- the tallies that words hold
 module _ (ws : List ℕ) (m : ℕ) (h : m < width) where
-  pub sent-held : sent_at (frame_from ws).sent m ≡ get_or ws (at_sent m) 0
+  pub sent_held_lem : sent_at (frame_from ws).sent m ≡ get_or ws (at_sent m) 0
   unfolding frame_from
-  sent-held =
+  sent_held_lem =
       ap (λ (x : Sent). x.0) (list_at width (λ i. sent_number (get_or ws (at_sent i) 0)) m (sent_number 0) h)
 
-  pub taken-held : taken_at (frame_from ws).taken m ≡ get_or ws (at_taken m) 0
+  pub taken_held_lem : taken_at (frame_from ws).taken m ≡ get_or ws (at_taken m) 0
   unfolding frame_from
-  taken-held =
+  taken_held_lem =
       ap (λ (x : Taken). x.0) (list_at width (λ i. taken_number (get_or ws (at_taken i) 0)) m (taken_number 0) h)
 
 module _ (L : Limits) (p : ℕ) (ws : List ℕ) where
@@ -44,12 +44,12 @@ module _ (L : Limits) (p : ℕ) (ws : List ℕ) where
 
   shell_low_lem : (m : ℕ) → m < width → shell_low (field_limit L) p ws m ≡ shell_ok L p (frame_from ws) m
   unfolding shell_low shell_ok frame_from
-  shell_low_lem m h = rw (sent-held ws m h, taken-held ws m h, number_low, number_low)
+  shell_low_lem m h = rw (sent_held_lem ws m h, taken_held_lem ws m h, number_low, number_low)
 
-  pub numbers-held : both (every 0 width (shell_low (field_limit L) p ws)) (totals_low (field_limit L) ws)
+  pub numbers_held : both (every 0 width (shell_low (field_limit L) p ws)) (totals_low (field_limit L) ws)
       ≡ numbers_ok L p (frame_from ws)
   unfolding numbers_ok shell_ok totals_low frame_from
-  numbers-held =
+  numbers_held =
       rw (
         every_same 0 width (shell_low (field_limit L) p ws) (shell_ok L p (frame_from ws)) (λ m a b. shell_low_lem m b),
         number_low,

@@ -1,5 +1,7 @@
 // The words of a frame's fields: their places, and the test of the numbers in them.
 // Any words and limits may be handed.
+#![tactic(auto)]
+
 ghost use Rattle.std.specs.Prelude.{◌≡◌, ◌<◌};
 ghost use Rattle.base.specs.Choice.{every};
 ghost use Rattle.base.specs.Limits.{limits_of, width};

@@ -1,6 +1,8 @@
 // The frame writer for tools and tests: from a frame's fields as words into a buffer, both lent.
 // Any words, buffer and number of nodes may be handed; what is not allowed is refused with its number (rule R3),
 // and a refused call leaves the buffer.
+#![tactic(auto)]
+
 ghost use Rattle.std.specs.Prelude.{◌≡◌, ◌≤◌, ◌<◌, length, get_or};
 ghost use Rattle.base.specs.Limits.{base, limits_of, width};
 ghost use Rattle.tree.specs.Lookups.{found_answer};

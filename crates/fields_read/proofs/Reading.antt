@@ -13,8 +13,8 @@ use Rattle.frame.specs.declared.Frame.{Frame}
 use Rattle.frame.specs.declared.Outcome.TheVariants.{Done, Refused}
 use Rattle.frame.proofs.Answers.{answer_refused, answer_done}
 use Rattle.frame.proofs.Writing.{first_length_lem, second_length}
-use Rattle.frame.proofs.RoundTripAccepted.{Read, read_known, head-pass, head-dim}
-use Rattle.wire_read.proofs.Within.{few, fields-second}
+use Rattle.frame.proofs.RoundTripAccepted.{Read, read_known, head_pass, head_dim}
+use Rattle.wire_read.proofs.Within.{few, fields_second}
 use Rattle.field_words.specs.Words.{field_words, frame_words}
 use Rattle.fields_read.specs.Pieces.{dims_by}
 
@@ -40,13 +40,13 @@ module _ (L : Limits) (P : ℕ) (bs : List ℕ) (good : answer_of (read_frame L 
 
   -- the dimension is one of the board, and the length is that of a frame of the pass
   low : k < p
-  low = rw (head-dim p bs) at read.accepted.dim
+  low = rw (head_dim p bs) at read.accepted.dim
 
   count : length bs ≡ frame_length p (get_or bs 0 0) k
-  count = rw (head-pass p bs, head-dim p bs) at read.count
+  count = rw (head_pass p bs, head_dim p bs) at read.count
 
   pass : (get_or bs 0 0 ≡ 1) ⊎ (get_or bs 0 0 ≡ 2)
-  pass = rw (head-pass p bs) at read.accepted.pass
+  pass = rw (head_pass p bs) at read.accepted.pass
 
   -- by the pass: the length says how many shells there are, or there are none
   sized : (get_or bs 0 0 ≡ 1) ⊎ (get_or bs 0 0 ≡ 2)
@@ -59,14 +59,14 @@ module _ (L : Limits) (P : ℕ) (bs : List ℕ) (good : answer_of (read_frame L 
       let l = second_length p (get_or bs 0 0) k (λ e. omega arith) in (
         omega (arith, count, l),
         omega (arith, count, l, low),
-        fields-second (dims_by bs) bs (λ e. omega arith) ∙ sym (fields-second p bs (λ e. omega arith)),
+        fields_second (dims_by bs) bs (λ e. omega arith) ∙ sym (fields_second p bs (λ e. omega arith)),
       )
 
-  pub frame-long : 12 ≤ length bs
-  frame-long = (sized pass).0
+  pub frame_long : 12 ≤ length bs
+  frame_long = (sized pass).0
 
-  pub dims-low : Fits L → dims_by bs ≤ width
-  dims-low fit = omega (arith, (sized pass).1, few L fit P p read.accepted.board refl)
+  pub dims_low : Fits L → dims_by bs ≤ width
+  dims_low fit = omega (arith, (sized pass).1, few L fit P p read.accepted.board refl)
 
   pub is_read : (ws after : List ℕ) → after ≡ field_words (fields_of (dims_by bs) bs)
       → (Done ≡ answer_of (read_frame L P bs)) × (after ≡ frame_words (read_frame L P bs) ws)

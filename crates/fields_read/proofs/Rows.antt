@@ -122,8 +122,8 @@ shell_after p k bs start m =
 -- ---- the words of a frame
 
 module _ (bs fs : List ℕ) (e : fs ≡ head_words bs) where
-  pub head-known : (length fs ≡ fields_end) × (part fs (at_sent 0) width ≡ list 0 width none)
-  head-known = rw e (refl, refl)
+  pub head_known : (length fs ≡ fields_end) × (part fs (at_sent 0) width ≡ list 0 width none)
+  head_known = rw e (refl, refl)
 
   -- pass 1: a row of tallies sent, one of tallies taken, both totals
   module _ (n : ℕ) (xs : List ℕ) (a : xs ≡ list 0 width (shell_at (get_or bs 2 0 + n) (get_or bs 2 0) bs 0)) where
@@ -131,8 +131,8 @@ module _ (bs fs : List ℕ) (e : fs ≡ head_words bs) where
     abbrev sents : List ℕ
     sents = put_mid (at_sent 0) width fs xs
 
-    pub row-known : (length sents ≡ fields_end) × (part sents (at_taken 0) width ≡ list 0 width none)
-    row-known = rw (e, a) (refl, refl)
+    pub row_known : (length sents ≡ fields_end) × (part sents (at_taken 0) width ≡ list 0 width none)
+    row_known = rw (e, a) (refl, refl)
 
     module _ (ys : List ℕ)
         (b : ys ≡ list 0 width (shell_at (get_or bs 2 0 + n) (get_or bs 2 0) (rest bs (4 * n)) 0)) where
@@ -140,21 +140,21 @@ module _ (bs fs : List ℕ) (e : fs ≡ head_words bs) where
       abbrev rows : List ℕ
       rows = put_mid (at_taken 0) width sents ys
 
-      pub rows-known : length rows ≡ fields_end
-      rows-known = rw (e, a, b)
+      pub rows_known : length rows ≡ fields_end
+      rows_known = rw (e, a, b)
 
-      pub first-put : (zs : List ℕ) → 12 + 8 * n ≤ length bs
+      pub first_put_lem : (zs : List ℕ) → 12 + 8 * n ≤ length bs
           → zs ≡ numbers_from (rest bs (8 * n)) (part rows at_issued 2)
           → put_mid at_issued 2 rows zs ≡ field_words (first_fields (get_or bs 2 0 + n) bs)
       unfolding field_words
-      first-put zs h c =
+      first_put_lem zs h c =
           let k : ℕ = get_or bs 2 0 in
           let d : k + n - k ≡ n = omega arith in
           let z : 8 * n ≡ 4 * (2 * n) = omega arith in
           let u : ys ≡ list 0 width (shell_at (k + n) k bs n) =
           b ∙ list_same 0 width _ _ (λ m l r. shell_after (k + n) k bs n m) in
           let t : zs ≡ list 0 2 (number_at (rest bs (8 * n))) =
-          part_copied (rest bs (8 * n)) rows zs at_issued 2 (omega (arith, rows-known))
+          part_copied (rest bs (8 * n)) rows zs at_issued 2 (omega (arith, rows_known))
           (rw (length_rest bs (8 * n)) (omega arith)) c in
           let v : zs ≡ number_at bs (2 * n) ∷ number_at bs (2 * n + 1) ∷ [] =
           t ∙ rw (z, number_after bs (2 * n) 0, number_after bs (2 * n) 1, add-zero (2 * n)) in
@@ -163,17 +163,17 @@ module _ (bs fs : List ℕ) (e : fs ≡ head_words bs) where
   -- pass 2: T and total sent
   module _ (long : 12 ≤ length bs) (xs : List ℕ) (a : xs ≡ numbers_from bs (part fs at_agreed 1)) where
     agreed : xs ≡ list 0 1 (number_at bs)
-    agreed = part_copied bs fs xs at_agreed 1 (omega (arith, head-known.0)) (omega arith) a
+    agreed = part_copied bs fs xs at_agreed 1 (omega (arith, head_known.0)) (omega arith) a
 
-    pub agreed-known : length (put_mid at_agreed 1 fs xs) ≡ fields_end
-    agreed-known = rw (e, agreed)
+    pub agreed_known : length (put_mid at_agreed 1 fs xs) ≡ fields_end
+    agreed_known = rw (e, agreed)
 
-    pub second-put : (ys : List ℕ) → ys ≡ numbers_from (rest bs 4) (part (put_mid at_agreed 1 fs xs) at_issued 1)
+    pub second_put_lem : (ys : List ℕ) → ys ≡ numbers_from (rest bs 4) (part (put_mid at_agreed 1 fs xs) at_issued 1)
         → put_mid at_issued 1 (put_mid at_agreed 1 fs xs) ys ≡ field_words (second_fields bs)
     unfolding field_words
-    second-put ys b =
+    second_put_lem ys b =
         let t : ys ≡ list 0 1 (number_at (rest bs 4)) =
-        part_copied (rest bs 4) (put_mid at_agreed 1 fs xs) ys at_issued 1 (omega (arith, agreed-known))
+        part_copied (rest bs 4) (put_mid at_agreed 1 fs xs) ys at_issued 1 (omega (arith, agreed_known))
         (rw (length_rest bs 4) (omega arith)) b in
         let v : ys ≡ number_at bs 1 ∷ [] = t ∙ rw (number_after bs 1 0) in
         rw (e, agreed, v)

@@ -1,6 +1,8 @@
 // The frame reader for tools and tests: from bytes into a frame's fields as words, both lent.
 // Any bytes, words and number of nodes may be handed; what is not allowed is refused with its number (rule R3),
 // and a refused call leaves the words.
+#![tactic(auto)]
+
 ghost use Rattle.std.specs.Prelude.{◌≡◌, ◌+◌, ◌*◌, ◌≤◌, length};
 ghost use Rattle.base.specs.Choice.{list};
 ghost use Rattle.base.specs.Limits.{limits_of, width};

@@ -10,9 +10,9 @@ use Rattle.frame.specs.declared.Outcome.TheVariants.{Done, Refused}
 use Rattle.frame.specs.Frame.{bad_step, frame_length, numbers_ok, fields_of, read_frame, answer_of}
 
 module _ (L : Limits) (P : ℕ) (bs : List ℕ) where
-  pub read-board : bad_board L P ≡ true → read_frame L P bs ≡ refused 1
+  pub read_board : bad_board L P ≡ true → read_frame L P bs ≡ refused 1
   unfolding read_frame
-  read-board g = rw g
+  read_board g = rw g
 
   module _ (p : ℕ) (g : bad_board L P ≡ false) (e : p ≡ dimension P) where
     pub read_short : length bs < 4 → read_frame L P bs ≡ refused 9
@@ -30,14 +30,14 @@ module _ (L : Limits) (P : ℕ) (bs : List ℕ) where
         read_length l = rw (g, le-ltb (length bs) 4 h, ← e, s, ne_eqb _ _ l)
 
         module _ (l : length bs ≡ frame_length p (get_or bs 0 0) (get_or bs 2 0)) where
-          pub read-numbers : numbers_ok L p (fields_of p bs) ≡ false → read_frame L P bs ≡ refused 10
+          pub read_numbers : numbers_ok L p (fields_of p bs) ≡ false → read_frame L P bs ≡ refused 10
           unfolding read_frame
-          read-numbers n = rw (g, le-ltb (length bs) 4 h, ← e, s, eq-eqb _ _ l, n)
+          read_numbers n = rw (g, le-ltb (length bs) 4 h, ← e, s, eq-eqb _ _ l, n)
 
           module _ (n : numbers_ok L p (fields_of p bs) ≡ true) where
-            pub read-stranger : P ≤ get_or bs 3 0 → read_frame L P bs ≡ refused 2
+            pub read_stranger : P ≤ get_or bs 3 0 → read_frame L P bs ≡ refused 2
             unfolding read_frame
-            read-stranger r = rw (g, le-ltb (length bs) 4 h, ← e, s, eq-eqb _ _ l, n, le-leb P (get_or bs 3 0) r)
+            read_stranger r = rw (g, le-ltb (length bs) 4 h, ← e, s, eq-eqb _ _ l, n, le-leb P (get_or bs 3 0) r)
 
             pub read_found : get_or bs 3 0 < P → read_frame L P bs ≡ found (fields_of p bs)
             unfolding read_frame

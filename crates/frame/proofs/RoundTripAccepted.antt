@@ -4,7 +4,7 @@ use Rattle.std.proofs.Common.{◌≡◌, ℕ, ◌+◌, ◌-◌, ◌*◌, ◌^◌
 use borrow.Author.Tests.{lt-leb, not-false}
 use Rattle.base.specs.Limits.{Limits, field_limit, width, base}
 use Rattle.base.specs.Refusal.{Refusal, refused, found, Check, when}
-use Rattle.base.proofs.Laws.{choose_yes, choose_no, cases, Passes, order-passes, checks_known}
+use Rattle.base.proofs.Laws.{choose_yes, choose_no, cases, Passes, order_passes, checks_known}
 use Rattle.tree.specs.Tree.{dimension}
 use Rattle.tree.specs.Lookups.{bad_board}
 use Rattle.tree.proofs.Dimension.{smallest}
@@ -41,21 +41,21 @@ abbrev pub size : ℕ → Frame → ℕ
 size P f = frame_length (dimension P) f.pass f.dim
 
 module _ (P : ℕ) (f : Frame) where
-  pub size-first : f.pass ≡ 1 → size P f ≡ 4 + 8 * (dimension P - f.dim) + 8
+  pub size_first : f.pass ≡ 1 → size P f ≡ 4 + 8 * (dimension P - f.dim) + 8
   unfolding frame_length
-  size-first e = choose_yes _ _ (eq-eqb f.pass 1 e)
+  size_first e = choose_yes _ _ (eq-eqb f.pass 1 e)
 
-  pub size-second : f.pass ≡ 2 → size P f ≡ 12
+  pub size_second : f.pass ≡ 2 → size P f ≡ 12
   unfolding frame_length
-  size-second e = choose_no _ _ (ne_eqb f.pass 1 (λ q. omega arith))
+  size_second e = choose_no _ _ (ne_eqb f.pass 1 (λ q. omega arith))
 
   size_low : 4 ≤ size P f
   unfolding frame_length
   size_low = cases (λ n. 4 ≤ n) (eqb f.pass 1) _ _ (λ e. omega arith) (λ e. omega arith)
 
-  pub size-high : dimension P ≤ width → size P f ≤ 4 + 8 * width + 8
+  pub size_high : dimension P ≤ width → size P f ≤ 4 + 8 * width + 8
   unfolding frame_length
-  size-high h = cases (λ n. n ≤ 4 + 8 * width + 8) (eqb f.pass 1) _ _ (λ e. omega arith) (λ e. omega arith)
+  size_high h = cases (λ n. n ≤ 4 + 8 * width + 8) (eqb f.pass 1) _ _ (λ e. omega arith) (λ e. omega arith)
 
 -- ---- the writer
 
@@ -97,11 +97,11 @@ module _ (L : Limits) (P : ℕ) (f : Frame) (room : ℕ) where
       }
 
   -- what the writer takes
-  pub write-good : Accepted L P f → size P f ≤ room → write_frame L P f room ≡ found (size P f)
+  pub write_good : Accepted L P f → size P f ≤ room → write_frame L P f room ≡ found (size P f)
   unfolding write_frame write_checks
-  write-good a h =
+  write_good a h =
       let step = step_good _ _ _ a.pass a.dim in
-      order-passes refused (write_checks L P f room) (found (size P f))
+      order_passes refused (write_checks L P f room) (found (size P f))
       (a.board, (step, (ap not a.numbers, (lt-leb P _ a.sender, (le-ltb room (size P f) h, tt)))))
 
 -- ---- the reader
@@ -116,24 +116,24 @@ pub record Read (L : Limits) (P : ℕ) (bs : List ℕ) (f : Frame) : Type 0 wher
 -- the fields of bytes
 module _ (p : ℕ) (bs : List ℕ) where
   -- a fact of the fields of either pass
-  either-pass : (F : Frame → Type 0) → F (first_fields p bs) → F (second_fields bs) → F (fields_of p bs)
+  either_pass : (F : Frame → Type 0) → F (first_fields p bs) → F (second_fields bs) → F (fields_of p bs)
   unfolding fields_of
-  either-pass F a b = cases F (eqb (get_or bs 0 0) 1) (first_fields p bs) (second_fields bs) (λ e. a) (λ e. b)
+  either_pass F a b = cases F (eqb (get_or bs 0 0) 1) (first_fields p bs) (second_fields bs) (λ e. a) (λ e. b)
 
-  pub head-pass : (fields_of p bs).pass ≡ get_or bs 0 0
-  head-pass = either-pass (λ f. f.pass ≡ get_or bs 0 0) refl refl
+  pub head_pass : (fields_of p bs).pass ≡ get_or bs 0 0
+  head_pass = either_pass (λ f. f.pass ≡ get_or bs 0 0) refl refl
 
-  pub head-phase : (fields_of p bs).phase ≡ get_or bs 1 0
-  head-phase = either-pass (λ f. f.phase ≡ get_or bs 1 0) refl refl
+  pub head_phase : (fields_of p bs).phase ≡ get_or bs 1 0
+  head_phase = either_pass (λ f. f.phase ≡ get_or bs 1 0) refl refl
 
-  pub head-dim : (fields_of p bs).dim ≡ get_or bs 2 0
-  head-dim = either-pass (λ f. f.dim ≡ get_or bs 2 0) refl refl
+  pub head_dim : (fields_of p bs).dim ≡ get_or bs 2 0
+  head_dim = either_pass (λ f. f.dim ≡ get_or bs 2 0) refl refl
 
-  pub head-sender : (fields_of p bs).sender ≡ get_or bs 3 0
-  head-sender = either-pass (λ f. f.sender ≡ get_or bs 3 0) refl refl
+  pub head_sender : (fields_of p bs).sender ≡ get_or bs 3 0
+  head_sender = either_pass (λ f. f.sender ≡ get_or bs 3 0) refl refl
 
   shape : Shaped (fields_of p bs)
-  shape = either-pass Shaped (record { sent = refl; taken = refl }) (record { sent = refl; taken = refl })
+  shape = either_pass Shaped (record { sent = refl; taken = refl }) (record { sent = refl; taken = refl })
 
 module _ (L : Limits) (P : ℕ) (bs : List ℕ) where
   abbrev p : ℕ
@@ -151,13 +151,13 @@ module _ (L : Limits) (P : ℕ) (bs : List ℕ) where
         accepted =
             record {
               board = c.0;
-              pass = rw (head-pass p bs) s.0;
-              dim = rw (head-dim p bs) s.1;
+              pass = rw (head_pass p bs) s.0;
+              dim = rw (head_dim p bs) s.1;
               numbers = not-false _ c.1.1.1.1.0;
-              sender = rw (head-sender p bs) (leb-false P _ c.1.1.1.1.1.0);
+              sender = rw (head_sender p bs) (leb-false P _ c.1.1.1.1.1.0);
             };
         shaped = shape p bs;
-        count = rw (head-pass p bs, head-dim p bs) (eqb-true _ _ (not-false _ c.1.1.1.0));
+        count = rw (head_pass p bs, head_dim p bs) (eqb-true _ _ (not-false _ c.1.1.1.0));
       }
 
   -- what the reader's answer says
@@ -166,16 +166,16 @@ module _ (L : Limits) (P : ℕ) (bs : List ℕ) where
   read_known f e = let r = checks_known checks (fields_of p bs) f e in subst (Read L P bs) r.1 (known r.0)
 
   -- what the reader takes
-  pub read-good : Accepted L P (fields_of p bs) → length bs ≡ size P (fields_of p bs)
+  pub read_good_lem : Accepted L P (fields_of p bs) → length bs ≡ size P (fields_of p bs)
       → read_frame L P bs ≡ found (fields_of p bs)
   unfolding read_frame checks
-  read-good a h =
-      let step = step_good _ _ _ (rw (head-pass p bs) at a.pass) (rw (head-dim p bs) at a.dim) in
-      let count = rw (head-pass p bs, head-dim p bs) at h in
+  read_good_lem a h =
+      let step = step_good _ _ _ (rw (head_pass p bs) at a.pass) (rw (head_dim p bs) at a.dim) in
+      let count = rw (head_pass p bs, head_dim p bs) at h in
       let long : 4 ≤ length bs = omega (arith, size_low P (fields_of p bs)) in
-      let sender = lt-leb P _ (rw (head-sender p bs) at a.sender) in
+      let sender = lt-leb P _ (rw (head_sender p bs) at a.sender) in
       let Size-ok = ap not (eq-eqb (length bs) _ count) in
-      order-passes refused checks (found (fields_of p bs))
+      order_passes refused checks (found (fields_of p bs))
       (a.board, (le-ltb (length bs) 4 long, (step, (Size-ok, (ap not a.numbers, (sender, tt))))))
 
 -- ---- the length of a written frame
@@ -183,17 +183,17 @@ module _ (L : Limits) (P : ℕ) (bs : List ℕ) where
 module _ (L : Limits) (P : ℕ) (f : Frame) (room n : ℕ) (wrote : write_frame L P f room ≡ found n) where
   -- a frame of pass 1 has 4 + 8(p − k) + 8 bytes
   pub first_count : f.pass ≡ 1 → n ≡ 4 + 8 * (dimension P - f.dim) + 8
-  first_count e = (write_known L P f room n wrote).count ∙ size-first P f e
+  first_count e = (write_known L P f room n wrote).count ∙ size_first P f e
 
   -- a frame of pass 2 has 12
-  pub second-count : f.pass ≡ 2 → n ≡ 12
-  second-count e = (write_known L P f room n wrote).count ∙ size-second P f e
+  pub second_count : f.pass ≡ 2 → n ≡ 12
+  second_count e = (write_known L P f room n wrote).count ∙ size_second P f e
 
   -- no frame is longer than one of pass 1 with every shell that there is room for
   pub longest : Small L → n ≤ 4 + 8 * width + 8
   longest small =
       let w = write_known L P f room n wrote in
-      omega (arith, w.count, size-high P f (board_width L P small w.accepted.board))
+      omega (arith, w.count, size_high P f (board_width L P small w.accepted.board))
 
 -- rule F3: no frame is longer than 68 bytes
 pub longest_base : (P : ℕ) (f : Frame) (room n : ℕ) → write_frame base P f room ≡ found n → n ≤ 68

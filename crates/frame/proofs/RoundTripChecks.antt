@@ -55,9 +55,9 @@ pub record Numbers (L : Limits) (p : ℕ) (f : Frame) : Type 0 where
   pub agreed : number_ok L (eqb f.pass 2) f.agreed ≡ true
 
 module _ (L : Limits) (p : ℕ) (f : Frame) where
-  pub numbers-known : numbers_ok L p f ≡ true → Numbers L p f
+  pub numbers_known : numbers_ok L p f ≡ true → Numbers L p f
   unfolding numbers_ok shell_ok
-  numbers-known e =
+  numbers_known e =
       let a = both_true (every 0 width (shell_ok L p f)) _ e in
       let b = both_true (number_ok L true f.issued.0) _ a.1 in
       let c = both_true (number_ok L (eqb f.pass 1) f.received.0) _ b.1 in
@@ -77,8 +77,8 @@ module _ (L : Limits) (p : ℕ) (f : Frame) where
       shell e m h =
           both_true (ok m (sent_at f.sent m)) _ (every_at 0 width (shell_ok L p f) e m (omega arith) (omega arith))
 
-  pub numbers-good : Numbers L p f → numbers_ok L p f ≡ true
+  pub numbers_good : Numbers L p f → numbers_ok L p f ≡ true
   unfolding numbers_ok
-  numbers-good n =
+  numbers_good n =
       both_make (every_make 0 width _ (λ m a b. both_make (n.sent m (omega arith)) (n.taken m (omega arith))))
       (both_make (le-leb _ _ n.issued) (both_make n.received n.agreed))

@@ -8,12 +8,12 @@ use Rattle.frame.specs.Frame.{sent_number, taken_number, numbers_of, frame_bytes
 use Rattle.frame.specs.Frame.{fields_of, number_ok, read_frame, write_frame}
 use Rattle.frame.specs.declared.Frame.{Frame}
 use Rattle.frame.proofs.Words.{number_back}
-use Rattle.frame.proofs.Writing.{first-row-length, second-row-length, length-frame}
-use Rattle.frame.proofs.RoundTripChecks.{shell_known, number_low, number_absent, tells, Numbers, numbers-known}
+use Rattle.frame.proofs.Writing.{first_row_length, second_row_length, length_frame}
+use Rattle.frame.proofs.RoundTripChecks.{shell_known, number_low, number_absent, tells, Numbers, numbers_known}
 use Rattle.frame.specs.Shapes.{Shaped}
-use Rattle.frame.proofs.RoundTripAccepted.{Small, Accepted, size, write_known, read-good}
-use Rattle.frame.proofs.RoundTripNumbers.{Kind, sents, takens, Tallies, tallyAt, array, array_back}
-use Rattle.frame.proofs.RoundTripNumbers.{First, Second, first-known, second-known}
+use Rattle.frame.proofs.RoundTripAccepted.{Small, Accepted, size, write_known, read_good_lem}
+use Rattle.frame.proofs.RoundTripNumbers.{Kind, sents, takens, Tallies, tally_at, array, array_back}
+use Rattle.frame.proofs.RoundTripNumbers.{First, Second, first_known, second_known}
 
 -- frames are equal by their fields
 same_frame : {f g : Frame} → f.pass ≡ g.pass → f.phase ≡ g.phase → f.dim ≡ g.dim → f.sender ≡ g.sender
@@ -47,7 +47,7 @@ module _ (L : Limits) (small : Small L) (P : ℕ) (f : Frame) (shaped : Shaped f
   wrote i = get_or (numbers_of (dimension P) f) i 0
 
   numbers : Numbers L p f
-  numbers = numbers-known L p f ok.numbers
+  numbers = numbers_known L p f ok.numbers
 
   -- a number of the frame is read back
   back : (i x : ℕ) → i < length (numbers_of p f) → x ≡ wrote i → x ≤ field_limit L → number_at bs i ≡ x
@@ -58,15 +58,15 @@ module _ (L : Limits) (small : Small L) (P : ℕ) (f : Frame) (shaped : Shaped f
       (rw append-nil at h) ∙ sym e
 
   -- the number of a shell is read back
-  shell-back : f.pass ≡ 1 → (start m x : ℕ) → start ≤ d → (f.dim ≤ m → m < p → x ≡ wrote (start + (m - f.dim)))
+  shell_back : f.pass ≡ 1 → (start m x : ℕ) → start ≤ d → (f.dim ≤ m → m < p → x ≡ wrote (start + (m - f.dim)))
       → number_ok L (tells p f m) x ≡ true → shell_at p f.dim bs start m ≡ x
   unfolding shell_at
-  shell-back one start m x fits t good = cases (λ y. y ≡ x) (has_shell p f.dim m) _ 0 there absent
+  shell_back one start m x fits t good = cases (λ y. y ≡ x) (has_shell p f.dim m) _ 0 there absent
     where
       there : has_shell p f.dim m ≡ true → number_at bs (start + (m - f.dim)) ≡ x
       there e =
           let s = shell_known p f.dim m e in
-          let n = first-row-length p f one in
+          let n = first_row_length p f one in
           back (start + (m - f.dim)) x (omega arith) (t s.0 s.1) (number_low L (tells p f m) x good)
 
       absent : has_shell p f.dim m ≡ false → 0 ≡ x
@@ -74,14 +74,14 @@ module _ (L : Limits) (small : Small L) (P : ℕ) (f : Frame) (shaped : Shaped f
 
   -- an array of tallies is read back
   module _ {A : Type 0} (kind : Kind A) (l : List A) (count : length l ≡ width)
-      (good : (m : ℕ) → m < width → number_ok L (tells p f m) (tallyAt kind l m) ≡ true) where
-    first-array : f.pass ≡ 1 → (start : ℕ) → start ≤ d → Tallies p f.dim wrote start (tallyAt kind l)
+      (good : (m : ℕ) → m < width → number_ok L (tells p f m) (tally_at kind l m) ≡ true) where
+    first_array : f.pass ≡ 1 → (start : ℕ) → start ≤ d → Tallies p f.dim wrote start (tally_at kind l)
         → array kind (shell_at p f.dim bs start) ≡ l
-    first-array one start fits t =
-        array_back kind l count (shell_at p f.dim bs start) (λ m h. shell-back one start m _ fits (t m) (good m h))
+    first_array one start fits t =
+        array_back kind l count (shell_at p f.dim bs start) (λ m h. shell_back one start m _ fits (t m) (good m h))
 
-    second-array : f.pass ≡ 2 → array kind (λ m. 0) ≡ l
-    second-array two =
+    second_array : f.pass ≡ 2 → array kind (λ m. 0) ≡ l
+    second_array two =
         array_back kind l count (λ m. 0)
         (λ m h. sym (number_absent L (tells p f m) _ (good m h) (rw (ne_eqb f.pass 1 (λ q. omega arith)))))
 
@@ -89,13 +89,13 @@ module _ (L : Limits) (small : Small L) (P : ℕ) (f : Frame) (shaped : Shaped f
   first_back : f.pass ≡ 1 → fields_of p bs ≡ f
   unfolding fields_of frame_bytes
   first_back one =
-      let t : First p f wrote = first-known p f wrote one ok.dim (λ i l. refl) in
-      let n = first-row-length p f one in
+      let t : First p f wrote = first_known p f wrote one ok.dim (λ i l. refl) in
+      let n = first_row_length p f one in
       let low = number_low L (eqb f.pass 1) f.received.0 numbers.received in
       choose_yes _ _ (eq-eqb f.pass 1 one)
       ∙ same_frame refl refl refl refl
-      (first-array sents f.sent shaped.sent numbers.sent one 0 (omega arith) t.sent)
-      (first-array takens f.taken shaped.taken numbers.taken one d (omega arith) t.taken)
+      (first_array sents f.sent shaped.sent numbers.sent one 0 (omega arith) t.sent)
+      (first_array takens f.taken shaped.taken numbers.taken one d (omega arith) t.taken)
       (back (2 * d) f.issued.0 (omega arith) t.issued numbers.issued)
       (back (2 * d + 1) f.received.0 (omega arith) t.received low)
       (sym (number_absent L _ f.agreed numbers.agreed (ne_eqb f.pass 2 (λ q. omega arith))))
@@ -103,14 +103,14 @@ module _ (L : Limits) (small : Small L) (P : ℕ) (f : Frame) (shaped : Shaped f
   second_back : f.pass ≡ 2 → fields_of p bs ≡ f
   unfolding fields_of frame_bytes
   second_back two =
-      let t : Second f wrote = second-known p f wrote two (λ i l. refl) in
-      let n = second-row-length p f (λ q. omega arith) in
+      let t : Second f wrote = second_known p f wrote two (λ i l. refl) in
+      let n = second_row_length p f (λ q. omega arith) in
       let low = number_low L (eqb f.pass 2) f.agreed numbers.agreed in
       let not-one = ne_eqb f.pass 1 (λ q. omega arith) in
       choose_no _ _ not-one
       ∙ same_frame refl refl refl refl
-      (second-array sents f.sent shaped.sent numbers.sent two)
-      (second-array takens f.taken shaped.taken numbers.taken two)
+      (second_array sents f.sent shaped.sent numbers.sent two)
+      (second_array takens f.taken shaped.taken numbers.taken two)
       (back 1 f.issued.0 (omega arith) t.issued numbers.issued)
       (sym (number_absent L _ f.received.0 numbers.received not-one))
       (back 0 f.agreed (omega arith) t.agreed low)
@@ -122,14 +122,14 @@ module _ (L : Limits) (small : Small L) (P : ℕ) (f : Frame) (shaped : Shaped f
   read_back : read_frame L P bs ≡ found f
   read_back =
       let same = fields_back ok.pass in
-      read-good L P bs (subst (Accepted L P) (sym same) ok) (length-frame p f ∙ ap (size P) (sym same)) ∙ ap found same
+      read_good_lem L P bs (subst (Accepted L P) (sym same) ok) (length_frame p f ∙ ap (size P) (sym same)) ∙ ap found same
 
 -- ---- the theorems
 
 -- a written frame has the length that the writer answers
 pub written_length : (L : Limits) (P : ℕ) (f : Frame) (room n : ℕ) → write_frame L P f room ≡ found n
     → length (frame_bytes (dimension P) f) ≡ n
-written_length L P f room n e = length-frame (dimension P) f ∙ sym (write_known L P f room n e).count
+written_length L P f room n e = length_frame (dimension P) f ∙ sym (write_known L P f room n e).count
 
 -- a written frame is read back as it was
 pub write_then_read : (L : Limits) → Small L → (P : ℕ) (f : Frame) → Shaped f → (room n : ℕ)

@@ -16,30 +16,30 @@ unfolding frame_length
 second_length p pass k e = rw (ne_eqb pass 1 e)
 
 module _ (p : ℕ) (f : Frame) where
-  pub first-row : f.pass ≡ 1
+  pub first_row : f.pass ≡ 1
       → numbers_of p f
       ≡ list f.dim (p - f.dim) (sent_at f.sent)
       ++ (list f.dim (p - f.dim) (taken_at f.taken) ++ (f.issued.0 ∷ f.received.0 ∷ []))
   unfolding numbers_of
-  first-row e = choose_yes _ _ (eq-eqb f.pass 1 e)
+  first_row e = choose_yes _ _ (eq-eqb f.pass 1 e)
 
-  pub second-row : (f.pass ≡ 1 → ⊥) → numbers_of p f ≡ f.agreed ∷ f.issued.0 ∷ []
+  pub second_row : (f.pass ≡ 1 → ⊥) → numbers_of p f ≡ f.agreed ∷ f.issued.0 ∷ []
   unfolding numbers_of
-  second-row e = choose_no _ _ (ne_eqb f.pass 1 e)
+  second_row e = choose_no _ _ (ne_eqb f.pass 1 e)
 
-  pub first-row-length : f.pass ≡ 1 → length (numbers_of p f) ≡ 2 * (p - f.dim) + 2
-  first-row-length e = rw (first-row e) (simp (length-append, length_list) (omega arith))
+  pub first_row_length : f.pass ≡ 1 → length (numbers_of p f) ≡ 2 * (p - f.dim) + 2
+  first_row_length e = rw (first_row e) (simp (length-append, length_list) (omega arith))
 
-  pub second-row-length : (f.pass ≡ 1 → ⊥) → length (numbers_of p f) ≡ 2
-  second-row-length e = rw (second-row e)
+  pub second_row_length : (f.pass ≡ 1 → ⊥) → length (numbers_of p f) ≡ 2
+  second_row_length e = rw (second_row e)
 
   -- a frame has as many bytes as its length says
-  pub length-frame : length (frame_bytes p f) ≡ frame_length p f.pass f.dim
+  pub length_frame : length (frame_bytes p f) ≡ frame_length p f.pass f.dim
   unfolding frame_bytes
-  length-frame = go (ℕ_discrete f.pass 1)
+  length_frame = go (ℕ_discrete f.pass 1)
     where
       go : Dec (f.pass ≡ 1) → length (frame_bytes p f) ≡ frame_length p f.pass f.dim
       go (yes e) =
-          omega (arith, length_bytes_of (numbers_of p f), first-row-length e, first_length_lem p f.pass f.dim e)
+          omega (arith, length_bytes_of (numbers_of p f), first_row_length e, first_length_lem p f.pass f.dim e)
       go (no e) =
-          omega (arith, length_bytes_of (numbers_of p f), second-row-length e, second_length p f.pass f.dim e)
+          omega (arith, length_bytes_of (numbers_of p f), second_row_length e, second_length p f.pass f.dim e)

@@ -1,19 +1,21 @@
 // Frames on a maker's links: the fields of a frame, the timing of a phase byte, and the test of a step. Their bytes are read
 // and written in place, by the crates above.
+#![tactic(auto)]
+
 ghost use Rattle.std.specs.Prelude.{◌≡◌};
 ghost use Rattle.frame.specs.Frame.{bad_step};
 ghost use Rattle.frame.specs.Timing.{timing};
 
 // A tally of messages sent.
-#[derive(Drop)]
+#[derive(Clone, Copy)]
 pub struct Sent(pub u32);
 
 // A tally of messages taken.
-#[derive(Drop)]
+#[derive(Clone, Copy)]
 pub struct Taken(pub u32);
 
 // The fields of a frame of pass 1 or 2. What its pass, dimension or board does not have is 0.
-#[derive(Drop)]
+#[derive(Clone, Copy)]
 pub struct Frame {
     pub pass: u8,
     pub phase: u8,
@@ -31,14 +33,14 @@ pub struct Frame {
 }
 
 // What a reader answers: done, or the number of a refusal.
-#[derive(Drop)]
+#[derive(Clone, Copy)]
 pub enum Outcome {
     Done,
     Refused(u8),
 }
 
 // A phase byte beside a node's.
-#[derive(Drop)]
+#[derive(Clone, Copy)]
 pub enum Timing {
     Now,
     Early,

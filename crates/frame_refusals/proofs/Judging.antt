@@ -10,7 +10,7 @@ use lib.ListN.{length, get_or}
 use borrow.Author.Tests.{eqb-true, eqb-false, eq-eqb, ne_eqb, not-true, not-false}
 use Rattle.base.specs.Limits.{Limits}
 use Rattle.base.specs.Refusal.{in_order}
-use Rattle.base.proofs.Laws.{cases, Stops, here, later, order-passes, order-stops}
+use Rattle.base.proofs.Laws.{cases, Stops, here, later, order_passes, order_stops}
 use Rattle.frame.specs.Frame.{read_frame, answer_of}
 use Rattle.frame.specs.Timing.{timing}
 use Rattle.frame.specs.declared.Frame.{Frame}
@@ -18,7 +18,7 @@ use Rattle.frame.specs.declared.Outcome.{Outcome}
 use Rattle.frame.specs.declared.Outcome.TheVariants.{Done as Accepted, Refused as NotRead}
 use Rattle.frame.specs.declared.Timing.{Timing}
 use Rattle.frame.proofs.Answers.{answer_done}
-use Rattle.frame.proofs.RoundTripAccepted.{size, read_known, size-first, size-second}
+use Rattle.frame.proofs.RoundTripAccepted.{size, read_known, size_first, size_second}
 use Rattle.node.specs.declared.Answer.{Answer}
 use Rattle.node.specs.declared.Answer.TheVariants.{Refused}
 use Rattle.frame_refusals.specs.Judged.{by_time, once_read, awaits_sender, sender_tests, judged}
@@ -31,17 +31,17 @@ head_there L nodes bs a =
     go r.0 k.count k.accepted.pass
   where
     go : (f : Frame) → length bs ≡ size nodes f → (f.pass ≡ 1) ⊎ (f.pass ≡ 2) → 4 ≤ length bs
-    go f l (inl e) = omega (arith, size-first nodes f e)
-    go f l (inr e) = omega (arith, size-second nodes f e)
+    go f l (inl e) = omega (arith, size_first nodes f e)
+    go f l (inr e) = omega (arith, size_second nodes f e)
 
 module _ (L : Limits) (nodes number phase : ℕ) (bs : List ℕ) where
   -- what is said of bytes that are read
   abbrev rest : Answer
   rest = in_order Refused (sender_tests L nodes number bs) (by_time (timing (get_or bs 1 0) phase))
 
-  pub judged-unread : (x : ℕ) → answer_of (read_frame L nodes bs) ≡ NotRead x → Refused x ≡ judged L nodes number phase bs
+  pub judged_unread : (x : ℕ) → answer_of (read_frame L nodes bs) ≡ NotRead x → Refused x ≡ judged L nodes number phase bs
   unfolding judged
-  judged-unread x a = sym (ap (λ o. once_read o rest) a)
+  judged_unread x a = sym (ap (λ o. once_read o rest) a)
 
   module _ (a : answer_of (read_frame L nodes bs) ≡ Accepted) where
     read : judged L nodes number phase bs ≡ rest
@@ -49,25 +49,25 @@ module _ (L : Limits) (nodes number phase : ℕ) (bs : List ℕ) where
     read = ap (λ o. once_read o rest) a
 
     stopped : {x : ℕ} → Stops (sender_tests L nodes number bs) x → Refused x ≡ judged L nodes number phase bs
-    stopped s = sym (read ∙ order-stops Refused _ s)
+    stopped s = sym (read ∙ order_stops Refused _ s)
 
-    pub judged-own : get_or bs 3 0 ≡ number → Refused 3 ≡ judged L nodes number phase bs
-    judged-own e = stopped (here (eq-eqb _ _ e))
+    pub judged_own : get_or bs 3 0 ≡ number → Refused 3 ≡ judged L nodes number phase bs
+    judged_own e = stopped (here (eq-eqb _ _ e))
 
     module _ (e : get_or bs 3 0 ≢ number) where
-      pub judged-unawaited : awaits_sender L nodes number bs ≡ false → Refused 11 ≡ judged L nodes number phase bs
-      judged-unawaited h = stopped (later (ne_eqb _ _ e) (here (ap not h)))
+      pub judged_unawaited : awaits_sender L nodes number bs ≡ false → Refused 11 ≡ judged L nodes number phase bs
+      judged_unawaited h = stopped (later (ne_eqb _ _ e) (here (ap not h)))
 
-      pub judged-timed : awaits_sender L nodes number bs ≡ true → (t : Timing) → timing (get_or bs 1 0) phase ≡ t
+      pub judged_timed : awaits_sender L nodes number bs ≡ true → (t : Timing) → timing (get_or bs 1 0) phase ≡ t
           → by_time t ≡ judged L nodes number phase bs
-      judged-timed h t z =
+      judged_timed h t z =
           sym
           (read
-          ∙ order-passes Refused (sender_tests L nodes number bs) _ (ne_eqb _ _ e, (ap not h, tt))
+          ∙ order_passes Refused (sender_tests L nodes number bs) _ (ne_eqb _ _ e, (ap not h, tt))
           ∙ ap by_time z)
 
   -- a fact of what is said, by the test that decides it
-  pub judged-cases : (F : Answer → Type 0)
+  pub judged_cases : (F : Answer → Type 0)
       → ((x : ℕ) → answer_of (read_frame L nodes bs) ≡ NotRead x → F (Refused x))
       → (answer_of (read_frame L nodes bs) ≡ Accepted → get_or bs 3 0 ≡ number → F (Refused 3))
       → (answer_of (read_frame L nodes bs) ≡ Accepted → get_or bs 3 0 ≢ number → awaits_sender L nodes number bs ≡ false
@@ -76,7 +76,7 @@ module _ (L : Limits) (nodes number phase : ℕ) (bs : List ℕ) where
       → F (by_time (timing (get_or bs 1 0) phase)))
       → F (judged L nodes number phase bs)
   unfolding judged
-  judged-cases F unread own unawaited timed = go (answer_of (read_frame L nodes bs)) refl
+  judged_cases F unread own unawaited timed = go (answer_of (read_frame L nodes bs)) refl
     where
       go : (o : Outcome) → answer_of (read_frame L nodes bs) ≡ o → F (once_read o rest)
       go (NotRead x) a = unread x a

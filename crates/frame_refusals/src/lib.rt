@@ -1,4 +1,6 @@
 // Whether a frame is stored, dropped or refused, by the numbers of a state.
+#![tactic(auto)]
+
 ghost use Rattle.std.specs.Prelude.{◌≡◌};
 ghost use Rattle.base.specs.Limits.{limits_of};
 ghost use Rattle.tree.specs.Lookups.{place_lookup};

@@ -1,4 +1,6 @@
 // A fresh state put into lent words.
+#![tactic(auto)]
+
 ghost use Rattle.std.specs.Prelude.{◌≡◌, [], ◌∷◌, ◌++◌, ◌-◌, ◌≤◌, leb, length, take, drop};
 ghost use Rattle.base.specs.Choice.{choose, list};
 ghost use Rattle.layout.specs.Places.{head_words, state_words};

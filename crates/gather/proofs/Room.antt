@@ -2,11 +2,10 @@
 use mathlib.Core.Path.{◌≡◌, refl, sym, ap, ◌∙◌}
 use mathlib.Core.Bool.{Bool, true, false}
 use mathlib.Core.List.{List}
-use Prim.Native.Nat.{ℕ, suc, ◌+◌, ◌-◌, ◌*◌, ◌≤◌, ◌<◌}
-use native.Mathlib.Omega.{arith}
+use Prim.Native.Nat.{ℕ, ◌+◌, ◌*◌, ◌≤◌}
 use lib.Dec.{leb}
 use lib.ListN.{length}
-use borrow.Author.Tests.{leb-true, leb-false, le-leb}
+use borrow.Author.Tests.{leb-true, le-leb}
 use Rattle.base.specs.Choice.{choose, both}
 use Rattle.base.specs.Limits.{Limits, taken_limit, width}
 use Rattle.base.proofs.Laws.{clash, choose_yes, choose_no, cases, both_true, both_make}
@@ -42,9 +41,9 @@ module _ (L : Limits) (p : ℕ) (ws : List ℕ) (room : ℕ) where
   abbrev test : Bool
   test = tallied L p ws room
 
-  pub tallied-known : test ≡ true → Tallied L p ws room
+  pub tallied_known : test ≡ true → Tallied L p ws room
   unfolding tallied
-  tallied-known e =
+  tallied_known e =
       let a = both_true (has_room p (length ws) room) _ e in
       let b = both_true (leb (sent_total p ws) L.sends) (leb (taken_total p ws) (taken_limit L)) a.1 in
       record {
@@ -53,17 +52,17 @@ module _ (L : Limits) (p : ℕ) (ws : List ℕ) (room : ℕ) where
         takes = leb-true _ _ b.1;
       }
 
-  pub tallied-made : Tallied L p ws room → test ≡ true
+  pub tallied_made : Tallied L p ws room → test ≡ true
   unfolding tallied
-  tallied-made t =
+  tallied_made t =
       both_make (room_made p (length ws) room t.room) (both_make (le-leb _ _ t.sends) (le-leb _ _ t.takes))
 
   -- a test that can't hold
-  pub not-tallied : (Tallied L p ws room → ⊥) → test ≡ false
-  not-tallied f = go test refl
+  pub not_tallied : (Tallied L p ws room → ⊥) → test ≡ false
+  not_tallied f = go test refl
     where
       go : (t : Bool) → test ≡ t → test ≡ false
-      go true e = absurd (f (tallied-known e))
+      go true e = absurd (f (tallied_known e))
       go false e = e
 
   pub none_told : test ≡ false → no_tallies ≡ tallies_of L p ws room
@@ -80,20 +79,20 @@ module _ (L : Limits) (p : ℕ) (ws : List ℕ) (room : ℕ) where
 -- ---- what an answer says
 
 module _ (L : Limits) (p : ℕ) (ws : List ℕ) (room : ℕ) (r : Tallies) (e : r ≡ tallies_of L p ws room) where
-  pub ok-is : r.ok ≡ tallied L p ws room
+  pub ok_is : r.ok ≡ tallied L p ws room
   unfolding tallies_of
-  ok-is =
+  ok_is =
       ap (λ (t : Tallies). t.ok) e
       ∙ cases (λ (t : Tallies). t.ok ≡ tallied L p ws room) (tallied L p ws room) _ _ (λ q. sym q) (λ q. sym q)
 
   pub missing : r.ok ≡ false → Tallied L p ws room → ⊥
-  missing q t = clash (sym (tallied-made L p ws room t) ∙ sym ok-is ∙ q)
+  missing q t = clash (sym (tallied_made L p ws room t) ∙ sym ok_is ∙ q)
 
   pub passes : r.ok ≡ true → tallied L p ws room ≡ true
-  passes q = sym ok-is ∙ q
+  passes q = sym ok_is ∙ q
 
-  pub totals-known : r.ok ≡ true → (r.sends.0 ≡ sent_total p ws) × (r.takes.0 ≡ taken_total p ws)
+  pub totals_known : r.ok ≡ true → (r.sends.0 ≡ sent_total p ws) × (r.takes.0 ≡ taken_total p ws)
   unfolding tallies_of
-  totals-known q =
+  totals_known q =
       let z = e ∙ choose_yes _ _ (passes q) in
       (ap (λ (t : Tallies). t.sends.0) z, ap (λ (t : Tallies). t.takes.0) z)

@@ -19,11 +19,11 @@ module _ (p : ℕ) (ws : List ℕ) (a b : ℕ) (before one : List ℕ) (r : Tall
   abbrev after : List ℕ
   after = set mid (sum_received p) r.takes.0
 
-  pub mid-length : length mid ≡ length before
-  mid-length = simp length-set c.length
+  pub mid_length : length mid ≡ length before
+  mid_length = simp length-set c.length
 
-  pub after-length : length after ≡ length before
-  after-length = simp length-set c.length
+  pub after_length : length after ≡ length before
+  after_length = simp length-set c.length
 
   pub started : r.ok ≡ true → (r.sends.0 ≡ sent_total p ws) × (r.takes.0 ≡ taken_total p ws) → Started p ws after
   started ok are =
@@ -36,5 +36,5 @@ module _ (p : ℕ) (ws : List ℕ) (a b : ℕ) (before one : List ℕ) (r : Tall
             get_or-set_other mid (sum_received p) (sum_issued p) r.takes.0 0 (λ z. omega arith)
             ∙ get_or-set_same one (sum_issued p) r.sends.0 0 (omega (arith, c.length))
             ∙ are.0;
-        received = get_or-set_same mid (sum_received p) r.takes.0 0 (omega (arith, mid-length)) ∙ are.1;
+        received = get_or-set_same mid (sum_received p) r.takes.0 0 (omega (arith, mid_length)) ∙ are.1;
       }

@@ -1,4 +1,6 @@
 // The own sums of a state before any frame is added, in the words that the caller lends.
+#![tactic(auto)]
+
 ghost use Rattle.std.specs.Prelude.{◌≡◌, true, length};
 ghost use Rattle.base.specs.Limits.{limits_of};
 ghost use Rattle.gather.specs.Gather.{has_room, tallied, no_tallies, tallies_of, Started};
@@ -8,7 +10,7 @@ use base::Bounds;
 use frame::{Sent, Taken};
 
 // The totals of the tallies, where these are within the limits. Where they are not, all else is 0.
-#[derive(Drop)]
+#[derive(Clone, Copy)]
 pub struct Tallies {
     pub ok: bool,
     pub sends: Sent,

@@ -28,21 +28,21 @@ use Rattle.head.specs.declared.Head.{Head}
 -- ---- the fields that are words
 
 module _ (ws : List ℕ) where
-  pub dims-is : dims (unpacked ws) ≡ dims_of ws
+  pub dims_is : dims (unpacked ws) ≡ dims_of ws
   unfolding unpacked
-  dims-is = refl
+  dims_is = refl
 
-  pub pass-is : (unpacked ws).pass ≡ word ws at_pass
+  pub pass_is : (unpacked ws).pass ≡ word ws at_pass
   unfolding unpacked
-  pass-is = refl
+  pass_is = refl
 
-  pub agreed-is : (unpacked ws).agreed ≡ word ws at_agreed
+  pub agreed_is : (unpacked ws).agreed ≡ word ws at_agreed
   unfolding unpacked
-  agreed-is = refl
+  agreed_is = refl
 
-  nodes-is : (unpacked ws).nodes ≡ word ws at_nodes
+  nodes_is : (unpacked ws).nodes ≡ word ws at_nodes
   unfolding unpacked
-  nodes-is = refl
+  nodes_is = refl
 
   spot_is : (L : Limits) (p : ℕ) → p ≡ dims_of ws
       → spot_at L p (word ws at_nodes) (word ws at_number) (word ws at_pass) (word ws at_dim) (word ws at_agreed) ≡ spot_in L ws
@@ -63,9 +63,9 @@ pub record Passing (L : Limits) (ws : List ℕ) : Type 0 where
   pub agreed : (unpacked ws).agreed ≤ field_limit L
 
 module _ (L : Limits) (ws : List ℕ) where
-  pub head-known : head_passes L ws ≡ true → Passing L ws
+  pub head_known : head_passes L ws ≡ true → Passing L ws
   unfolding head_passes
-  head-known e =
+  head_known e =
       let a = both_true _ _ e in
       let b = both_true _ _ a.1 in
       let c = both_true _ _ b.1 in
@@ -86,9 +86,9 @@ module _ (L : Limits) (ws : List ℕ) where
         agreed = leb-true _ _ i.1;
       }
 
-  pub head-made : Passing L ws → head_passes L ws ≡ true
+  pub head_made : Passing L ws → head_passes L ws ≡ true
   unfolding head_passes
-  head-made p =
+  head_made p =
       both_make (ap not p.good)
       (both_make (le-leb _ _ p.long)
       (both_make (lt-ltb _ _ p.phase)
@@ -97,12 +97,12 @@ module _ (L : Limits) (ws : List ℕ) where
       (both_make p.board (both_make p.position (both_make p.work (le-leb _ _ p.agreed))))))))
 
   -- where it can't pass, there is none
-  pub no-head : (Passing L ws → ⊥) → (r : Head) → r ≡ no_head → r ≡ headed L ws
+  pub no_head_lem : (Passing L ws → ⊥) → (r : Head) → r ≡ no_head → r ≡ headed L ws
   unfolding headed
-  no-head f r e = e ∙ go (head_passes L ws) refl
+  no_head_lem f r e = e ∙ go (head_passes L ws) refl
     where
       go : (t : Bool) → head_passes L ws ≡ t → no_head ≡ choose (head_passes L ws) (record { ok = true; spot = spot_in L ws }) no_head
-      go true q = absurd (f (head-known q))
+      go true q = absurd (f (head_known q))
       go false q = sym (choose_no _ _ q)
 
   pub short : length ws < head_words → Passing L ws → ⊥
@@ -137,9 +137,9 @@ module _ (L : Limits) (ws : List ℕ) (p : ℕ) (b : Boarded L ws p) where
   abbrev test : Bool
   test = head_test p n.nodes n.number n.pass n.dim n.busy n.flag
 
-  test-is : test ≡ both (board_ok L n) (both (position_ok n) (busy_ok n))
+  test_is : test ≡ both (board_ok L n) (both (position_ok n) (busy_ok n))
   unfolding board_ok position_ok busy_ok
-  test-is = rw (ap (bad_board L) (nodes-is ws) ∙ b.board, b.dims ∙ sym (dims-is ws))
+  test_is = rw (ap (bad_board L) (nodes_is ws) ∙ b.board, b.dims ∙ sym (dims_is ws))
 
   abbrev whole : Bool
   whole =
@@ -151,25 +151,25 @@ module _ (L : Limits) (ws : List ℕ) (p : ℕ) (b : Boarded L ws p) where
   words_are limit e = rw e
 
   module _ (limit : ℕ) (e : limit ≡ field_limit L) where
-    pub head-fails : head_tested limit p ws ≡ false → Passing L ws → ⊥
-    head-fails f q =
+    pub head_fails : head_tested limit p ws ≡ false → Passing L ws → ⊥
+    head_fails f q =
         clash
         (sym
         (both_make (lt-ltb _ _ q.phase)
         (both_make (lt-ltb _ _ q.busy)
         (both_make (lt-ltb _ _ q.flag)
         (both_make (le-leb _ _ q.agreed)
-        (test-is ∙ both_make q.board (both_make q.position q.work))))))
+        (test_is ∙ both_make q.board (both_make q.position q.work))))))
         ∙ sym (words_are limit e)
         ∙ f)
 
-    pub head-passes : head_tested limit p ws ≡ true → Passing L ws
-    head-passes f =
+    pub head_passes_lem : head_tested limit p ws ≡ true → Passing L ws
+    head_passes_lem f =
         let a = both_true (ltb (word ws at_phase) 256) _ (sym (words_are limit e) ∙ f) in
         let c = both_true (ltb (word ws at_busy) 2) _ a.1 in
         let d = both_true (ltb (word ws at_flag) 2) _ c.1 in
         let g = both_true (leb n.agreed (field_limit L)) test d.1 in
-        let h = both_true (board_ok L n) _ (sym test-is ∙ g.1) in
+        let h = both_true (board_ok L n) _ (sym test_is ∙ g.1) in
         let i = both_true (position_ok n) (busy_ok n) h.1 in
         record {
           good = b.board;
@@ -184,35 +184,35 @@ module _ (L : Limits) (ws : List ℕ) (p : ℕ) (b : Boarded L ws p) where
         }
 
     module _ (f : head_tested limit p ws ≡ true) where
-      pub pass-small : word ws at_pass < 3
-      pass-small = omega (arith, pass-is ws, pass_low n (head-passes f).position)
+      pub pass_small : word ws at_pass < 3
+      pass_small = omega (arith, pass_is ws, pass_low n (head_passes_lem f).position)
 
-      pub some-head : (s : Spot)
+      pub some_head : (s : Spot)
           → s ≡ spot_at L p (word ws at_nodes) (word ws at_number) (word ws at_pass) (word ws at_dim) (word ws at_agreed)
           → record { ok = true; spot = s } ≡ headed L ws
       unfolding headed
-      some-head s q =
+      some_head s q =
           (λ i. record { ok = true; spot = (q ∙ spot_is ws L p b.dims) i })
-          ∙ sym (choose_yes _ _ (head-made L ws (head-passes f)))
+          ∙ sym (choose_yes _ _ (head_made L ws (head_passes_lem f)))
 
 -- ---- what an answer says
 
 module _ (L : Limits) (ws : List ℕ) (r : Head) (e : r ≡ headed L ws) where
-  ok-is : r.ok ≡ head_passes L ws
+  ok_is : r.ok ≡ head_passes L ws
   unfolding headed
-  ok-is =
+  ok_is =
       ap (λ (h : Head). h.ok) e
       ∙ cases (λ (h : Head). h.ok ≡ head_passes L ws) (head_passes L ws) _ _ (λ q. sym q) (λ q. sym q)
 
   pub missing : r.ok ≡ false → Passing L ws → ⊥
-  missing q p = clash (sym (head-made L ws p) ∙ sym ok-is ∙ q)
+  missing q p = clash (sym (head_made L ws p) ∙ sym ok_is ∙ q)
 
   module _ (q : r.ok ≡ true) where
     passes : head_passes L ws ≡ true
-    passes = sym ok-is ∙ q
+    passes = sym ok_is ∙ q
 
     pub passing : Passing L ws
-    passing = head-known L ws passes
+    passing = head_known L ws passes
 
     pub spot_known : r.spot ≡ spot_in L ws
     unfolding headed

@@ -1,4 +1,6 @@
 // The head of a state, in the words that the caller lends.
+#![tactic(auto)]
+
 ghost use Rattle.std.specs.Prelude.{◌≡◌, true, ◌≤◌, ◌<◌, eqb, length};
 ghost use Rattle.base.specs.Choice.{either};
 ghost use Rattle.base.specs.Limits.{limits_of};
@@ -14,7 +16,7 @@ use survey::Spot;
 use tree::{Found, Placed};
 
 // Where the node is, if its head passes. Where that does not, all else is 0.
-#[derive(Drop)]
+#[derive(Clone, Copy)]
 pub struct Head {
     pub ok: bool,
     pub spot: Spot,

@@ -1,5 +1,7 @@
 // How the headers of the items under way change, in the list that the caller lends. Any number may be handed for a place
 // and for how many items there are.
+#![tactic(auto)]
+
 ghost use Rattle.std.specs.Prelude.{◌≡◌, ◌-◌, leb, set};
 ghost use Rattle.base.specs.Choice.{choose};
 ghost use Rattle.item_changes.specs.Places.{removed_within};

@@ -1,4 +1,1 @@
-pub mod Values
 pub mod Lists
-pub mod Tests
-pub mod Does

@@ -1,12 +1,14 @@
 // The headers of the items under way, a list that the caller lends, oldest first, and how they are read. Any number may
 // be handed for a place and for how many items there are.
+#![tactic(auto)]
+
 ghost use Rattle.std.specs.Prelude.{◌≡◌, min, get_or};
 ghost use Rattle.items.specs.Places.{mark, no_item, on_link, oldest_within};
 
 use base::Kind;
 
 // The header of an item under way.
-#[derive(Drop)]
+#[derive(Clone, Copy)]
 pub struct Item {
     pub from: u8,
     pub to: u8,

@@ -42,15 +42,15 @@ module _ (P a ph : ℕ) (rest : List ℕ) where
   abbrev zeros : List ℕ
   zeros = list 0 (state_words p - head_words) (λ i. 0)
 
-  zeros-long : head_words + length zeros ≡ state_words p
-  zeros-long = omega (arith, first_above p p, length_list {A = ℕ} 0 (state_words p - head_words) (λ i. 0))
+  zeros_long : head_words + length zeros ≡ state_words p
+  zeros_long = omega (arith, first_above p p, length_list {A = ℕ} 0 (state_words p - head_words) (λ i. 0))
 
-  pub fresh-length : length ws ≡ state_words p + length rest
-  fresh-length = omega (arith, zeros-long, length-append zeros rest)
+  pub fresh_length : length ws ≡ state_words p + length rest
+  fresh_length = omega (arith, zeros_long, length-append zeros rest)
 
-  pub fresh-rest : drop (state_words p) ws ≡ rest
-  fresh-rest =
-      ap (λ n. drop n ws) (sym zeros-long)
+  pub fresh_rest : drop (state_words p) ws ≡ rest
+  fresh_rest =
+      ap (λ n. drop n ws) (sym zeros_long)
       ∙ drop-append-add head (zeros ++ rest) (length zeros)
       ∙ drop-append_seam zeros rest
 
@@ -61,7 +61,7 @@ module _ (P a ph : ℕ) (rest : List ℕ) where
       let e : i ≡ head_words + j = omega arith in
       ap (word ws) e
       ∙ get_or-append-add head (zeros ++ rest) j 0
-      ∙ get_or-append zeros rest 0 j (omega (arith, zeros-long))
+      ∙ get_or-append zeros rest 0 j (omega (arith, zeros_long))
       ∙ list_one 0 (state_words p - head_words) 0 j
 
   -- a number that is 0 where it is there
@@ -88,8 +88,8 @@ module _ (P a ph : ℕ) (rest : List ℕ) where
         (λ m u v.
         ap make (none (has_shell p k m) (word ws (f m)) (λ t. let r = shell_known p k m t in s m r.0 r.1)))
 
-    first-blank : first_from ws p k (at_first p k) ≡ no_first
-    first-blank =
+    first_blank : first_from ws p k (at_first p k) ≡ no_first
+    first_blank =
         let from = at_first p k in
         rw (
           at 0 from (omega arith) (omega arith),
@@ -101,8 +101,8 @@ module _ (P a ph : ℕ) (rest : List ℕ) where
           at (received_place p 0 k) (received_place p from k) (omega arith) (omega arith),
         )
 
-    second-blank : second_from ws (at_second p k) ≡ no_second
-    second-blank =
+    second_blank : second_from ws (at_second p k) ≡ no_second
+    second_blank =
         let from = at_second p k in
         rw (
           at (first_words p k) from (omega arith) (omega arith),
@@ -113,16 +113,16 @@ module _ (P a ph : ℕ) (rest : List ℕ) where
   first_none : (k : ℕ) → first_in ws p k ≡ no_first
   unfolding first_in
   first_none k =
-      cases (λ x. x ≡ no_first) (ltb k p) _ _ (λ t. first-blank k (ltb-true k p t)) (λ t. refl)
+      cases (λ x. x ≡ no_first) (ltb k p) _ _ (λ t. first_blank k (ltb-true k p t)) (λ t. refl)
 
   second_none : (k : ℕ) → second_in ws p k ≡ no_second
   unfolding second_in
   second_none k =
-      cases (λ x. x ≡ no_second) (ltb k p) _ _ (λ t. second-blank k (ltb-true k p t)) (λ t. refl)
+      cases (λ x. x ≡ no_second) (ltb k p) _ _ (λ t. second_blank k (ltb-true k p t)) (λ t. refl)
 
-  pub fresh-held : unpacked ws ≡ fresh_in P a ph
+  pub fresh_held : unpacked ws ≡ fresh_in P a ph
   unfolding unpacked
-  fresh-held =
+  fresh_held =
       let above = first_above p p in
       rw (
         tallies sent_number at_sent (λ m l. (omega arith, omega arith)),
@@ -131,12 +131,12 @@ module _ (P a ph : ℕ) (rest : List ℕ) where
         list_same 0 width (second_in ws p) (λ k. no_second) (λ k u v. second_none k),
       )
 
-  pub fresh-whole : (L : Limits) → bad_board L P ≡ false → ph < 256 → is_whole L ws ≡ true
-  fresh-whole L good low =
+  pub fresh_whole : (L : Limits) → bad_board L P ≡ false → ph < 256 → is_whole L ws ≡ true
+  fresh_whole L good low =
       whole_made L ws
       (record {
         board = good;
-        long = omega (arith, fresh-length);
+        long = omega (arith, fresh_length);
         phase = low;
         busy = omega arith;
         flag = omega arith;
@@ -153,9 +153,9 @@ put_fresh L ws e ph h =
     let P : ℕ = word ws at_nodes in
     let a : ℕ = word ws at_number in
     record {
-      whole = fresh-whole P a ph (spare ws) L w.board h;
-      node = fresh-held P a ph (spare ws);
+      whole = fresh_whole P a ph (spare ws) L w.board h;
+      node = fresh_held P a ph (spare ws);
       nodes = refl;
-      spare = fresh-rest P a ph (spare ws);
-      length = omega (arith, fresh-length P a ph (spare ws), w.long, length-drop (state_words (dims_of ws)) ws);
+      spare = fresh_rest P a ph (spare ws);
+      length = omega (arith, fresh_length P a ph (spare ws), w.long, length-drop (state_words (dims_of ws)) ws);
     }

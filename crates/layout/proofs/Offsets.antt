@@ -22,21 +22,21 @@ unfolding at_first
 first_more p k = omega arith
 
 -- with r dimensions from dimension k on
-closed : (k r : ℕ) → at_first (k + r) k ≡ head_words + 2 * (k + r) + k * (k + 2 * r + 7)
+closed : (k r p : ℕ) → k + r ≡ p → at_first p k ≡ head_words + 2 * p + k * (k + 2 * r + 7)
 unfolding at_first
-closed zero r = omega arith
-closed (suc k) r =
-    let e : suc k + r ≡ k + suc r = omega arith in
-    let x : k + 2 * suc r + 7 ≡ suc (suc (k + 2 * r + 7)) = omega arith in
-    let y : suc k + 2 * r + 7 ≡ suc (k + 2 * r + 7) = omega arith in
-    let h : at_first (k + suc r) k ≡ head_words + 2 * (k + suc r) + k * suc (suc (k + 2 * r + 7)) = rw x at (closed k (suc r)) in
-    rw (e, y) (omega (arith, h, mul-suc k (suc (k + 2 * r + 7)), suc-mul k (suc (k + 2 * r + 7))))
+closed zero r p e = omega arith
+closed (suc k) r p e =
+    let n = k + 2 * r + 7 in
+    let x : k + 2 * suc r + 7 ≡ suc (suc n) = omega arith in
+    let y : suc k + 2 * r + 7 ≡ suc n = omega arith in
+    let h : at_first p k ≡ head_words + 2 * p + k * suc (suc n) = rw x at (closed k (suc r) p (omega arith)) in
+    rw y (omega (arith, h, mul-suc k (suc n), suc-mul k (suc n)))
 
 pub first_closed : (p k : ℕ) → k ≤ p → at_first p k ≡ head_words + 2 * p + k * (2 * p + 7 - k)
 first_closed p k h =
     let e : k + (p - k) ≡ p = omega arith in
     let x : k + 2 * (p - k) + 7 ≡ 2 * p + 7 - k = omega arith in
-    rw (e, x) at (closed k (p - k))
+    rw x at (closed k (p - k) p e)
 
 pub words_closed : (p : ℕ) → state_words p ≡ head_words + p * (p + 9)
 words_closed p =

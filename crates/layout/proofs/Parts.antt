@@ -34,15 +34,15 @@ one_set f g k x h e s =
 
 -- the tallies of p shells, each by a rule
 module _ {A : Type 0} (make : ℕ → A) (p : ℕ) (f g : ℕ → ℕ) where
-  pub tallies-same : ((j : ℕ) → j < p → g j ≡ f j)
+  pub tallies_same : ((j : ℕ) → j < p → g j ≡ f j)
       → list 0 width (λ m. make (choose (ltb m p) (g m) 0)) ≡ list 0 width (λ m. make (choose (ltb m p) (f m) 0))
-  tallies-same s =
+  tallies_same s =
       list_same 0 width _ _ (λ m a b. ap make (chosen (ltb m p) (g m) (f m) 0 (λ t. s m (ltb-true m p t))))
 
-  pub tallies-set : (m x : ℕ) → m < p → m < width → g m ≡ x → ((j : ℕ) → j < p → (j ≡ m → ⊥) → g j ≡ f j)
+  pub tallies_set : (m x : ℕ) → m < p → m < width → g m ≡ x → ((j : ℕ) → j < p → (j ≡ m → ⊥) → g j ≡ f j)
       → list 0 width (λ m. make (choose (ltb m p) (g m) 0))
       ≡ set (list 0 width (λ m. make (choose (ltb m p) (f m) 0))) m (make x)
-  tallies-set m x h l e s =
+  tallies_set m x h l e s =
       one_set (λ j. make (choose (ltb j p) (f j) 0)) (λ j. make (choose (ltb j p) (g j) 0)) m (make x) l
       (rw (lt-ltb m p h, e))
       (λ j n. ap make (chosen (ltb j p) (g j) (f j) 0 (λ t. s j (ltb-true j p t) n)))
@@ -97,11 +97,11 @@ second_alike xs ys a b h =
 
 -- the frames of dimension k
 module _ (xs ys : List ℕ) (p k : ℕ) where
-  pub first-same : (k < p → Alike xs (at_first p k) ys (at_first p k) (first_words p k)) → first_in xs p k ≡ first_in ys p k
+  pub first_same : (k < p → Alike xs (at_first p k) ys (at_first p k) (first_words p k)) → first_in xs p k ≡ first_in ys p k
   unfolding first_in
-  first-same h =
+  first_same h =
       chosen (ltb k p) _ _ _ (λ t. first_alike xs ys p k (at_first p k) (at_first p k) (h (ltb-true k p t)))
 
-  pub second-same : (k < p → Alike xs (at_second p k) ys (at_second p k) second_words) → second_in xs p k ≡ second_in ys p k
+  pub second_same : (k < p → Alike xs (at_second p k) ys (at_second p k) second_words) → second_in xs p k ≡ second_in ys p k
   unfolding second_in
-  second-same h = chosen (ltb k p) _ _ _ (λ t. second_alike xs ys (at_second p k) (at_second p k) (h (ltb-true k p t)))
+  second_same h = chosen (ltb k p) _ _ _ (λ t. second_alike xs ys (at_second p k) (at_second p k) (h (ltb-true k p t)))

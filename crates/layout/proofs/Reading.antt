@@ -74,26 +74,26 @@ second_past_lem ws p k h = choose_no _ _ (le-ltb k p h)
 -- ---- The tallies of a pass 1 frame
 
 module _ (ws : List ℕ) (p k at m : ℕ) where
-  abbrev sentHeld : ℕ → ℕ
-  sentHeld i = choose (has_shell p k i) (word ws (sent_place at k i)) 0
+  abbrev sent_held : ℕ → ℕ
+  sent_held i = choose (has_shell p k i) (word ws (sent_place at k i)) 0
 
-  abbrev takenHeld : ℕ → ℕ
-  takenHeld i = choose (has_shell p k i) (word ws (taken_place p at k i)) 0
+  abbrev taken_held : ℕ → ℕ
+  taken_held i = choose (has_shell p k i) (word ws (taken_place p at k i)) 0
 
-  pub number-sent : k ≤ m → m < p → m < width → number (first_from ws p k at) (sent_in m) ≡ word ws (sent_place at k m)
-  number-sent a b h = sent_listed sentHeld m h ∙ choose_yes _ _ (both_make (le-leb k m a) (lt-ltb m p b))
+  pub number_sent : k ≤ m → m < p → m < width → number (first_from ws p k at) (sent_in m) ≡ word ws (sent_place at k m)
+  number_sent a b h = sent_listed sent_held m h ∙ choose_yes _ _ (both_make (le-leb k m a) (lt-ltb m p b))
 
-  pub number-taken : k ≤ m → m < p → m < width → number (first_from ws p k at) (taken_in m) ≡ word ws (taken_place p at k m)
-  number-taken a b h = taken_listed takenHeld m h ∙ choose_yes _ _ (both_make (le-leb k m a) (lt-ltb m p b))
+  pub number_taken : k ≤ m → m < p → m < width → number (first_from ws p k at) (taken_in m) ≡ word ws (taken_place p at k m)
+  number_taken a b h = taken_listed taken_held m h ∙ choose_yes _ _ (both_make (le-leb k m a) (lt-ltb m p b))
 
   -- a shell that the frame does not have
-  pub number-outside : has_shell p k m ≡ false
+  pub number_outside : has_shell p k m ≡ false
       → (number (first_from ws p k at) (sent_in m) ≡ 0) × (number (first_from ws p k at) (taken_in m) ≡ 0)
-  number-outside e = go (dec_lt m width)
+  number_outside e = go (dec_lt m width)
     where
       go : Dec (m < width) → (number (first_from ws p k at) (sent_in m) ≡ 0) × (number (first_from ws p k at) (taken_in m) ≡ 0)
       go (yes h) = (
-        sent_listed sentHeld m h ∙ choose_no (word ws (sent_place at k m)) 0 e,
-        taken_listed takenHeld m h ∙ choose_no (word ws (taken_place p at k m)) 0 e,
+        sent_listed sent_held m h ∙ choose_no (word ws (sent_place at k m)) 0 e,
+        taken_listed taken_held m h ∙ choose_no (word ws (taken_place p at k m)) 0 e,
       )
-      go (no h) = let o : width ≤ m = omega arith in (sent_past sentHeld m o, taken_past takenHeld m o)
+      go (no h) = let o : width ≤ m = omega arith in (sent_past sent_held m o, taken_past taken_held m o)

@@ -24,7 +24,7 @@ use Rattle.layout.specs.Held.{first_list, second_list, joined_list, packed, spar
 use Rattle.layout.proofs.Offsets.{first_none, first_more, first_above, first_up, first_inside}
 use Rattle.layout.proofs.Whole.{Whole, whole, few}
 use Rattle.layout.proofs.Reading.{sent_word, taken_word, first_word, second_word, first_in_lem, second_in_lem}
-use Rattle.layout.proofs.Reading.{number-sent, number-taken}
+use Rattle.layout.proofs.Reading.{number_sent, number_taken}
 use Rattle.layout.proofs.Slices.{joins, listed, one, rows}
 
 bit_write : (x : ℕ) → x < 2 → bit (eqb x 1) ≡ x
@@ -53,9 +53,9 @@ first_kept ws p k at end h few n long mark =
     let r : ℕ = received_place p at k in
     let marks = one ws at a (bit x.present) refl (omega arith) (bit_write (word ws at) mark) in
     let sents = shells ws p k a (sent_at x.sent) h (omega arith)
-    (λ i l m. number-sent ws p k at i l m (omega arith)) in
+    (λ i l m. number_sent ws p k at i l m (omega arith)) in
     let takens = shells ws p k s (taken_at x.taken) h (omega arith)
-    (λ i l m. number-taken ws p k at i l m (omega arith)) in
+    (λ i l m. number_taken ws p k at i l m (omega arith)) in
     let issued = one ws t r x.issued.0 (omega arith) (omega arith) (ap (word ws) (omega arith)) in
     let received = one ws r end x.received.0 (omega arith) long refl in
     joins ws at a end (omega arith) (omega arith) marks
@@ -96,9 +96,9 @@ module _ (ws : List ℕ) (L : Limits) (w : Whole L ws) (low : dims_of ws ≤ wid
       (ap second_list y
       ∙ second_kept ws (at_second p k) (at_first p (suc k)) (omega arith) (omega arith) (w.second k h))
 
-  rows-kept : joined_list 0 p (λ k. first_list p k (first_at (unpacked ws) k) ++ second_list (second_at (unpacked ws) k))
+  rows_kept : joined_list 0 p (λ k. first_list p k (first_at (unpacked ws) k) ++ second_list (second_at (unpacked ws) k))
       ≡ slice (head_words + p + p) (state_words p) ws
-  rows-kept =
+  rows_kept =
       let from : head_words + p + p ≡ at_first p 0 = omega (arith, first_none p) in
       let to : 0 + p ≡ p = omega arith in
       rw from
@@ -106,9 +106,9 @@ module _ (ws : List ℕ) (L : Limits) (w : Whole L ws) (low : dims_of ws ≤ wid
       (rows ws (at_first p) (λ k. first_list p k (first_at (unpacked ws) k) ++ second_list (second_at (unpacked ws) k)) 0 p
       (first_up p) (λ k h. row_kept k (omega arith))))
 
-  head-kept : head_of (unpacked ws) ≡ slice 0 head_words ws
+  head_kept : head_of (unpacked ws) ≡ slice 0 head_words ws
   unfolding unpacked
-  head-kept =
+  head_kept =
       let long = w.long in
       let b = bit_write (word ws at_busy) w.busy in
       let f = bit_write (word ws at_flag) w.flag in
@@ -117,27 +117,27 @@ module _ (ws : List ℕ) (L : Limits) (w : Whole L ws) (low : dims_of ws ≤ wid
       (λ i j l m q. ap (word ws) (omega arith))
 
   -- the tallies, those sent or those taken
-  tallies-kept : (a : ℕ) (f : ℕ → ℕ) → a + p ≤ state_words p
+  tallies_kept : (a : ℕ) (f : ℕ → ℕ) → a + p ≤ state_words p
       → ((i : ℕ) → i < width → f i ≡ choose (ltb i p) (word ws (a + i)) 0) → list 0 p f ≡ slice a (a + p) ws
-  tallies-kept a f h e =
+  tallies_kept a f h e =
       let long = w.long in
       listed ws a (a + p) 0 p f refl (omega arith)
       (λ i j l m q. e i (omega arith) ∙ choose_yes _ 0 (lt-ltb i p (omega arith)) ∙ ap (word ws) (omega arith))
 
-  state-kept : packed (unpacked ws) ≡ take (state_words p) ws
+  state_kept : packed (unpacked ws) ≡ take (state_words p) ws
   unfolding packed unpacked
-  state-kept =
+  state_kept =
       let above = first_above p p in
-      joins ws 0 head_words (state_words p) (omega arith) (omega arith) head-kept
+      joins ws 0 head_words (state_words p) (omega arith) (omega arith) head_kept
       (joins ws head_words (head_words + p) (state_words p) (omega arith) (omega arith)
-      (tallies-kept head_words _ (omega arith) (sent_word ws))
+      (tallies_kept head_words _ (omega arith) (sent_word ws))
       (joins ws (head_words + p) (head_words + p + p) (state_words p) (omega arith) (omega arith)
-      (tallies-kept (head_words + p) _ (omega arith) (taken_word ws)) rows-kept))
+      (tallies_kept (head_words + p) _ (omega arith) (taken_word ws)) rows_kept))
 
 pub repacked : (L : Limits) → Fits L → (ws : List ℕ) → is_whole L ws ≡ true → holding ws (unpacked ws) ≡ ws
 repacked L fit ws e =
     let w = whole L ws e in
-    ap (λ l. l ++ spare ws) (state-kept ws L w (few L fit ws w.board)) ∙ take-append-drop (state_words (dims_of ws)) ws
+    ap (λ l. l ++ spare ws) (state_kept ws L w (few L fit ws w.board)) ∙ take-append-drop (state_words (dims_of ws)) ws
 
 -- ---- A fresh state
 

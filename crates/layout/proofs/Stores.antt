@@ -19,11 +19,11 @@ use Rattle.layout.specs.Held.{word, dims_of, first_from, first_in, second_in, un
 use Rattle.layout.proofs.Offsets.{first_above, first_apart, first_inside}
 use Rattle.layout.proofs.Whole.{whole}
 use Rattle.layout.proofs.Reading.{first_in_lem, second_in_lem}
-use Rattle.layout.proofs.Written.{Written, paste-here, written-paste}
-use Rattle.layout.proofs.Parts.{Alike, first_alike, second_alike, first-same, second-same}
+use Rattle.layout.proofs.Written.{Written, paste_here, written_paste}
+use Rattle.layout.proofs.Parts.{Alike, first_alike, second_alike, first_same, second_same}
 use Rattle.layout.proofs.Becomes.{Becomes}
-use Rattle.layout.proofs.Writes.{sent-same, taken-same, firsts_same, firsts-set, seconds-same, seconds-set}
-use Rattle.layout.proofs.Writes.{Marked, marked, tail-put}
+use Rattle.layout.proofs.Writes.{sent_same, taken_same, firsts_same, firsts_set, seconds_same, seconds_set}
+use Rattle.layout.proofs.Writes.{Marked, marked, tail_put}
 
 module _ (L : Limits) (ws : List ℕ) (e : is_whole L ws ≡ true) (k : ℕ) (h : k < dims_of ws) where
   -- a write among the words of dimension k
@@ -41,24 +41,24 @@ module _ (L : Limits) (ws : List ℕ) (e : is_whole L ws ≡ true) (k : ℕ) (h 
         go (yes l) = w.low i (omega (arith, first_apart (dims_of ws) j k l))
         go (no l) = w.high i (omega (arith, first_apart (dims_of ws) k j (omega arith)))
 
-    firsts-elsewhere : (j : ℕ) → (j ≡ k → ⊥) → first_in after (dims_of ws) j ≡ first_in ws (dims_of ws) j
-    firsts-elsewhere j d =
-        first-same after ws (dims_of ws) j
+    firsts_elsewhere : (j : ℕ) → (j ≡ k → ⊥) → first_in after (dims_of ws) j ≡ first_in ws (dims_of ws) j
+    firsts_elsewhere j d =
+        first_same after ws (dims_of ws) j
         (λ a i b. elsewhere j (at_first (dims_of ws) j + i) d (omega arith) (omega arith))
 
-    seconds-elsewhere : (j : ℕ) → (j ≡ k → ⊥) → second_in after (dims_of ws) j ≡ second_in ws (dims_of ws) j
-    seconds-elsewhere j d =
-        second-same after ws (dims_of ws) j
+    seconds_elsewhere : (j : ℕ) → (j ≡ k → ⊥) → second_in after (dims_of ws) j ≡ second_in ws (dims_of ws) j
+    seconds_elsewhere j d =
+        second_same after ws (dims_of ws) j
         (λ a i b. elsewhere j (at_second (dims_of ws) j + i) d (omega arith) (omega arith))
 
-    store-put : (f : List Stored) (g : List Confirm) → word after (at_first (dims_of ws) k) < 2
+    store_put : (f : List Stored) (g : List Confirm) → word after (at_first (dims_of ws) k) < 2
         → word after (at_second (dims_of ws) k) < 2 → (unpacked after).first ≡ f → (unpacked after).second ≡ g
         → Becomes L ws after (with_second (with_first (unpacked ws) f) g)
-    store-put f g mf mg ef eg =
-        tail-put L ws e after from n w (omega (arith, first_above (dims_of ws) k)) (unpacked ws).sent (unpacked ws).taken f g
+    store_put f g mf mg ef eg =
+        tail_put L ws e after from n w (omega (arith, first_above (dims_of ws) k)) (unpacked ws).sent (unpacked ws).taken f g
         (omega (arith, first_inside (dims_of ws) k h)) marks
-        (sent-same ws after board (λ j a. w.low (at_sent j) (omega (arith, first_above (dims_of ws) k))))
-        (taken-same ws after board (λ j a. w.low (at_taken (dims_of ws) j) (omega (arith, first_above (dims_of ws) k))))
+        (sent_same ws after board (λ j a. w.low (at_sent j) (omega (arith, first_above (dims_of ws) k))))
+        (taken_same ws after board (λ j a. w.low (at_taken (dims_of ws) j) (omega (arith, first_above (dims_of ws) k))))
         ef eg
       where
         marks : Marked after (dims_of ws)
@@ -78,27 +78,27 @@ module _ (L : Limits) (ws : List ℕ) (e : is_whole L ws ≡ true) (k : ℕ) (h 
     room = omega (arith, first_inside (dims_of ws) k h, (whole L ws e).long)
 
     block : Written ws (pasted ws from bs) from (length bs)
-    block = written-paste ws from bs room
+    block = written_paste ws from bs room
 
     read_back : Alike (pasted ws from bs) from bs 0 (length bs)
-    read_back i a = paste-here ws from bs room i a ∙ ap (word bs) (sym (zero-add i))
+    read_back i a = paste_here ws from bs room i a ∙ ap (word bs) (sym (zero-add i))
 
-    mark-back : 0 < length bs → word (pasted ws from bs) from ≡ word bs 0
-    mark-back a = ap (word (pasted ws from bs)) (sym (add-zero from)) ∙ read_back 0 a
+    mark_back : 0 < length bs → word (pasted ws from bs) from ≡ word bs 0
+    mark_back a = ap (word (pasted ws from bs)) (sym (add-zero from)) ∙ read_back 0 a
 
   pub put_first : k < width → (l : List ℕ) → mark_words + length l ≡ first_words (dims_of ws) k
       → Becomes L ws (pasted ws (at_first (dims_of ws) k) (1 ∷ l))
       (with_first (unpacked ws) (set (unpacked ws).first k (first_from (1 ∷ l) (dims_of ws) k 0)))
   put_first m l q =
-      let mark = mark-back from bs (omega arith) (omega arith) (omega arith) in
-      store-put after from (length bs) w (omega arith) (omega arith) _ _ (rw mark (omega arith))
+      let mark = mark_back from bs (omega arith) (omega arith) (omega arith) in
+      store_put after from (length bs) w (omega arith) (omega arith) _ _ (rw mark (omega arith))
       (rw (w.high (at_second (dims_of ws) k) (omega arith)) (marked L ws e k h).1)
-      (firsts-set ws after here k _ m
+      (firsts_set ws after here k _ m
       (first_in_lem after (dims_of ws) k h
       ∙ first_alike after bs (dims_of ws) k from 0
       (λ i a. read_back from bs (omega arith) (omega arith) i (omega arith)))
-      (firsts-elsewhere after from (length bs) w (omega arith) (omega arith)))
-      (seconds-same ws after here (λ j. seconds j (ℕ_discrete j k)))
+      (firsts_elsewhere after from (length bs) w (omega arith) (omega arith)))
+      (seconds_same ws after here (λ j. seconds j (ℕ_discrete j k)))
     where
       from : ℕ
       from = at_first (dims_of ws) k
@@ -117,22 +117,22 @@ module _ (L : Limits) (ws : List ℕ) (e : is_whole L ws ≡ true) (k : ℕ) (h 
 
       seconds : (j : ℕ) → Dec (j ≡ k) → second_in after (dims_of ws) j ≡ second_in ws (dims_of ws) j
       seconds j (yes z) =
-          second-same after ws (dims_of ws) j (λ a i b. w.high (at_second (dims_of ws) j + i) (rw z (omega arith)))
-      seconds j (no z) = seconds-elsewhere after from (length bs) w (omega arith) (omega arith) j z
+          second_same after ws (dims_of ws) j (λ a i b. w.high (at_second (dims_of ws) j + i) (rw z (omega arith)))
+      seconds j (no z) = seconds_elsewhere after from (length bs) w (omega arith) (omega arith) j z
 
   pub put_second : k < width → (t s : ℕ)
       → Becomes L ws (pasted ws (at_second (dims_of ws) k) (1 ∷ t ∷ s ∷ []))
       (with_second (unpacked ws)
       (set (unpacked ws).second k (record { present = true; agreed = t; issued = sent_number s })))
   put_second m t s =
-      let mark = mark-back from bs (omega arith) (omega arith) (omega arith) in
-      store-put after from second_words w (omega arith) (omega arith) _ _
+      let mark = mark_back from bs (omega arith) (omega arith) (omega arith) in
+      store_put after from second_words w (omega arith) (omega arith) _ _
       (rw (w.low (at_first (dims_of ws) k) (omega arith)) (marked L ws e k h).0) (rw mark (omega arith))
       (firsts_same ws after here (λ j. firsts j (ℕ_discrete j k)))
-      (seconds-set ws after here k _ m
+      (seconds_set ws after here k _ m
       (second_in_lem after (dims_of ws) k h
       ∙ second_alike after bs from 0 (read_back from bs (omega arith) (omega arith)))
-      (seconds-elsewhere after from second_words w (omega arith) (omega arith)))
+      (seconds_elsewhere after from second_words w (omega arith) (omega arith)))
     where
       from : ℕ
       from = at_second (dims_of ws) k
@@ -151,6 +151,6 @@ module _ (L : Limits) (ws : List ℕ) (e : is_whole L ws ≡ true) (k : ℕ) (h 
 
       firsts : (j : ℕ) → Dec (j ≡ k) → first_in after (dims_of ws) j ≡ first_in ws (dims_of ws) j
       firsts j (yes z) =
-          first-same after ws (dims_of ws) j
+          first_same after ws (dims_of ws) j
           (λ a i b. w.low (at_first (dims_of ws) j + i) (rw z (omega (arith, rw z at b))))
-      firsts j (no z) = firsts-elsewhere after from second_words w (omega arith) (omega arith) j z
+      firsts j (no z) = firsts_elsewhere after from second_words w (omega arith) (omega arith) j z

@@ -52,17 +52,17 @@ module _ (ws : List ℕ) (at : ℕ) (l : List ℕ) (fits : at + length l ≤ len
   begun : length (take at ws ++ l) ≡ at + length l
   begun = simp (length-append, length-take-le at ws (omega arith))
 
-  pub paste-here : (i : ℕ) → i < length l → word (pasted ws at l) (at + i) ≡ word l i
+  pub paste_here : (i : ℕ) → i < length l → word (pasted ws at l) (at + i) ≡ word l i
   unfolding pasted
-  paste-here i h =
+  paste_here i h =
       let t : length (take at ws) ≡ at = length-take-le at ws (omega arith) in
       get_or-append (take at ws ++ l) (drop (at + length l) ws) 0 (at + i) (omega (arith, begun))
       ∙ ap (λ j. get_or (take at ws ++ l) (j + i) 0) (sym t)
       ∙ get_or-append-add (take at ws) l i 0
 
-  pub written-paste : Written ws (pasted ws at l) at (length l)
+  pub written_paste : Written ws (pasted ws at l) at (length l)
   unfolding pasted
-  written-paste =
+  written_paste =
       record {
         low = λ i h.
             get_or-append (take at ws ++ l) (drop (at + length l) ws) 0 i (omega (arith, begun))

@@ -1,5 +1,5 @@
 -- The state that words hold, a state as words, and a call on words.
-use Rattle.std.specs.Prelude.{Bool, not, List, [], ◌∷◌, ◌++◌, ℕ, zero, suc, ◌+◌, ◌-◌, ltb, leb, eqb, length, get_or, drop}
+use Rattle.std.specs.Prelude.{Bool, not, List, [], ◌∷◌, ◌++◌, ℕ, zero, suc, ◌-◌, ltb, leb, eqb, length, get_or, drop}
 use Rattle.base.specs.Choice.{choose, both, every, list}
 use Rattle.base.specs.Limits.{Limits, width}
 use Rattle.base.specs.Refusal.{Refusal, number}

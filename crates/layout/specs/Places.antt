@@ -56,7 +56,7 @@ at_received = 1
 
 -- a mark, sent for each shell, taken for each shell, total sent, total taken
 abbrev pub first_words : ℕ → ℕ → ℕ
-first_words p k = 2 * (p - k) + (mark_words + total_words)
+first_words p k = 2 * (p - k) + 3
 
 -- a mark, T, total sent
 abbrev pub second_words : ℕ
@@ -93,13 +93,13 @@ abbrev pub issued_place : ℕ → ℕ → ℕ → ℕ
 issued_place p at k = at + mark_words + 2 * (p - k)
 
 abbrev pub received_place : ℕ → ℕ → ℕ → ℕ
-received_place p at k = at + (mark_words + at_received) + 2 * (p - k)
+received_place p at k = at + 2 + 2 * (p - k)
 
 abbrev pub agreed_place : ℕ → ℕ
-agreed_place at = at + mark_words
+agreed_place at = at + 1
 
 abbrev pub confirmed_place : ℕ → ℕ
-confirmed_place at = at + (mark_words + 1)
+confirmed_place at = at + 2
 
 -- ---- The own sums of a node, which a call gathers in words lent for that: sent and taken for each shell, total sent,
 -- total taken
@@ -111,10 +111,10 @@ abbrev pub sum_issued : ℕ → ℕ
 sum_issued p = 2 * p
 
 abbrev pub sum_received : ℕ → ℕ
-sum_received p = 2 * p + at_received
+sum_received p = 2 * p + 1
 
 abbrev pub sum_words : ℕ → ℕ
-sum_words p = 2 * p + total_words
+sum_words p = 2 * p + 2
 
 -- room for those of every board
 abbrev pub most_sums : ℕ

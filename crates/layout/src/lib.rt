@@ -1,4 +1,6 @@
 // How many words a state has, and where the stored frames of a dimension begin.
+#![tactic(auto)]
+
 ghost use Rattle.std.specs.Prelude.{◌≡◌, leb};
 ghost use Rattle.base.specs.Choice.{choose};
 ghost use Rattle.layout.specs.Places.{at_first, state_words};
@@ -32,13 +34,13 @@ pub const TOTALS: u32 = 2;
 // total taken among these, total sent being first
 pub const RECEIVED: u32 = 1;
 // a stored frame of pass 1 besides its numbers by shell, which follow the mark: how many these are, the board decides
-pub const FIRST: u32 = MARK + TOTALS;
+pub const FIRST: u32 = 3;
 // where T and total sent stand in a stored frame of pass 2
-pub const SECOND_AGREED: u32 = MARK;
+pub const SECOND_AGREED: u32 = 1;
 
-pub const SECOND_ISSUED: u32 = SECOND_AGREED + 1;
+pub const SECOND_ISSUED: u32 = 2;
 // all of that frame: it has no numbers by shell
-pub const SECOND: u32 = SECOND_ISSUED + 1;
+pub const SECOND: u32 = 3;
 // the shells of the largest board
 pub const SHELLS: u32 = base::SHELLS as u32;
 

@@ -13,8 +13,8 @@ use Rattle.line_forms.specs.Forms.{one_number, two_numbers}
 
 -- what the answer of a reader says of the bytes
 module _ (s : List ℕ) (r : Number) (e : r ≡ choose (is_number s) (Is (value_after 0 s)) None) where
-  pub number-none : r ≡ None → is_number s ≡ false
-  number-none n = go (is_number s) (sym e ∙ n)
+  pub number_none : r ≡ None → is_number s ≡ false
+  number_none n = go (is_number s) (sym e ∙ n)
     where
       go : (t : Bool) → choose t (Is (value_after 0 s)) None ≡ None → t ≡ false
       go true q = clash (cc)

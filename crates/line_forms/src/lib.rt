@@ -1,4 +1,6 @@
 // The forms of a script's line: what a word and its numbers say; and the search for a byte. Any bytes may be handed.
+#![tactic(auto)]
+
 ghost use Rattle.std.specs.Prelude.{◌≡◌, ◌≤◌, length};
 ghost use Rattle.line_forms.specs.Forms.{before, one_number, two_numbers};
 
@@ -6,7 +8,7 @@ use base::Kind;
 use line_parts::Number;
 
 // What a line says.
-#[derive(Drop)]
+#[derive(Clone, Copy)]
 pub enum Line {
     // nodes P
     Nodes(u32),

@@ -1,11 +1,13 @@
 // The link that a line of a script delivers on. Any line may be handed.
+#![tactic(auto)]
+
 ghost use Rattle.std.specs.Prelude.{◌≡◌};
 ghost use Rattle.line_links.specs.Links.{ends_of};
 
 use line_forms::Line;
 
 // The ends of a link.
-#[derive(Drop)]
+#[derive(Clone, Copy)]
 pub struct Ends {
     pub from: u8,
     pub to: u8,

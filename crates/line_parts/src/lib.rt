@@ -1,10 +1,12 @@
 // The numbers of a script's line. Any bytes may be handed.
+#![tactic(auto)]
+
 ghost use Rattle.std.specs.Prelude.{◌≡◌, true, ◌≤◌, ◌<◌, length};
 ghost use Rattle.base.specs.Choice.{choose};
 ghost use Rattle.line_parts.specs.Parts.{all_digits, value_after, is_number};
 
 // A part of a line as a number.
-#[derive(Drop)]
+#[derive(Clone, Copy)]
 pub enum Number {
     Is(u32),
     None,

@@ -6,7 +6,7 @@ use Rattle.item_changes.specs.Places.{removed_within}
 use Rattle.items.specs.declared.Item.{Item}
 use Rattle.board_states.specs.declared.Stage.{Stage}
 use Rattle.stage.specs.declared.Acted.{Acted}
-use Rattle.turns.specs.Acts.{acted, actedBytes}
+use Rattle.turns.specs.Acts.{acted, acted_bytes}
 use Rattle.line_links.specs.Links.{ends_of}
 
 module _ (st : Stage) (items : List Item) (bytes : List ℕ) (line : Line) where
@@ -17,8 +17,8 @@ module _ (st : Stage) (items : List Item) (bytes : List ℕ) (line : Line) where
   unfoldable pub stepped : Acted
   stepped = acted st (length items) bytes line oldest (get_or items oldest no_item)
 
-  unfoldable pub steppedBytes : List ℕ
-  steppedBytes = actedBytes st (length items) bytes line oldest (get_or items oldest no_item)
+  unfoldable pub stepped_bytes : List ℕ
+  stepped_bytes = acted_bytes st (length items) bytes line oldest (get_or items oldest no_item)
 
 -- the headers after what the function for a line answers
 unfoldable pub stepped_items : ℕ → Acted → List Item → List Item

@@ -1,6 +1,8 @@
 // A line of a script played on a board, with the headers and the bytes of the items under way, which are lent.
+#![tactic(auto)]
+
 ghost use Rattle.std.specs.Prelude.{◌≡◌};
-ghost use Rattle.line_step.specs.Steps.{stepped, stepped_items, steppedBytes};
+ghost use Rattle.line_step.specs.Steps.{stepped, stepped_items, stepped_bytes};
 
 use board_states::Stage;
 use items::Item;
@@ -11,7 +13,7 @@ use stage::Acted;
 pub fn step(items: &mut [Item], bytes: &mut [u8], st: Stage, line: Line) -> Acted
     ensures answer { result ≡ stepped st items.old bytes.old line }
     ensures headers { items.new ≡ stepped_items st.under result items.old }
-    ensures frames { bytes.new ≡ steppedBytes st items.old bytes.old line }
+    ensures frames { bytes.new ≡ stepped_bytes st items.old bytes.old line }
 {
     let link = line_links::link_of(line);
     let at = items::oldest_at(items, st.under, link.from, link.to);

@@ -22,13 +22,13 @@ use Rattle.items.proofs.Lists.{oldest_within_lem}
 use Rattle.item_changes.proofs.Lists.{set_past, removed_within_lem}
 use Rattle.under_way.specs.Frames.{room_for}
 use Rattle.turns.specs.Events.{Turn, unchanged, turn_of}
-use Rattle.turns.specs.Acts.{acted, actedBytes, acted_items}
-use Rattle.turns.proofs.Turning.{seen, send-turns, idle-turns, call-turns, deliver-turns}
-use Rattle.turns.proofs.Keeping.{line-keeps}
+use Rattle.turns.specs.Acts.{acted, acted_bytes, acted_items}
+use Rattle.turns.proofs.Turning.{seen, send_turns, idle_turns, call_turns, deliver_turns}
+use Rattle.turns.proofs.Keeping.{line_keeps}
 use Rattle.board_states.specs.declared.Stage.{Stage}
 use Rattle.stage.specs.declared.Acted.{Acted}
 use Rattle.lines.specs.Told.{stops}
-use Rattle.line_step.specs.Steps.{oldest, stepped, steppedBytes, stepped_items}
+use Rattle.line_step.specs.Steps.{oldest, stepped, stepped_bytes, stepped_items}
 
 -- the link that a line delivers on is the one that it names
 abbrev pub Near : Line → Type 0
@@ -56,7 +56,7 @@ turn_after st items bytes line =
     record {
       stage = r.stage;
       items = stepped_items st.under r items;
-      bytes = steppedBytes st items bytes line;
+      bytes = stepped_bytes st items bytes line;
       actor = r.actor;
       answer = r.answer;
     }
@@ -66,40 +66,40 @@ module _ (st : Stage) (items : List Item) (bytes : List ℕ) (within : st.under 
   fits = omega (arith, within)
 
   -- the headers after a step are those of the event
-  same-items : (r : Acted) → stepped_items st.under r items ≡ acted_items st.under r items
+  same_items : (r : Acted) → stepped_items st.under r items ≡ acted_items st.under r items
   unfolding stepped_items acted_items
-  same-items r =
+  same_items r =
       ap (λ (l : List Item). set (set l r.at r.first) r.next r.second)
       (removed_within_lem items st.under r.gone fits)
 
   -- what a line does, with an item at a place
-  abbrev doneAt : Line → ℕ → Turn
-  doneAt line at =
+  abbrev done_at : Line → ℕ → Turn
+  done_at line at =
       let it = get_or items at no_item in
-      seen st.under items (acted st (length items) bytes line at it) (actedBytes st (length items) bytes line at it)
+      seen st.under items (acted st (length items) bytes line at it) (acted_bytes st (length items) bytes line at it)
 
-  event-is : (line : Line) → turn_after st items bytes line ≡ doneAt line (oldest st items bytes line)
-  unfolding stepped steppedBytes
-  event-is line =
+  event_is : (line : Line) → turn_after st items bytes line ≡ done_at line (oldest st items bytes line)
+  unfolding stepped stepped_bytes
+  event_is line =
       ap
       (λ (l : List Item).
       record {
         stage = (stepped st items bytes line).stage;
         items = l;
-        bytes = steppedBytes st items bytes line;
+        bytes = stepped_bytes st items bytes line;
         actor = (stepped st items bytes line).actor;
         answer = (stepped st items bytes line).answer;
       })
-      (same-items (stepped st items bytes line))
+      (same_items (stepped st items bytes line))
 
-  oldest-is : (a b : ℕ) → a < base.nodes → b < base.nodes → oldest st items bytes (Delivers a b) ≡ oldest_at items st.under a b
-  oldest-is a b h k =
+  oldest_is : (a b : ℕ) → a < base.nodes → b < base.nodes → oldest st items bytes (Delivers a b) ≡ oldest_at items st.under a b
+  oldest_is a b h k =
       let e : a % 256 ≡ a = omega (arith, h) in
       let f : b % 256 ≡ b = omega (arith, k) in
       (λ i. oldest_within items st.under (e i) (f i)) ∙ oldest_within_lem items st.under a b fits
 
-  good-size : 0 < st.size → st.size ≤ 16 → bad_board base st.size ≡ false
-  good-size h small =
+  good_size : 0 < st.size → st.size ≤ 16 → bad_board base st.size ≡ false
+  good_size h small =
       (λ i. either (ne_eqb st.size 0 (λ e. omega (arith, e, h)) i) (le-ltb base.nodes st.size (omega (arith, small)) i))
 
   -- no header goes, and none is put
@@ -115,7 +115,7 @@ module _ (st : Stage) (items : List Item) (bytes : List ℕ) (within : st.under 
 
   -- a line that is no event changes nothing
   pub still : (l : Line) → stops l ≡ true → turn_after st items bytes l ≡ unchanged st items bytes 0 17
-  unfolding stepped stepped_items steppedBytes acted actedBytes
+  unfolding stepped stepped_items stepped_bytes acted acted_bytes
   still (Nodes P) e = λ i. unchanged st (nothing_put i) bytes 0 17
   still (Sends kind a b) e = clash (sym e)
   still (Delivers a b) e = clash (sym e)
@@ -123,24 +123,24 @@ module _ (st : Stage) (items : List Item) (bytes : List ℕ) (within : st.under 
   still (Calls a) e = clash (sym e)
   still Bad e = λ i. unchanged st (nothing_put i) bytes 0 17
 
-  pub step-turns : 0 < st.size → st.size ≤ 16 → (line : Line) → Near line
+  pub step_turns : 0 < st.size → st.size ≤ 16 → (line : Line) → Near line
       → turn_after st items bytes line ≡ turn_of st items bytes line
-  step-turns h small (Nodes P) near = still (Nodes P) refl
-  step-turns h small (Sends kind a b) near = event-is (Sends kind a b) ∙ send-turns st items bytes kind a b _ _
-  step-turns h small (Delivers a b) near =
-      event-is (Delivers a b)
-      ∙ ap (doneAt (Delivers a b)) (oldest-is a b near.0 near.1)
-      ∙ deliver-turns st items bytes within (good-size h small) a b
-  step-turns h small (Idles a) near = event-is (Idles a) ∙ idle-turns st items bytes a _ _
-  step-turns h small (Calls a) near = event-is (Calls a) ∙ call-turns st items bytes a _ _
-  step-turns h small Bad near = still Bad refl
+  step_turns h small (Nodes P) near = still (Nodes P) refl
+  step_turns h small (Sends kind a b) near = event_is (Sends kind a b) ∙ send_turns st items bytes kind a b _ _
+  step_turns h small (Delivers a b) near =
+      event_is (Delivers a b)
+      ∙ ap (done_at (Delivers a b)) (oldest_is a b near.0 near.1)
+      ∙ deliver_turns st items bytes within (good_size h small) a b
+  step_turns h small (Idles a) near = event_is (Idles a) ∙ idle_turns st items bytes a _ _
+  step_turns h small (Calls a) near = event_is (Calls a) ∙ call_turns st items bytes a _ _
+  step_turns h small Bad near = still Bad refl
 
   -- the size stays, and what is under way stays lent where as much is lent as before
   pub step_keeps : (l : Line) (r : Acted) → r ≡ stepped st items bytes l → (zs : List Item) → length zs ≡ length items
       → (bs : List ℕ) → length bs ≡ length bytes
       → (r.stage.size ≡ st.size) × (r.stage.under ≤ room_for (length zs) bs)
   unfolding stepped
-  step_keeps l r e zs same-items bs same_bytes =
-      let k = line-keeps st (length items) bytes within l (oldest st items bytes l)
+  step_keeps l r e zs same_items bs same_bytes =
+      let k = line_keeps st (length items) bytes within l (oldest st items bytes l)
       (get_or items (oldest st items bytes l) no_item) in
-      (ap (λ (x : Acted). x.stage.size) e ∙ k.size, rw (same-items, same_bytes, e) k.lent)
+      (ap (λ (x : Acted). x.stage.size) e ∙ k.size, rw (same_items, same_bytes, e) k.lent)

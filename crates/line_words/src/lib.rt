@@ -1,4 +1,6 @@
 // The words of a script's line. Any bytes may be handed.
+#![tactic(auto)]
+
 ghost use Rattle.std.specs.Prelude.{◌≡◌};
 ghost use Rattle.line_parts.specs.Parts.{is_nodes, is_letter};
 

@@ -1,5 +1,7 @@
 // A line of a script after the first: as the player of a rehearsal takes it, and what is printed for it. Any script,
 // place and line may be handed.
+#![tactic(auto)]
+
 ghost use Rattle.std.specs.Prelude.{◌≡◌, ltb};
 ghost use Rattle.base.specs.Choice.{both};
 ghost use Rattle.board_states.specs.States.{node_at};

@@ -18,9 +18,9 @@ use Rattle.node.specs.Agree.{first_clauses, first_failing, no_clause}
 use Rattle.node.specs.declared.Stored.{Stored}
 use Rattle.layout.specs.Places.{mark_words, first_words, sent_place, taken_place, issued_place, received_place}
 use Rattle.layout.specs.Held.{word, first_from, sum_of}
-use Rattle.layout.proofs.Reading.{number-sent, number-taken}
+use Rattle.layout.proofs.Reading.{number_sent, number_taken}
 use Rattle.stored.specs.Held.{is_low, low_after, held_test}
-use Rattle.stored.proofs.Frames.{first-held, first-low}
+use Rattle.stored.proofs.Frames.{first_held_lem, first_low}
 use Rattle.adding.specs.Adding.{Framed}
 use Rattle.look_tests.specs.Tests.{clause_by}
 use Rattle.look_tests.proofs.Excess.{none_over, alone_over, is_none, below_two}
@@ -72,29 +72,29 @@ module _ (L : Limits) (ws sums : List ℕ) (p k : ℕ) (h : Framed ws sums p k) 
   abbrev own : Field → ℕ
   own = sum_of p sums
 
-  sent-k : number x (sent_in k) ≡ word ws mark_words
-  sent-k = number-sent ws p k 0 k (omega arith) h.low (omega arith) ∙ ap (word ws) (omega arith)
+  sent_k : number x (sent_in k) ≡ word ws mark_words
+  sent_k = number_sent ws p k 0 k (omega arith) h.low (omega arith) ∙ ap (word ws) (omega arith)
 
-  taken-k : number x (taken_in k) ≡ word ws (mark_words + (p - k))
-  taken-k = number-taken ws p k 0 k (omega arith) h.low (omega arith) ∙ ap (word ws) (omega arith)
+  taken_k : number x (taken_in k) ≡ word ws (mark_words + (p - k))
+  taken_k = number_taken ws p k 0 k (omega arith) h.low (omega arith) ∙ ap (word ws) (omega arith)
 
-  abbrev isStill : Bool
-  isStill = low_after limit ws 0 (length ws)
+  abbrev is_still : Bool
+  is_still = low_after limit ws 0 (length ws)
 
   -- they are low where the numbers are
   held_low : (end : ℕ) → held_test limit ws true 0 end ≡ low_after limit ws 0 end
   unfolding held_test
   held_low end = rw mark
 
-  words_low : ((f : Field) → Has p k f → number x f ≤ limit) → isStill ≡ true
+  words_low : ((f : Field) → Has p k f → number x f ≤ limit) → is_still ≡ true
   words_low low =
       ap (low_after limit ws 0) (h.long ∙ sym (zero-add (first_words p k)))
       ∙ sym (held_low (0 + first_words p k))
-      ∙ first-held ws p k 0 h.low h.few L true
-      ∙ first-low ws p k 0 h.low h.few L mark low
+      ∙ first_held_lem ws p k 0 h.low h.few L true
+      ∙ first_low ws p k 0 h.low h.few L mark low
 
-  numbers-low : isStill ≡ true → (f : Field) → Has p k f → number x f ≤ limit
-  numbers-low e = go
+  numbers_low : is_still ≡ true → (f : Field) → Has p k f → number x f ≤ limit
+  numbers_low e = go
     where
       at : (i : ℕ) → 0 < i → i < first_words p k → word ws i ≤ limit
       at i a b =
@@ -103,10 +103,10 @@ module _ (L : Limits) (ws sums : List ℕ) (p k : ℕ) (h : Framed ws sums p k) 
 
       go : (f : Field) → Has p k f → number x f ≤ limit
       go (sent_in m) (a, b) =
-          let e = number-sent ws p k 0 m a b (omega arith) in
+          let e = number_sent ws p k 0 m a b (omega arith) in
           rw e (at (sent_place 0 k m) (omega arith) (omega arith))
       go (taken_in m) (a, b) =
-          let e = number-taken ws p k 0 m a b (omega arith) in
+          let e = number_taken ws p k 0 m a b (omega arith) in
           rw e (at (taken_place p 0 k m) (omega arith) (omega arith))
       go all_sent u = at (issued_place p 0 k) (omega arith) (omega arith)
       go all_taken u = at (received_place p 0 k) (omega arith) (omega arith)
@@ -115,14 +115,14 @@ module _ (L : Limits) (ws sums : List ℕ) (p k : ℕ) (h : Framed ws sums p k) 
 
   module _ (most : ℕ) (w : (n : ℕ) → leb most n ≡ all_at_most limit p k own x n) where
     -- at most 1, and shell k by itself
-    abbrev isJudged : Bool
-    isJudged = both (ltb most 2) (both (leb (number x (sent_in k)) limit) (leb (number x (taken_in k)) limit))
+    abbrev is_judged : Bool
+    is_judged = both (ltb most 2) (both (leb (number x (sent_in k)) limit) (leb (number x (taken_in k)) limit))
 
     alone : (f : Field) → at_most limit own x 1 f ≡ leb (number x f) limit
     alone f = alone_over limit (own f) (number x f)
 
-    ok-to : isJudged ≡ true → isStill ≡ true
-    ok-to e = words_low go
+    ok_to : is_judged ≡ true → is_still ≡ true
+    ok_to e = words_low go
       where
         parts : (leb most 1 ≡ true) × (number x (sent_in k) ≤ limit) × (number x (taken_in k) ≤ limit)
         parts =
@@ -154,13 +154,13 @@ module _ (L : Limits) (ws sums : List ℕ) (p k : ℕ) (h : Framed ws sums p k) 
         go all_sent u = by all_sent (both_true (at_most limit own x 1 all_sent) (at_most limit own x 1 all_taken) all.0).0
         go all_taken u = by all_taken (both_true (at_most limit own x 1 all_sent) (at_most limit own x 1 all_taken) all.0).1
 
-    ok_from : isStill ≡ true → isJudged ≡ true
+    ok_from : is_still ≡ true → is_judged ≡ true
     ok_from e =
         both_make (sym (below_two most) ∙ w 1 ∙ both_make (both_make (at all_sent tt) (at all_taken tt)) shells)
         (both_make (low (sent_in k) (omega arith, h.low)) (low (taken_in k) (omega arith, h.low)))
       where
         low : (f : Field) → Has p k f → leb (number x f) limit ≡ true
-        low f a = le-leb (number x f) limit (numbers-low e f a)
+        low f a = le-leb (number x f) limit (numbers_low e f a)
 
         at : (f : Field) → Has p k f → at_most limit own x 1 f ≡ true
         at f a = alone f ∙ low f a
@@ -170,10 +170,10 @@ module _ (L : Limits) (ws sums : List ℕ) (p k : ℕ) (h : Framed ws sums p k) 
             every_make (suc k) (p - suc k) (shell_at_most limit own x 1)
             (λ m a b. both_make (at (sent_in m) (omega arith, omega arith)) (at (taken_in m) (omega arith, omega arith)))
 
-    pub ok-is : both (ltb most 2) (both (leb (word ws mark_words) limit) (leb (word ws (mark_words + (p - k))) limit)) ≡ isStill
-    ok-is =
-        (λ i. both (ltb most 2) (both (leb (sym sent-k i) limit) (leb (sym taken-k i) limit)))
-        ∙ same_test isJudged isStill ok-to ok_from
+    pub ok_is : both (ltb most 2) (both (leb (word ws mark_words) limit) (leb (word ws (mark_words + (p - k))) limit)) ≡ is_still
+    ok_is =
+        (λ i. both (ltb most 2) (both (leb (sym sent_k i) limit) (leb (sym taken_k i) limit)))
+        ∙ same_test is_judged is_still ok_to ok_from
 
     -- clause 3
     abbrev fits : Field → Bool
@@ -214,11 +214,11 @@ module _ (L : Limits) (ws sums : List ℕ) (p k : ℕ) (h : Framed ws sums p k) 
       read : named
           ≡ choose first (choose second (choose (eqb most 0) (choose (fourth (k + 1) issued received) no_clause 4) 3) 2) 1
       read j =
-          clause_by (own (sent_in k)) (sym taken-k j) (own (taken_in k)) (sym sent-k j) most (eqb (k + 1) p) issued received
+          clause_by (own (sent_in k)) (sym taken_k j) (own (taken_in k)) (sym sent_k j) most (eqb (k + 1) p) issued received
 
-      pub clause-is : named ≡ first_failing (first_clauses L p k own x)
+      pub clause_is : named ≡ first_failing (first_clauses L p k own x)
       unfolding first_clauses
-      clause-is =
+      clause_is =
           let last = fourth (suc k) (own all_sent + number x all_sent) (own all_taken + number x all_taken) in
           read
           ∙ in_order_lem first second (eqb most 0) (fourth (k + 1) issued received) last
@@ -226,7 +226,7 @@ module _ (L : Limits) (ws sums : List ℕ) (p k : ℕ) (h : Framed ws sums p k) 
           ∙ (λ j.
           first_failing (sym (eq-eqb (word ws 0) 1 mark) j ∷ first ∷ second ∷ third j ∷ last ∷ true ∷ true ∷ []))
 
-      pub total-is : named ≡ no_clause → received ≡ own all_taken + number x all_taken
-      total-is e =
+      pub total_is : named ≡ no_clause → received ≡ own all_taken + number x all_taken
+      total_is e =
           received_is
           (eqb-true most 0 (third_holds first second (eqb most 0) (fourth (k + 1) issued received) (sym read ∙ e)))

@@ -3,7 +3,7 @@ use Rattle.std.specs.Prelude.{◌≡◌, Bool, List, ℕ, ◌+◌, eqb, length}
 use Rattle.base.specs.Choice.{both}
 use Rattle.base.specs.Limits.{Limits, field_limit}
 use Rattle.node.specs.Sums.{all_taken, number}
-use Rattle.node.specs.Agree.{first_failing, no_clause}
+use Rattle.node.specs.Agree.{first_failing}
 use Rattle.layout.specs.Held.{word, first_from, sum_of}
 use Rattle.stored.specs.Held.{low_after}
 use Rattle.walk_tests.specs.Tests.{first_fits}
@@ -20,4 +20,4 @@ pub record Looked (L : Limits) (ws sums : List ℕ) (p k : ℕ) (r : Look) : Typ
   pub ok : r.ok ≡ is_stored L ws sums p k
   pub clause : r.clause ≡ first_failing (first_tried L ws sums p k)
   -- where all clauses hold
-  pub total : r.clause ≡ no_clause → r.received.0 ≡ sum_of p sums all_taken + number (first_from ws p k 0) all_taken
+  pub total : r.clause ≡ 7 → r.received.0 ≡ sum_of p sums all_taken + number (first_from ws p k 0) all_taken

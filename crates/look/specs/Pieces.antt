@@ -4,7 +4,7 @@ use Rattle.base.specs.Choice.{both, every}
 use Rattle.base.specs.Limits.{Limits, field_limit}
 use Rattle.frame.specs.Frame.{taken_number}
 use Rattle.node.specs.Sums.{Field, sent_in, taken_in, all_sent, all_taken, number}
-use Rattle.node.specs.Agree.{first_clauses, first_failing, no_clause}
+use Rattle.node.specs.Agree.{first_clauses, first_failing}
 use Rattle.node.specs.declared.Stored.{Stored}
 use Rattle.layout.specs.Held.{first_from, sum_of}
 use Rattle.stored.specs.Held.{low_after}
@@ -44,4 +44,4 @@ no_look = record { ok = false; clause = 0; received = taken_number 0 }
 pub record Judged (L : Limits) (ws sums : List ℕ) (p k : ℕ) (r : Look) : Type 0 where
   pub ok : r.ok ≡ low_after (field_limit L) ws 0 (length ws)
   pub clause : r.clause ≡ first_failing (first_clauses L p k (sum_of p sums) (first_from ws p k 0))
-  pub total : r.clause ≡ no_clause → r.received.0 ≡ sum_of p sums all_taken + number (first_from ws p k 0) all_taken
+  pub total : r.clause ≡ 7 → r.received.0 ≡ sum_of p sums all_taken + number (first_from ws p k 0) all_taken

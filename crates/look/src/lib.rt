@@ -1,5 +1,7 @@
 // The look at the step of a node's position in pass 1: its frame, lent by itself, is read once, for the state test and for the
 // clauses.
+#![tactic(auto)]
+
 ghost use Rattle.std.specs.Prelude.{◌≡◌, ◌≤◌, ◌<◌};
 ghost use Rattle.base.specs.Limits.{limits_of};
 ghost use Rattle.layout.specs.Held.{word, first_from, sum_of};
@@ -10,7 +12,7 @@ ghost use Rattle.look.specs.Pieces.{ShellWeighed, Weighed, TotalsAdded, no_look,
 use base::Bounds;
 use frame::{Sent, Taken};
 
-#[derive(Drop)]
+#[derive(Clone, Copy)]
 pub struct Look {
     // the numbers of the frame may be stored
     pub ok: bool,
@@ -57,7 +59,7 @@ fn weigh(limit: u32, s: &[u32], sums: &[u32], p: u32, k: u32) -> u32
 }
 
 // The larger excess of the totals and, where both are within the limit, their sums.
-#[derive(Drop)]
+#[derive(Clone, Copy)]
 struct Totals {
     excess: u32,
     issued: Sent,

@@ -1,4 +1,6 @@
 // Small tests of the look at a stored frame of pass 1: a number beside its sum, and the clauses in their order.
+#![tactic(auto)]
+
 ghost use Rattle.std.specs.Prelude.{◌≡◌};
 ghost use Rattle.look_tests.specs.Tests.{excess, clause_by};
 

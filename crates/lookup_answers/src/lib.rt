@@ -1,5 +1,7 @@
 // The answers of lookups, of the frame writer and of the frame reader as numbers, as a caller in C is told them, and
 // what is found put into lent words.
+#![tactic(auto)]
+
 ghost use Rattle.std.specs.Prelude.{◌≡◌};
 ghost use Rattle.tree.specs.Lookups.{found_answer, placed_answer};
 ghost use Rattle.lookup_answers.specs.Words.{lookup_number, number_words, place_words, read_number};

@@ -1,5 +1,7 @@
 // The place of a node in a dimension, on any board; with it the distance of two nodes.
 // Any number may be handed to either; what is not allowed is refused with its number (rule R3).
+#![tactic(auto)]
+
 ghost use Rattle.std.specs.Prelude.{◌≡◌, ◌+◌, ◌≤◌, ◌<◌};
 ghost use Rattle.base.specs.Limits.{base, limits_of};
 ghost use Rattle.base.specs.Refusal.{found};

@@ -18,17 +18,17 @@ use Rattle.base.proofs.Laws.{choose_yes, choose_no, cases, list_at}
 use Rattle.tree.specs.Tree.{dimension, root, right_size, run_below, run_of, place_in, place}
 use Rattle.tree.specs.Tree.{alone, awaits, sends_to, awaited, receivers}
 use Rattle.tree.proofs.Dimension.{fits}
-use Rattle.tree.proofs.Places.{place-alone}
+use Rattle.tree.proofs.Places.{place_alone}
 use Rattle.tree.proofs.Lookups.{board_good}
 use Rattle.frame.specs.Frame.{sent_number, taken_number, sent_at, taken_at, frame_bytes, has_shell}
 use Rattle.frame.specs.Frame.{number_ok, numbers_ok, read_frame, write_frame}
 use Rattle.frame.specs.declared.Sent.{Sent}
 use Rattle.frame.specs.declared.Taken.{Taken}
 use Rattle.frame.specs.declared.Frame.{Frame}
-use Rattle.frame.proofs.Writing.{length-frame}
-use Rattle.frame.proofs.RoundTripChecks.{Numbers, numbers-good, shell_known}
+use Rattle.frame.proofs.Writing.{length_frame}
+use Rattle.frame.proofs.RoundTripChecks.{Numbers, numbers_good, shell_known}
 use Rattle.frame.specs.Shapes.{Shaped}
-use Rattle.frame.proofs.RoundTripAccepted.{Accepted, size, write-good}
+use Rattle.frame.proofs.RoundTripAccepted.{Accepted, size, write_good}
 use Rattle.frame.proofs.RoundTripWrite.{write_then_read}
 use Rattle.node.specs.Sums.{dims, first_at, second_at, Field, sent_in, taken_in, all_sent, all_taken}
 use Rattle.node.specs.Sums.{tally, number, own, own_issued}
@@ -37,7 +37,7 @@ use Rattle.node.specs.Barrier.{first_frame, second_frame, frame_due, length_due,
 use Rattle.node.specs.declared.Node.{Node}
 use Rattle.node.proofs.Totals.{total_at}
 use Rattle.node.specs.Sums.{Has}
-use Rattle.node.proofs.Clauses.{has_lower, first-agrees, second-agrees}
+use Rattle.node.proofs.Clauses.{has_lower, first_agrees, second_agrees}
 use Rattle.node.proofs.Valid.{Valid, valid_width, step_of, step_first, step_second, first_fits, second_fits}
 
 -- ---- the own sums are within the field limit
@@ -60,8 +60,8 @@ module _ (L : Limits) (room : L.nodes ≤ 2 ^ width) (n : Node) (v : Valid L n) 
   wide : dims n ≤ width
   wide = valid_width L n room v
 
-  pub tally-low : (f : Field) → Has (dims n) 0 f → tally n f ≤ field_limit L
-  tally-low f h =
+  pub tally_low : (f : Field) → Has (dims n) 0 f → tally n f ≤ field_limit L
+  tally_low f h =
       let b = board_good L n.nodes v.board in
       go f h (limits_low L (omega arith))
     where
@@ -73,34 +73,34 @@ module _ (L : Limits) (room : L.nodes ≤ 2 ^ width) (n : Node) (v : Valid L n) 
       go all_taken h l = omega (arith, v.taken)
 
   -- the own sums for a dimension whose steps before agree, of pass 1 and of pass 2
-  pub own-low : (k : ℕ) → k ≤ dims n → ((j : ℕ) → j < k → agrees L n 1 j ≡ true) → (f : Field) → Has (dims n) k f
+  pub own_low : (k : ℕ) → k ≤ dims n → ((j : ℕ) → j < k → agrees L n 1 j ≡ true) → (f : Field) → Has (dims n) k f
       → own n k f ≤ field_limit L
   unfolding own
-  own-low zero l a f h = tally-low f h
-  own-low (suc k) l a f h =
+  own_low zero l a f h = tally_low f h
+  own_low (suc k) l a f h =
       let less = has_lower (dims n) k (suc k) f (omega arith) h in
-      let rest = own-low k (omega arith) (λ j m. a j (omega arith)) f less in
+      let rest = own_low k (omega arith) (λ j m. a j (omega arith)) f less in
       added_low (own n k f) (number (first_at n k) f) (field_limit L) (first_at n k).present rest
       (λ p.
       let met = ((first_fits L n k (v.first k (omega (arith, wide)))).awaits p).1 in
-      (first-agrees L n k (a k (omega arith)) met).within f h)
+      (first_agrees L n k (a k (omega arith)) met).within f h)
 
-  pub issued-low : (k : ℕ) → k ≤ dims n → ((j : ℕ) → j < k → agrees L n 2 j ≡ true) → own_issued n k ≤ field_limit L
+  pub issued_low : (k : ℕ) → k ≤ dims n → ((j : ℕ) → j < k → agrees L n 2 j ≡ true) → own_issued n k ≤ field_limit L
   unfolding own_issued
-  issued-low zero l a = tally-low all_sent tt
-  issued-low (suc k) l a =
-      let rest = issued-low k (omega arith) (λ j m. a j (omega arith)) in
+  issued_low zero l a = tally_low all_sent tt
+  issued_low (suc k) l a =
+      let rest = issued_low k (omega arith) (λ j m. a j (omega arith)) in
       added_low (own_issued n k) (second_at n k).issued.0 (field_limit L) (second_at n k).present rest
       (λ p.
       let met = ((second_fits L n k (v.second k (omega (arith, wide)))).awaits p).1 in
-      (second-agrees L n k (a k (omega arith)) met).within)
+      (second_agrees L n k (a k (omega arith)) met).within)
 
   -- for steps up to the position
-  pub own-within : (k : ℕ) → k ≤ dims n → k ≤ step_of n → (f : Field) → Has (dims n) k f → own n k f ≤ field_limit L
-  own-within k l h f s = own-low k l (λ j m. v.before_first j (omega arith) (omega arith)) f s
+  pub own_within : (k : ℕ) → k ≤ dims n → k ≤ step_of n → (f : Field) → Has (dims n) k f → own n k f ≤ field_limit L
+  own_within k l h f s = own_low k l (λ j m. v.before_first j (omega arith) (omega arith)) f s
 
-  pub issued-within : (k : ℕ) → k ≤ dims n → dims n + k ≤ step_of n → own_issued n k ≤ field_limit L
-  issued-within k l h = issued-low k l (λ j m. v.before_second j (omega arith))
+  pub issued_within : (k : ℕ) → k ≤ dims n → dims n + k ≤ step_of n → own_issued n k ≤ field_limit L
+  issued_within k l h = issued_low k l (λ j m. v.before_second j (omega arith))
 
 -- ---- the frame due
 
@@ -146,11 +146,11 @@ module _ (L : Limits) (room : L.nodes ≤ 2 ^ width) (n : Node) (v : Valid L n) 
   abbrev shown : (ℕ → Field) → ℕ → ℕ
   shown f m = choose (has_shell (dims n) n.dim m) (own n n.dim (f m)) 0
 
-  first-numbers : n.pass ≡ 1 → Numbers L (dims n) (first_frame n)
-  first-numbers e =
+  first_numbers_lem : n.pass ≡ 1 → Numbers L (dims n) (first_frame n)
+  first_numbers_lem e =
       record {
-        sent = λ m h. ap (ok m) (sent_is m h) ∙ shell-ok sent_in (λ m h. h) m;
-        taken = λ m h. ap (ok m) (taken_is m h) ∙ shell-ok taken_in (λ m h. h) m;
+        sent = λ m h. ap (ok m) (sent_is m h) ∙ shell_ok_lem sent_in (λ m h. h) m;
+        taken = λ m h. ap (ok m) (taken_is m h) ∙ shell_ok_lem taken_in (λ m h. h) m;
         issued = small all_sent tt;
         received = le-leb _ _ (small all_taken tt);
         agreed = refl;
@@ -160,14 +160,14 @@ module _ (L : Limits) (room : L.nodes ≤ 2 ^ width) (n : Node) (v : Valid L n) 
       at = step_first (dims n) n.pass n.dim e
 
       small : (f : Field) → Has (dims n) n.dim f → own n n.dim f ≤ field_limit L
-      small f h = own-within L room n v n.dim (omega arith) (omega (arith, at)) f h
+      small f h = own_within L room n v n.dim (omega arith) (omega (arith, at)) f h
 
       ok : ℕ → ℕ → Bool
       ok m x = number_ok L (has_shell (dims n) n.dim m) x
 
-      shell-ok : (f : ℕ → Field) → ((m : ℕ) → (n.dim ≤ m) × (m < dims n) → Has (dims n) n.dim (f m)) → (m : ℕ)
+      shell_ok_lem : (f : ℕ → Field) → ((m : ℕ) → (n.dim ≤ m) × (m < dims n) → Has (dims n) n.dim (f m)) → (m : ℕ)
           → ok m (shown f m) ≡ true
-      shell-ok f has m =
+      shell_ok_lem f has m =
           given_ok L (has_shell (dims n) n.dim m) (own n n.dim (f m))
           (λ q. small (f m) (has m (shell_known (dims n) n.dim m q)))
 
@@ -179,21 +179,21 @@ module _ (L : Limits) (room : L.nodes ≤ 2 ^ width) (n : Node) (v : Valid L n) 
       taken_is m h =
           ap (λ (x : Taken). x.0) (list_at width (λ m. taken_number (shown taken_in m)) m (taken_number 0) h)
 
-  second-numbers : n.pass ≡ 2 → Numbers L (dims n) (second_frame n)
-  second-numbers e =
+  second_numbers_lem : n.pass ≡ 2 → Numbers L (dims n) (second_frame n)
+  second_numbers_lem e =
       record {
         sent = λ m h. eq-eqb _ 0 (ap (λ (x : Sent). x.0) (list_at width (λ m. sent_number 0) m (sent_number 0) h));
         taken = λ m h. eq-eqb _ 0 (ap (λ (x : Taken). x.0) (list_at width (λ m. taken_number 0) m (taken_number 0) h));
         issued =
             let at = step_second (dims n) n.pass n.dim e in
-            issued-within L room n v n.dim (omega arith) (omega arith);
+            issued_within L room n v n.dim (omega arith) (omega arith);
         received = refl;
         agreed = le-leb _ _ v.agreed;
       }
 
   -- the writer and the reader accept the frame
-  pub due-accepted : Accepted L n.nodes (frame_due n)
-  due-accepted =
+  pub due_accepted : Accepted L n.nodes (frame_due n)
+  due_accepted =
       let h = due_headed n v.pass in
       record {
         board = v.board;
@@ -201,52 +201,52 @@ module _ (L : Limits) (room : L.nodes ≤ 2 ^ width) (n : Node) (v : Valid L n) 
         dim = omega (arith, h.dim);
         numbers =
             by_pass n (λ f. numbers_ok L (dims n) f ≡ true) v.pass
-            (λ e. numbers-good L (dims n) (first_frame n) (first-numbers e))
-            (λ e. numbers-good L (dims n) (second_frame n) (second-numbers e));
+            (λ e. numbers_good L (dims n) (first_frame n) (first_numbers_lem e))
+            (λ e. numbers_good L (dims n) (second_frame n) (second_numbers_lem e));
         sender = omega (arith, h.sender, v.number);
       }
 
-  due-size : size n.nodes (frame_due n) ≡ length_due n
-  due-size = let h = due_headed n v.pass in rw (h.pass, h.dim)
+  due_size : size n.nodes (frame_due n) ≡ length_due n
+  due_size = let h = due_headed n v.pass in rw (h.pass, h.dim)
 
   -- so it is written wherever there is room
-  pub due-written : (bytes : ℕ) → length_due n ≤ bytes
+  pub due_written : (bytes : ℕ) → length_due n ≤ bytes
       → write_frame L n.nodes (frame_due n) bytes ≡ found (length_due n)
-  due-written bytes h =
-      write-good L n.nodes (frame_due n) bytes due-accepted (omega (arith, due-size)) ∙ ap found due-size
+  due_written bytes h =
+      write_good L n.nodes (frame_due n) bytes due_accepted (omega (arith, due_size)) ∙ ap found due_size
 
   -- and read back as it was
-  pub due-read : field_limit L < 4294967296
+  pub due_read : field_limit L < 4294967296
       → read_frame L n.nodes (frame_bytes (dims n) (frame_due n)) ≡ found (frame_due n)
-  due-read four =
+  due_read four =
       write_then_read L (record { words = four; shells = room }) n.nodes (frame_due n) (due_shaped n) (length_due n)
-      (length_due n) (due-written (length_due n) (omega arith))
+      (length_due n) (due_written (length_due n) (omega arith))
 
 -- the bytes of the frame due have the length that is stated
 pub due_length : (n : Node) → (n.pass ≡ 1) ⊎ (n.pass ≡ 2) → length (frame_bytes (dims n) (frame_due n)) ≡ length_due n
-due_length n p = let h = due_headed n p in length-frame (dims n) (frame_due n) ∙ rw (h.pass, h.dim)
+due_length n p = let h = due_headed n p in length_frame (dims n) (frame_due n) ∙ rw (h.pass, h.dim)
 
 -- ---- a board of one node
 
 module _ (P k a : ℕ) (e : dimension P ≡ 0) where
-  one-run : run_of P (suc k) a ≡ root P
+  one_run : run_of P (suc k) a ≡ root P
   unfolding run_of run_below
-  one-run = let z : dimension P - suc k ≡ 0 = omega arith in rw z
+  one_run = let z : dimension P - suc k ≡ 0 = omega arith in rw z
 
   one_place : place P k a ≡ alone
   unfolding place
   one_place =
       let one : P ≤ 2 ^ 0 = rw e at (fits P) in
       let z : right_size (root P) ≡ 0 = omega arith in
-      ap (λ r. place_in r a) one-run ∙ place-alone (root P) a z
+      ap (λ r. place_in r a) one_run ∙ place_alone (root P) a z
 
-  pub one-receivers : receivers P k a ≡ []
+  pub one_receivers : receivers P k a ≡ []
   unfolding receivers
-  one-receivers = ap sends_to one_place
+  one_receivers = ap sends_to one_place
 
-  pub one-awaited : awaited P k a ≡ none
+  pub one_awaited : awaited P k a ≡ none
   unfolding awaited
-  one-awaited = ap awaits one_place
+  one_awaited = ap awaits one_place
 
 -- who has someone to send to is at a dimension of its board
 pub due_dim : (L : Limits) (n : Node) → Valid L n → (first : ℕ) (rest : List ℕ) → receivers_due n ≡ first ∷ rest
@@ -255,7 +255,7 @@ due_dim L n v first rest e = go (ℕ_discrete (dims n) 0)
   where
     go : Dec (dims n ≡ 0) → n.dim < dims n
     go (yes z) =
-        let none : ◌≡◌ {A = List ℕ} [] (first ∷ rest) = sym (one-receivers n.nodes n.dim n.number z) ∙ e in
+        let none : ◌≡◌ {A = List ℕ} [] (first ∷ rest) = sym (one_receivers n.nodes n.dim n.number z) ∙ e in
         let clash : ◌≡◌ {A = ℕ} 0 1 = cc in
         absurd (omega arith)
     go (no z) = v.dim (omega arith)

@@ -45,18 +45,18 @@ module _ (L : Limits) (p k : ℕ) (own : Field → ℕ) (x : Stored) where
   abbrev added : Field → ℕ
   added f = own f + number x f
 
-  abbrev shellsOk : ℕ → Bool
-  shellsOk m = both (is_within L (added (sent_in m))) (is_within L (added (taken_in m)))
+  abbrev shells_ok : ℕ → Bool
+  shells_ok m = both (is_within L (added (sent_in m))) (is_within L (added (taken_in m)))
 
   abbrev shells : Bool
-  shells = every (suc k) (p - suc k) shellsOk
+  shells = every (suc k) (p - suc k) shells_ok
 
   abbrev totals : Bool
   totals = both (is_within L (added all_sent)) (is_within L (added all_taken))
 
   -- clause 3
-  pub all-within : both shells totals ≡ true → (f : Field) → Has p (suc k) f → added f ≤ field_limit L
-  all-within e =
+  pub all_within : both shells totals ≡ true → (f : Field) → Has p (suc k) f → added f ≤ field_limit L
+  all_within e =
       let b = both_true shells totals e in
       within b.0 (both_true (is_within L (added all_sent)) (is_within L (added all_taken)) b.1)
     where
@@ -64,7 +64,7 @@ module _ (L : Limits) (p k : ℕ) (own : Field → ℕ) (x : Stored) where
           → (is_within L (added (sent_in m)) ≡ true) × (is_within L (added (taken_in m)) ≡ true)
       shell e m a b =
           both_true (is_within L (added (sent_in m))) (is_within L (added (taken_in m)))
-          (every_at (suc k) (p - suc k) shellsOk e m a (omega arith))
+          (every_at (suc k) (p - suc k) shells_ok e m a (omega arith))
 
       within : shells ≡ true → (is_within L (added all_sent) ≡ true) × (is_within L (added all_taken) ≡ true) → (f : Field)
           → Has p (suc k) f → added f ≤ field_limit L
@@ -81,9 +81,9 @@ module _ (L : Limits) (p k : ℕ) (own : Field → ℕ) (x : Stored) where
       both_make (le-leb _ _ (w (sent_in m) (omega arith))) (le-leb _ _ (w (taken_in m) (omega arith)))))
       (both_make (le-leb _ _ (w all_sent tt)) (le-leb _ _ (w all_taken tt)))
 
-  pub first-known : all_hold (first_clauses L p k own x) ≡ true → FirstAgrees L p k own x
+  pub first_known : all_hold (first_clauses L p k own x) ≡ true → FirstAgrees L p k own x
   unfolding first_clauses
-  first-known e =
+  first_known e =
       let a = both_true x.present _ e in
       let b = both_true (eqb (own (sent_in k)) (number x (taken_in k))) _ a.1 in
       let c = both_true (eqb (own (taken_in k)) (number x (sent_in k))) _ b.1 in
@@ -94,7 +94,7 @@ module _ (L : Limits) (p k : ℕ) (own : Field → ℕ) (x : Stored) where
         stored = a.0;
         sent = eqb-true _ _ b.0;
         taken = eqb-true _ _ c.0;
-        within = all-within d.0;
+        within = all_within d.0;
         last = λ q. eqb-true _ _ (at_last (eqb (suc k) p) same f.0 (eq-eqb (suc k) p q));
       }
 
@@ -119,9 +119,9 @@ pub record SecondAgrees (L : Limits) (p k issued agreed : ℕ) (x : Confirm) : T
   pub last : suc k ≡ p → issued + x.issued.0 ≡ agreed
 
 module _ (L : Limits) (p k issued agreed : ℕ) (x : Confirm) where
-  pub second-known : all_hold (second_clauses L p k issued agreed x) ≡ true → SecondAgrees L p k issued agreed x
+  pub second_known : all_hold (second_clauses L p k issued agreed x) ≡ true → SecondAgrees L p k issued agreed x
   unfolding second_clauses
-  second-known e =
+  second_known e =
       let sum = issued + x.issued.0 in
       let a = both_true x.present _ e in
       let b = both_true (is_within L sum) _ a.1 in
@@ -134,9 +134,9 @@ module _ (L : Limits) (p k issued agreed : ℕ) (x : Confirm) where
         last = λ q. eqb-true _ _ (at_last (eqb (suc k) p) (eqb sum agreed) d.0 (eq-eqb (suc k) p q));
       }
 
-  pub second-good : SecondAgrees L p k issued agreed x → all_hold (second_clauses L p k issued agreed x) ≡ true
+  pub second_good : SecondAgrees L p k issued agreed x → all_hold (second_clauses L p k issued agreed x) ≡ true
   unfolding second_clauses
-  second-good a =
+  second_good a =
       both_make a.stored
       (both_make (le-leb _ _ a.within)
       (both_make (eq-eqb _ _ a.same)
@@ -152,9 +152,9 @@ module _ (L : Limits) (n : Node) (k : ℕ) where
   abbrev pub SecondStep : Type 0
   SecondStep = SecondAgrees L (dims n) k (own_issued n k) n.agreed (second_at n k)
 
-  pub first-agrees : agrees L n 1 k ≡ true → is_alone n k ≡ false → FirstStep
+  pub first_agrees : agrees L n 1 k ≡ true → is_alone n k ≡ false → FirstStep
   unfolding agrees
-  first-agrees e a = first-known L (dims n) k (own n k) (first_at n k) (sym (choose_no true _ a) ∙ e)
+  first_agrees e a = first_known L (dims n) k (own n k) (first_at n k) (sym (choose_no true _ a) ∙ e)
 
   pub first_step : (is_alone n k ≡ false → FirstStep) → agrees L n 1 k ≡ true
   unfolding agrees
@@ -162,13 +162,13 @@ module _ (L : Limits) (n : Node) (k : ℕ) where
       cases (λ t. t ≡ true) (is_alone n k) true _ (λ a. refl)
       (λ a. first_good L (dims n) k (own n k) (first_at n k) (h a))
 
-  pub second-agrees : agrees L n 2 k ≡ true → is_alone n k ≡ false → SecondStep
+  pub second_agrees : agrees L n 2 k ≡ true → is_alone n k ≡ false → SecondStep
   unfolding agrees
-  second-agrees e a =
-      second-known L (dims n) k (own_issued n k) n.agreed (second_at n k) (sym (choose_no true _ a) ∙ e)
+  second_agrees e a =
+      second_known L (dims n) k (own_issued n k) n.agreed (second_at n k) (sym (choose_no true _ a) ∙ e)
 
-  pub second-step : (is_alone n k ≡ false → SecondStep) → agrees L n 2 k ≡ true
+  pub second_step : (is_alone n k ≡ false → SecondStep) → agrees L n 2 k ≡ true
   unfolding agrees
-  second-step h =
+  second_step h =
       cases (λ t. t ≡ true) (is_alone n k) true _ (λ a. refl)
-      (λ a. second-good L (dims n) k (own_issued n k) n.agreed (second_at n k) (h a))
+      (λ a. second_good L (dims n) k (own_issued n k) n.agreed (second_at n k) (h a))

@@ -50,45 +50,45 @@ pub alike : (n : Node) → Alike n n
 alike n = record { nodes = refl; number = refl; sent = refl; taken = refl }
 
 module _ (n n' : Node) (a : Alike n n') where
-  pub tally-same : (f : Field) → tally n' f ≡ tally n f
-  tally-same (sent_in m) = ap (λ l. sent_at l m) a.sent
-  tally-same (taken_in m) = ap (λ l. taken_at l m) a.taken
-  tally-same all_sent = λ i. total (sent_at (a.sent i)) (dimension (a.nodes i))
-  tally-same all_taken = λ i. total (taken_at (a.taken i)) (dimension (a.nodes i))
+  pub tally_same : (f : Field) → tally n' f ≡ tally n f
+  tally_same (sent_in m) = ap (λ l. sent_at l m) a.sent
+  tally_same (taken_in m) = ap (λ l. taken_at l m) a.taken
+  tally_same all_sent = λ i. total (sent_at (a.sent i)) (dimension (a.nodes i))
+  tally_same all_taken = λ i. total (taken_at (a.taken i)) (dimension (a.nodes i))
 
   -- the own sums for dimension k depend on what is stored below k
   pub own_same : (k : ℕ) → ((j : ℕ) → j < k → first_at n' j ≡ first_at n j) → (f : Field) → own n' k f ≡ own n k f
   unfolding own
-  own_same zero h f = tally-same f
+  own_same zero h f = tally_same f
   own_same (suc k) h f =
       let r = own_same k (λ j l. h j (omega arith)) f in
       let z = ap (λ (x : Stored). choose x.present (number x f) 0) (h k (omega arith)) in
       λ i. r i + z i
 
-  pub issued-same : (k : ℕ) → ((j : ℕ) → j < k → second_at n' j ≡ second_at n j) → own_issued n' k ≡ own_issued n k
+  pub issued_same : (k : ℕ) → ((j : ℕ) → j < k → second_at n' j ≡ second_at n j) → own_issued n' k ≡ own_issued n k
   unfolding own_issued
-  issued-same zero h = tally-same all_sent
-  issued-same (suc k) h =
-      let r = issued-same k (λ j l. h j (omega arith)) in
+  issued_same zero h = tally_same all_sent
+  issued_same (suc k) h =
+      let r = issued_same k (λ j l. h j (omega arith)) in
       let z = ap (λ (x : Confirm). choose x.present x.issued.0 0) (h k (omega arith)) in
       λ i. r i + z i
 
   -- whether step k agrees depends on what is stored for the steps of its pass up to k, and in pass 2 on T
   module _ (L : Limits) (k : ℕ) where
-    pub first-same : ((j : ℕ) → j ≤ k → first_at n' j ≡ first_at n j) → agrees L n' 1 k ≡ agrees L n 1 k
+    pub first_same : ((j : ℕ) → j ≤ k → first_at n' j ≡ first_at n j) → agrees L n' 1 k ≡ agrees L n 1 k
     unfolding agrees
-    first-same h =
+    first_same h =
         let o : own n' k ≡ own n k = fun_ext (own_same k (λ j l. h j (omega arith))) in
         let x = h k (omega arith) in
         λ i.
         choose (is_none (awaited (a.nodes i) k (a.number i))) true
         (all_hold (first_clauses L (dimension (a.nodes i)) k (o i) (x i)))
 
-    pub second-same : ((j : ℕ) → j ≤ k → second_at n' j ≡ second_at n j) → n'.agreed ≡ n.agreed
+    pub second_same : ((j : ℕ) → j ≤ k → second_at n' j ≡ second_at n j) → n'.agreed ≡ n.agreed
         → agrees L n' 2 k ≡ agrees L n 2 k
     unfolding agrees
-    second-same h t =
-        let o = issued-same k (λ j l. h j (omega arith)) in
+    second_same h t =
+        let o = issued_same k (λ j l. h j (omega arith)) in
         let x = h k (omega arith) in
         λ i.
         choose (is_none (awaited (a.nodes i) k (a.number i))) true
@@ -126,7 +126,7 @@ due_same n n' s (inl e) =
     }) ∙ sym (due_first n e)
 due_same n n' s (inr e) =
     let a = s.alike in
-    let o = ap (own_issued n') s.dim ∙ issued-same n n' a n.dim (s.second e) in
+    let o = ap (own_issued n') s.dim ∙ issued_same n n' a n.dim (s.second e) in
     due_second n' (s.pass ∙ e) ∙ (λ i.
     record {
       pass = 2;
@@ -143,30 +143,30 @@ due_same n n' s (inr e) =
 -- ---- a stored frame set
 
 module _ (n : Node) (k : ℕ) (x : Stored) where
-  abbrev pub storeFirst : Node
-  storeFirst = with_first n (set n.first k x)
+  abbrev pub store_first : Node
+  store_first = with_first n (set n.first k x)
 
-  pub first-there : k < length n.first → first_at storeFirst k ≡ x
-  first-there h = get_or-set_same n.first k x _ h
+  pub first_there : k < length n.first → first_at store_first k ≡ x
+  first_there h = get_or-set_same n.first k x _ h
 
-  pub first-elsewhere : (j : ℕ) → j ≢ k → first_at storeFirst j ≡ first_at n j
-  first-elsewhere j h = get_or-set_other n.first k j x _ h
+  pub first_elsewhere : (j : ℕ) → j ≢ k → first_at store_first j ≡ first_at n j
+  first_elsewhere j h = get_or-set_other n.first k j x _ h
 
 module _ (n : Node) (k : ℕ) (x : Confirm) where
-  abbrev pub storeSecond : Node
-  storeSecond = with_second n (set n.second k x)
+  abbrev pub store_second : Node
+  store_second = with_second n (set n.second k x)
 
-  pub second-there : k < length n.second → second_at storeSecond k ≡ x
-  second-there h = get_or-set_same n.second k x _ h
+  pub second_there : k < length n.second → second_at store_second k ≡ x
+  second_there h = get_or-set_same n.second k x _ h
 
-  pub second-elsewhere : (j : ℕ) → j ≢ k → second_at storeSecond j ≡ second_at n j
-  second-elsewhere j h = get_or-set_other n.second k j x _ h
+  pub second_elsewhere : (j : ℕ) → j ≢ k → second_at store_second j ≡ second_at n j
+  second_elsewhere j h = get_or-set_other n.second k j x _ h
 
 -- ---- the own sums after a change
 
 module _ (n : Node) (k : ℕ) (f : Field) where
-  pub own-busy : (b : Bool) → own (with_busy n b) k f ≡ own n k f
-  own-busy b = own_same n _ (alike n) k (λ j l. refl) f
+  pub own_busy : (b : Bool) → own (with_busy n b) k f ≡ own n k f
+  own_busy b = own_same n _ (alike n) k (λ j l. refl) f
 
   pub own_at : (pass dim : ℕ) (flag : Bool) (agreed : ℕ) → own (at n pass dim flag agreed) k f ≡ own n k f
   own_at pass dim flag agreed = own_same n _ (alike n) k (λ j l. refl) f
@@ -181,30 +181,30 @@ module _ {A : Type 0} (of : A → ℕ) (l : List A) (m : ℕ) (x d : A) (e : of 
   abbrev after : ℕ → ℕ
   after j = of (get_or (set l m x) j d)
 
-  count-here : m < length l → after m ≡ before m + 1
-  count-here h = ap of (get_or-set_same l m x d h) ∙ e
+  count_here : m < length l → after m ≡ before m + 1
+  count_here h = ap of (get_or-set_same l m x d h) ∙ e
 
-  count-else : (j : ℕ) → j ≢ m → after j ≡ before j
-  count-else j h = ap of (get_or-set_other l m j x d h)
+  count_else : (j : ℕ) → j ≢ m → after j ≡ before j
+  count_else j h = ap of (get_or-set_other l m j x d h)
 
-  count-total : (p : ℕ) → m < length l → m < p → total after p ≡ total before p + 1
-  count-total p h b = total_more before after m p b (count-here h) count-else
+  count_total : (p : ℕ) → m < length l → m < p → total after p ≡ total before p + 1
+  count_total p h b = total_more before after m p b (count_here h) count_else
 
   -- no number goes down, and none goes up by more than one
-  count-up : (j : ℕ) → (before j ≤ after j) × (after j ≤ before j + 1)
-  count-up j = go (ℕ_discrete j m) (dec_lt m (length l))
+  count_up : (j : ℕ) → (before j ≤ after j) × (after j ≤ before j + 1)
+  count_up j = go (ℕ_discrete j m) (dec_lt m (length l))
     where
       go : Dec (j ≡ m) → Dec (m < length l) → (before j ≤ after j) × (after j ≤ before j + 1)
-      go (yes z) (yes h) = omega (arith, ap after z, ap before z, count-here h)
+      go (yes z) (yes h) = omega (arith, ap after z, ap before z, count_here h)
       go (yes z) (no h) = omega (arith, ap (λ l. of (get_or l j d)) (set_out l m x (omega arith)))
-      go (no z) h = omega (arith, count-else j z)
+      go (no z) h = omega (arith, count_else j z)
 
-  count-total-up : (p : ℕ) → (total before p ≤ total after p) × (total after p ≤ total before p + 1)
-  count-total-up p = go (dec_lt m (length l)) (dec_lt m p)
+  count_total_up : (p : ℕ) → (total before p ≤ total after p) × (total after p ≤ total before p + 1)
+  count_total_up p = go (dec_lt m (length l)) (dec_lt m p)
     where
       go : Dec (m < length l) → Dec (m < p) → (total before p ≤ total after p) × (total after p ≤ total before p + 1)
-      go (yes h) (yes b) = omega (arith, count-total p h b)
-      go (yes h) (no b) = omega (arith, total_same before after p (λ j q. sym (count-else j (λ z. omega arith))))
+      go (yes h) (yes b) = omega (arith, count_total p h b)
+      go (yes h) (no b) = omega (arith, total_same before after p (λ j q. sym (count_else j (λ z. omega arith))))
       go (no h) b = omega (arith, ap (λ l. total (λ j. of (get_or l j d)) p) (set_out l m x (omega arith)))
 
 -- a number of a field no lower, and by one higher at most
@@ -216,50 +216,50 @@ module _ (n : Node) (m : ℕ) where
   abbrev sends : Sent → ℕ
   sends x = x.0
 
-  abbrev sentOne : Sent
-  sentOne = sent_number (tally n (sent_in m) + 1)
+  abbrev sent_one : Sent
+  sent_one = sent_number (tally n (sent_in m) + 1)
 
-  pub sent-else : (j : ℕ) → j ≢ m → tally (one_sent n m) (sent_in j) ≡ tally n (sent_in j)
-  sent-else j h = count-else sends n.sent m sentOne (sent_number 0) refl j h
+  pub sent_else : (j : ℕ) → j ≢ m → tally (one_sent n m) (sent_in j) ≡ tally n (sent_in j)
+  sent_else j h = count_else sends n.sent m sent_one (sent_number 0) refl j h
 
-  pub sent-up : Up (tally n) (tally (one_sent n m))
-  sent-up (sent_in j) = count-up sends n.sent m sentOne (sent_number 0) refl j
-  sent-up (taken_in j) = omega arith
-  sent-up all_sent = count-total-up sends n.sent m sentOne (sent_number 0) refl (dims n)
-  sent-up all_taken = omega arith
+  pub sent_up : Up (tally n) (tally (one_sent n m))
+  sent_up (sent_in j) = count_up sends n.sent m sent_one (sent_number 0) refl j
+  sent_up (taken_in j) = omega arith
+  sent_up all_sent = count_total_up sends n.sent m sent_one (sent_number 0) refl (dims n)
+  sent_up all_taken = omega arith
 
 -- one message more taken from shell m
 module _ (n : Node) (kind : Kind) (m : ℕ) where
   abbrev takes : Taken → ℕ
   takes x = x.0
 
-  abbrev takenOne : Taken
-  takenOne = taken_number (tally n (taken_in m) + 1)
+  abbrev taken_one : Taken
+  taken_one = taken_number (tally n (taken_in m) + 1)
 
-  pub taken-else : (j : ℕ) → j ≢ m → tally (counted n kind m) (taken_in j) ≡ tally n (taken_in j)
-  taken-else j h = count-else takes n.taken m takenOne (taken_number 0) refl j h
+  pub taken_else : (j : ℕ) → j ≢ m → tally (counted n kind m) (taken_in j) ≡ tally n (taken_in j)
+  taken_else j h = count_else takes n.taken m taken_one (taken_number 0) refl j h
 
-  pub taken-up : Up (tally n) (tally (counted n kind m))
-  taken-up (sent_in j) = omega arith
-  taken-up (taken_in j) = count-up takes n.taken m takenOne (taken_number 0) refl j
-  taken-up all_sent = omega arith
-  taken-up all_taken = count-total-up takes n.taken m takenOne (taken_number 0) refl (dims n)
+  pub taken_up : Up (tally n) (tally (counted n kind m))
+  taken_up (sent_in j) = omega arith
+  taken_up (taken_in j) = count_up takes n.taken m taken_one (taken_number 0) refl j
+  taken_up all_sent = omega arith
+  taken_up all_taken = count_total_up takes n.taken m taken_one (taken_number 0) refl (dims n)
 
 -- ---- the state after a frame of now
 
 -- the frame is stored for its step; if that is before the position, the node goes back to it
 pub data GotWay (n : Node) (f : Frame) : Node → Type 0 where
-  first_back : f.pass ≡ 1 → f.dim < step_of n → GotWay n f (at (storeFirst n f.dim (first_of f)) 1 f.dim false 0)
-  first_stay : f.pass ≡ 1 → step_of n ≤ f.dim → GotWay n f (storeFirst n f.dim (first_of f))
+  first_back : f.pass ≡ 1 → f.dim < step_of n → GotWay n f (at (store_first n f.dim (first_of f)) 1 f.dim false 0)
+  first_stay : f.pass ≡ 1 → step_of n ≤ f.dim → GotWay n f (store_first n f.dim (first_of f))
   second_back : f.pass ≡ 2 → dims n + f.dim < step_of n
-      → GotWay n f (at (storeSecond n f.dim (second_of f)) 2 f.dim false n.agreed)
-  second_stay : f.pass ≡ 2 → step_of n ≤ dims n + f.dim → GotWay n f (storeSecond n f.dim (second_of f))
+      → GotWay n f (at (store_second n f.dim (second_of f)) 2 f.dim false n.agreed)
+  second_stay : f.pass ≡ 2 → step_of n ≤ dims n + f.dim → GotWay n f (store_second n f.dim (second_of f))
 
 pub got_way : (n : Node) (f : Frame) → (f.pass ≡ 1) ⊎ (f.pass ≡ 2) → GotWay n f (gotten n f)
 unfolding gotten
 got_way n f (inl e) =
     let s = step_first (dims n) f.pass f.dim e in
-    let x : stored n f ≡ storeFirst n f.dim (first_of f) = choose_yes _ _ (eq-eqb f.pass 1 e) in
+    let x : stored n f ≡ store_first n f.dim (first_of f) = choose_yes _ _ (eq-eqb f.pass 1 e) in
     let t : choose (eqb f.pass 1) 0 n.agreed ≡ 0 = choose_yes _ _ (eq-eqb f.pass 1 e) in
     let of = step_number (dims n) f.pass f.dim in
     cases (GotWay n f) (ltb of (step_of n)) _ _
@@ -270,7 +270,7 @@ got_way n f (inl e) =
 got_way n f (inr e) =
     let one = ne_eqb f.pass 1 (λ q. omega arith) in
     let s = step_second (dims n) f.pass f.dim e in
-    let x : stored n f ≡ storeSecond n f.dim (second_of f) = choose_no _ _ one in
+    let x : stored n f ≡ store_second n f.dim (second_of f) = choose_no _ _ one in
     let t : choose (eqb f.pass 1) 0 n.agreed ≡ n.agreed = choose_no _ _ one in
     let of = step_number (dims n) f.pass f.dim in
     cases (GotWay n f) (ltb of (step_of n)) _ _

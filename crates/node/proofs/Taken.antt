@@ -9,10 +9,10 @@ use Rattle.base.specs.Limits.{Limits}
 use Rattle.base.specs.Refusal.{Check, number, in_order}
 use Rattle.base.specs.declared.Kind.TheVariants.{Job, Note}
 use Rattle.node.specs.Change.{with_busy}
-use Rattle.node.specs.Answers.{Given, give, Outcome, done, refused}
+use Rattle.node.specs.Answers.{Given, give, Outcome, done}
 use Rattle.node.specs.Calls.{refusal, take}
 use Rattle.node.specs.declared.Node.{Node}
-use Rattle.node.proofs.Ways.{TakeWay, take-way, takeChecks}
+use Rattle.node.proofs.Ways.{TakeWay, take_way, take_checks}
 
 -- the answer of a note's take beside that of a job's
 abbrev Alike : Node → Given Outcome → Given Outcome → Type 0
@@ -31,11 +31,11 @@ in_order_lem n x y e (c ∷ cs) = by_test n c.met (refusal n (number c.word)) _ 
 
 pub note_as_job : (L : Limits) (n : Node) (a phase : ℕ) → Alike n (take L n Note a phase) (take L n Job a phase)
 unfolding take
-note_as_job L n a phase = in_order_lem n _ _ refl (takeChecks L n a phase)
+note_as_job L n a phase = in_order_lem n _ _ refl (take_checks L n a phase)
 
 pub job_wakes : (L : Limits) (n : Node) (a phase : ℕ) → (take L n Job a phase).answer ≡ done
     → (take L n Job a phase).node.busy ≡ true
-job_wakes L n a phase = go (take-way L n Job a phase)
+job_wakes L n a phase = go (take_way L n Job a phase)
   where
     go : {r : Given Outcome} → TakeWay L n Job a phase r → r.answer ≡ done → r.node.busy ≡ true
     go (TakeWay.refused x s) e = let z : ◌≡◌ {A = ℕ} 0 1 = cc in absurd (omega arith)

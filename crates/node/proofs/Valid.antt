@@ -81,9 +81,9 @@ module _ (L : Limits) (n : Node) where
     pub dim : 0 < dims n → n.dim < dims n
     pub lone : dims n ≡ 0 → (n.pass ≡ 1) × (n.dim ≡ 0)
 
-  position-known : position_ok n ≡ true → Placed
+  position_known : position_ok n ≡ true → Placed
   unfolding position_ok
-  position-known e = go (ℕ_discrete (dims n) 0)
+  position_known e = go (ℕ_discrete (dims n) 0)
     where
       go : Dec (dims n ≡ 0) → Placed
       go (yes z) =
@@ -103,16 +103,16 @@ module _ (L : Limits) (n : Node) where
           passes (inl q) = inl (eqb-true _ _ q)
           passes (inr q) = inr (eqb-true _ _ q)
 
-  placed-low : Placed → n.dim ≤ dims n
-  placed-low p = go (ℕ_discrete (dims n) 0)
+  placed_low : Placed → n.dim ≤ dims n
+  placed_low p = go (ℕ_discrete (dims n) 0)
     where
       go : Dec (dims n ≡ 0) → n.dim ≤ dims n
       go (yes z) = omega (arith, (p.lone z).1)
       go (no z) = omega (arith, p.dim (omega arith))
 
-  position-good : Placed → position_ok n ≡ true
+  position_good : Placed → position_ok n ≡ true
   unfolding position_ok
-  position-good p = go (ℕ_discrete (dims n) 0)
+  position_good p = go (ℕ_discrete (dims n) 0)
     where
       go : Dec (dims n ≡ 0) → position_ok n ≡ true
       go (yes z) =
@@ -127,9 +127,9 @@ module _ (L : Limits) (n : Node) where
   abbrev Others : Type 0
   Others = (m : ℕ) → dims n ≤ m → m < width → (tally n (sent_in m) ≡ 0) × (tally n (taken_in m) ≡ 0)
 
-  tallies-known : tallies_ok L n ≡ true → (tally n all_sent ≤ L.sends) × (tally n all_taken ≤ taken_limit L) × Others
+  tallies_known : tallies_ok L n ≡ true → (tally n all_sent ≤ L.sends) × (tally n all_taken ≤ taken_limit L) × Others
   unfolding tallies_ok empty_at
-  tallies-known e =
+  tallies_known e =
       let sent = leb (tally n all_sent) L.sends in
       let a = both_true (both sent (leb (tally n all_taken) (taken_limit L))) _ e in
       let b = both_true sent _ a.0 in (
@@ -141,25 +141,25 @@ module _ (L : Limits) (n : Node) where
             (eqb-true _ _ c.0, eqb-true _ _ c.1),
       )
 
-  tallies-good : tally n all_sent ≤ L.sends → tally n all_taken ≤ taken_limit L → Others → tallies_ok L n ≡ true
+  tallies_good : tally n all_sent ≤ L.sends → tally n all_taken ≤ taken_limit L → Others → tallies_ok L n ≡ true
   unfolding tallies_ok empty_at
-  tallies-good s t o =
+  tallies_good s t o =
       both_make (both_make (le-leb _ _ s) (le-leb _ _ t))
       (every_make (dims n) (width - dims n) empty_at
       (λ m low high.
       let c = o m low (omega arith) in both_make (eq-eqb _ _ c.0) (eq-eqb _ _ c.1)))
 
   -- T
-  total-known : total_ok L n ≡ true
+  total_known : total_ok L n ≡ true
       → (n.agreed ≤ field_limit L) × (n.agreed ≡ choose (eqb n.pass 1) 0 (own n (dims n) all_taken))
   unfolding total_ok
-  total-known e =
+  total_known e =
       let a = both_true (leb n.agreed (field_limit L)) _ e in (leb-true _ _ a.0, eqb-true _ _ a.1)
 
-  total-good : (n.pass ≡ 1) ⊎ (n.pass ≡ 2) → n.agreed ≤ field_limit L → (n.pass ≡ 1 → n.agreed ≡ 0)
+  total_good : (n.pass ≡ 1) ⊎ (n.pass ≡ 2) → n.agreed ≤ field_limit L → (n.pass ≡ 1 → n.agreed ≡ 0)
       → (n.pass ≡ 2 → n.agreed ≡ own n (dims n) all_taken) → total_ok L n ≡ true
   unfolding total_ok
-  total-good p l f s = both_make (le-leb _ _ l) (eq-eqb _ _ (go p))
+  total_good p l f s = both_make (le-leb _ _ l) (eq-eqb _ _ (go p))
     where
       go : (n.pass ≡ 1) ⊎ (n.pass ≡ 2) → n.agreed ≡ choose (eqb n.pass 1) 0 (own n (dims n) all_taken)
       go (inl e) = f e ∙ sym (choose_yes _ _ (eq-eqb n.pass 1 e))
@@ -170,9 +170,9 @@ module _ (L : Limits) (n : Node) where
     pub first : (k : ℕ) → k < dims n → k < step_of n → agrees L n 1 k ≡ true
     pub second : (k : ℕ) → dims n + k < step_of n → agrees L n 2 k ≡ true
 
-  passed-known : Placed → passed_ok L n ≡ true → Passed
+  passed_known : Placed → passed_ok L n ≡ true → Passed
   unfolding passed_ok
-  passed-known p e = go p.pass
+  passed_known p e = go p.pass
     where
       go : (n.pass ≡ 1) ⊎ (n.pass ≡ 2) → Passed
       go (inl one) =
@@ -180,7 +180,7 @@ module _ (L : Limits) (n : Node) where
           let at = step_first (dims n) n.pass n.dim one in
           record {
             first = λ k l h. every_at 0 n.dim (agrees L n 1) a k (omega arith) (omega arith);
-            second = λ k h. absurd (omega (arith, placed-low p));
+            second = λ k h. absurd (omega (arith, placed_low p));
           }
       go (inr two) =
           let not-one = ne_eqb n.pass 1 (λ q. omega arith) in
@@ -191,15 +191,15 @@ module _ (L : Limits) (n : Node) where
             second = λ k h. every_at 0 n.dim (agrees L n 2) a.1 k (omega arith) (omega arith);
           }
 
-  passed-good : Placed → Passed → passed_ok L n ≡ true
+  passed_good : Placed → Passed → passed_ok L n ≡ true
   unfolding passed_ok
-  passed-good p a = go p.pass
+  passed_good p a = go p.pass
     where
       go : (n.pass ≡ 1) ⊎ (n.pass ≡ 2) → passed_ok L n ≡ true
       go (inl one) =
           let at = step_first (dims n) n.pass n.dim one in
           choose_yes _ _ (eq-eqb n.pass 1 one)
-          ∙ every_make 0 n.dim (agrees L n 1) (λ k l h. a.first k (omega (arith, placed-low p)) (omega arith))
+          ∙ every_make 0 n.dim (agrees L n 1) (λ k l h. a.first k (omega (arith, placed_low p)) (omega arith))
       go (inr two) =
           let at = step_second (dims n) n.pass n.dim two in
           choose_no _ _ (ne_eqb n.pass 1 (λ q. omega arith))
@@ -210,24 +210,24 @@ module _ (L : Limits) (n : Node) where
   abbrev AtStart : Type 0
   AtStart = (n.pass ≡ 1) × ((n.dim ≡ 0) × (n.flag ≡ true))
 
-  busy-known : busy_ok n ≡ true → n.busy ≡ true → AtStart
+  busy_known : busy_ok n ≡ true → n.busy ≡ true → AtStart
   unfolding busy_ok
-  busy-known e b =
+  busy_known e b =
       let a = both_true (eqb n.pass 1) _ (sym (choose_yes _ true b) ∙ e) in
       let c = both_true (eqb n.dim 0) _ a.1 in
       (eqb-true _ _ a.0, (eqb-true _ _ c.0, c.1))
 
-  busy-good : (n.busy ≡ true → AtStart) → busy_ok n ≡ true
+  busy_good : (n.busy ≡ true → AtStart) → busy_ok n ≡ true
   unfolding busy_ok
-  busy-good h =
+  busy_good h =
       cases (λ t. t ≡ true) n.busy _ true
       (λ b. let a = h b in both_make (eq-eqb _ _ a.0) (both_make (eq-eqb _ _ a.1.0) a.1.1)) (λ b. refl)
 
   -- ---- the test
 
-  pub valid-known : valid L n ≡ true → Valid L n
+  pub valid_known : valid L n ≡ true → Valid L n
   unfolding valid board_ok
-  valid-known e =
+  valid_known e =
       let a = both_true (board_ok L n) _ e in
       let b = both_true (position_ok n) _ a.1 in
       let c = both_true (tallies_ok L n) _ b.1 in
@@ -237,10 +237,10 @@ module _ (L : Limits) (n : Node) where
       let h = both_true (passed_ok L n) _ g.1 in
       let i = both_true (busy_ok n) _ h.1 in
       let on = both_true (not (bad_board L n.nodes)) _ a.0 in
-      let place = position-known b.0 in
-      let tallies = tallies-known c.0 in
-      let total = total-known d.0 in
-      let passed = passed-known place h.0 in
+      let place = position_known b.0 in
+      let tallies = tallies_known c.0 in
+      let total = total_known d.0 in
+      let passed = passed_known place h.0 in
       record {
         board = not-true _ on.0;
         number = ltb-true _ _ on.1;
@@ -257,21 +257,21 @@ module _ (L : Limits) (n : Node) where
         second = λ k l. every_at 0 width (second_ok L n) g.0 k (omega arith) (omega arith);
         before_first = passed.first;
         before_second = passed.second;
-        busy = busy-known i.0;
+        busy = busy_known i.0;
       }
 
-  pub valid-good : Valid L n → valid L n ≡ true
+  pub valid_good : Valid L n → valid L n ≡ true
   unfolding valid board_ok
-  valid-good v =
+  valid_good v =
       let place : Placed = record { pass = v.pass; dim = v.dim; lone = v.lone } in
       both_make (both_make (ap not v.board) (lt-ltb _ _ v.number))
-      (both_make (position-good place)
-      (both_make (tallies-good v.sent v.taken v.others)
-      (both_make (total-good v.pass v.agreed v.agreed_first v.agreed_second)
+      (both_make (position_good place)
+      (both_make (tallies_good v.sent v.taken v.others)
+      (both_make (total_good v.pass v.agreed v.agreed_first v.agreed_second)
       (both_make (every_make 0 width (first_ok L n) (λ k l h. v.first k (omega arith)))
       (both_make (every_make 0 width (second_ok L n) (λ k l h. v.second k (omega arith)))
-      (both_make (passed-good place (record { first = v.before_first; second = v.before_second }))
-      (both_make (busy-good v.busy) refl)))))))
+      (both_make (passed_good place (record { first = v.before_first; second = v.before_second }))
+      (both_make (busy_good v.busy) refl)))))))
 
 -- the shells of a board within the limits have room
 pub valid_width : (L : Limits) (n : Node) → L.nodes ≤ 2 ^ width → Valid L n → dims n ≤ width
@@ -317,58 +317,58 @@ module _ (L : Limits) (n : Node) (k : ℕ) where
   SecondHeld = SecondFits L n.nodes n.number k (second_at n k)
 
   -- a frame is there only where one is awaited
-  only-awaited : (u : Bool) → either (awaits_frame n k) (not u) ≡ true → u ≡ true → Awaits n.nodes n.number k
-  only-awaited true e q =
+  only_awaited : (u : Bool) → either (awaits_frame n k) (not u) ≡ true → u ≡ true → Awaits n.nodes n.number k
+  only_awaited true e q =
       let a = both_true (ltb k (dims n)) (not (is_alone n k)) (go (awaits_frame n k) e) in
       (ltb-true k (dims n) a.0, not-true _ a.1)
     where
       go : (t : Bool) → either t false ≡ true → t ≡ true
       go true e = refl
       go false e = e
-  only-awaited false e q = clash (sym q)
+  only_awaited false e q = clash (sym q)
 
-  if-awaited : (u : Bool) → (u ≡ true → Awaits n.nodes n.number k) → either (awaits_frame n k) (not u) ≡ true
-  if-awaited true h =
+  if_awaited : (u : Bool) → (u ≡ true → Awaits n.nodes n.number k) → either (awaits_frame n k) (not u) ≡ true
+  if_awaited true h =
       let a = h refl in
       let here : awaits_frame n k ≡ true = both_make (lt-ltb k (dims n) a.0) (ap not a.1) in
       rw here
-  if-awaited false h = go (awaits_frame n k)
+  if_awaited false h = go (awaits_frame n k)
     where
       go : (t : Bool) → either t true ≡ true
       go true = refl
       go false = refl
 
   -- the number of a field is as it may be
-  fieldOk : Field → Bool
-  fieldOk f = number_ok L (holds (dims n) k (first_at n k) f) (number (first_at n k) f)
+  field_ok : Field → Bool
+  field_ok f = number_ok L (holds (dims n) k (first_at n k) f) (number (first_at n k) f)
 
   pub first_fits : first_ok L n k ≡ true → FirstHeld
-  unfolding first_ok fieldOk
+  unfolding first_ok field_ok
   first_fits e =
       let here = either (awaits_frame n k) (not (first_at n k).present) in
       let a = both_true here _ e in
-      let shells = every 0 width (λ m. both (fieldOk (sent_in m)) (fieldOk (taken_in m))) in
+      let shells = every 0 width (λ m. both (field_ok (sent_in m)) (field_ok (taken_in m))) in
       let b = both_true shells _ a.1 in
-      let c = both_true (fieldOk all_sent) (fieldOk all_taken) b.1 in
-      record { awaits = only-awaited (first_at n k).present a.0; numbers = numbers b.0 c.0 c.1 }
+      let c = both_true (field_ok all_sent) (field_ok all_taken) b.1 in
+      record { awaits = only_awaited (first_at n k).present a.0; numbers = numbers b.0 c.0 c.1 }
     where
-      shell : every 0 width (λ m. both (fieldOk (sent_in m)) (fieldOk (taken_in m))) ≡ true → (m : ℕ) → m < width
-          → (fieldOk (sent_in m) ≡ true) × (fieldOk (taken_in m) ≡ true)
+      shell : every 0 width (λ m. both (field_ok (sent_in m)) (field_ok (taken_in m))) ≡ true → (m : ℕ) → m < width
+          → (field_ok (sent_in m) ≡ true) × (field_ok (taken_in m) ≡ true)
       shell e m h =
-          both_true (fieldOk (sent_in m)) (fieldOk (taken_in m))
-          (every_at 0 width (λ m. both (fieldOk (sent_in m)) (fieldOk (taken_in m))) e m (omega arith) (omega arith))
+          both_true (field_ok (sent_in m)) (field_ok (taken_in m))
+          (every_at 0 width (λ m. both (field_ok (sent_in m)) (field_ok (taken_in m))) e m (omega arith) (omega arith))
 
-      numbers : every 0 width (λ m. both (fieldOk (sent_in m)) (fieldOk (taken_in m))) ≡ true → fieldOk all_sent ≡ true
-          → fieldOk all_taken ≡ true → (f : Field) → Room f → fieldOk f ≡ true
+      numbers : every 0 width (λ m. both (field_ok (sent_in m)) (field_ok (taken_in m))) ≡ true → field_ok all_sent ≡ true
+          → field_ok all_taken ≡ true → (f : Field) → Room f → field_ok f ≡ true
       numbers e s t (sent_in m) h = (shell e m h).0
       numbers e s t (taken_in m) h = (shell e m h).1
       numbers e s t all_sent h = s
       numbers e s t all_taken h = t
 
-  pub first-ok : FirstHeld → first_ok L n k ≡ true
+  pub first_ok_lem : FirstHeld → first_ok L n k ≡ true
   unfolding first_ok
-  first-ok a =
-      both_make (if-awaited (first_at n k).present a.awaits)
+  first_ok_lem a =
+      both_make (if_awaited (first_at n k).present a.awaits)
       (both_make
       (every_make 0 width _
       (λ m l h. both_make (a.numbers (sent_in m) (omega arith)) (a.numbers (taken_in m) (omega arith))))
@@ -380,19 +380,19 @@ module _ (L : Limits) (n : Node) (k : ℕ) where
       let x = second_at n k in
       let a = both_true (either (awaits_frame n k) (not x.present)) _ e in
       let b = both_true (number_ok L x.present x.agreed) (number_ok L x.present x.issued.0) a.1 in
-      record { awaits = only-awaited x.present a.0; agreed = b.0; issued = b.1 }
+      record { awaits = only_awaited x.present a.0; agreed = b.0; issued = b.1 }
 
-  pub second-ok : SecondHeld → second_ok L n k ≡ true
+  pub second_ok_lem : SecondHeld → second_ok L n k ≡ true
   unfolding second_ok
-  second-ok a = both_make (if-awaited (second_at n k).present a.awaits) (both_make a.agreed a.issued)
+  second_ok_lem a = both_make (if_awaited (second_at n k).present a.awaits) (both_make a.agreed a.issued)
 
   -- ---- what the places say
 
   -- every number of a place is within the field limit
-  pub first-low : first_ok L n k ≡ true → (f : Field) → Room f → number (first_at n k) f ≤ field_limit L
-  first-low e f r = number_low L (holds (dims n) k (first_at n k) f) _ ((first_fits e).numbers f r)
+  pub first_low : first_ok L n k ≡ true → (f : Field) → Room f → number (first_at n k) f ≤ field_limit L
+  first_low e f r = number_low L (holds (dims n) k (first_at n k) f) _ ((first_fits e).numbers f r)
 
   -- a number that the place doesn't have is 0
-  pub first-zero : first_ok L n k ≡ true → (f : Field) → Room f → holds (dims n) k (first_at n k) f ≡ false
+  pub first_zero : first_ok L n k ≡ true → (f : Field) → Room f → holds (dims n) k (first_at n k) f ≡ false
       → number (first_at n k) f ≡ 0
-  first-zero e f r h = number_absent L (holds (dims n) k (first_at n k) f) _ ((first_fits e).numbers f r) h
+  first_zero e f r h = number_absent L (holds (dims n) k (first_at n k) f) _ ((first_fits e).numbers f r) h

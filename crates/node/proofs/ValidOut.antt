@@ -7,7 +7,7 @@ use native.Mathlib.Omega.{arith}
 use Rattle.base.specs.Limits.{Limits, width}
 use Rattle.base.specs.declared.Kind.{Kind}
 use Rattle.tree.specs.Lookups.{bad_board}
-use Rattle.tree.proofs.Distances.{distance-below}
+use Rattle.tree.proofs.Distances.{distance_below_lem}
 use Rattle.node.specs.Agree.{is_none}
 use Rattle.node.specs.State.{valid}
 use Rattle.node.specs.Change.{fresh_in}
@@ -15,22 +15,22 @@ use Rattle.node.specs.Answers.{Given, Outcome, Barrier}
 use Rattle.node.specs.Calls.{fresh, send, take, idle, frame_in}
 use Rattle.node.specs.Barrier.{leaving, barrier}
 use Rattle.node.specs.declared.Node.{Node}
-use Rattle.node.proofs.Valid.{Valid, valid-known, valid-good}
-use Rattle.node.proofs.Ways.{FreshWay, fresh-way, SendWay, send-way, TakeWay, take-way, IdleWay, idle-way}
-use Rattle.node.proofs.Ways.{frame_of, FrameWay, frame-way, CallWay, call-way}
+use Rattle.node.proofs.Valid.{Valid, valid_known, valid_good}
+use Rattle.node.proofs.Ways.{FreshWay, fresh_way, SendWay, send_way, TakeWay, take_way, IdleWay, idle_way}
+use Rattle.node.proofs.Ways.{frame_of, FrameWay, frame_way, CallWay, call_way}
 use Rattle.node.proofs.Depends.{got_way}
-use Rattle.node.proofs.Moving.{fresh-facts, sent-facts, taken-facts, idle-facts}
-use Rattle.node.proofs.Moving.{stays-facts, next-facts, second-facts}
-use Rattle.node.proofs.Storing.{got-facts}
+use Rattle.node.proofs.Moving.{fresh_facts, sent_facts, taken_facts, idle_facts}
+use Rattle.node.proofs.Moving.{stays_facts, next_facts, second_facts}
+use Rattle.node.proofs.Storing.{got_facts}
 
 pub fresh_valid : (L : Limits) (P number phase : ℕ) → bad_board L P ≡ false → number < P
     → valid L (fresh_in P number phase) ≡ true
-fresh_valid L P number phase b h = valid-good L _ (fresh-facts L P number phase b h)
+fresh_valid L P number phase b h = valid_good L _ (fresh_facts L P number phase b h)
 
 -- so does the node that the call fresh gives
 pub made_valid : (L : Limits) (P number : ℕ) → (fresh L P number).answer ≡ Outcome.done
     → valid L (fresh L P number).node ≡ true
-made_valid L P number h = go (fresh-way L P number) h
+made_valid L P number h = go (fresh_way L P number) h
   where
     go : {r : Given Outcome} → FreshWay L P number r → r.answer ≡ Outcome.done → valid L r.node ≡ true
     go (FreshWay.refused x s) h = let z : ◌≡◌ {A = ℕ} 0 1 = cc in absurd (omega arith)
@@ -39,54 +39,54 @@ made_valid L P number h = go (fresh-way L P number) h
 -- a state that passes the test goes out of every call as one that passes it
 module _ (L : Limits) (n : Node) (ok : valid L n ≡ true) where
   v : Valid L n
-  v = valid-known L n ok
+  v = valid_known L n ok
 
-  send-kept : (b : ℕ) {r : Given Outcome} → SendWay L n b r → Valid L r.node
-  send-kept b (SendWay.refused x s) = v
-  send-kept b (SendWay.done o h z w r) =
-      sent-facts L n v _ (distance-below n.nodes n.number b v.number (λ q. z (sym q)) h) w r
+  send_kept : (b : ℕ) {r : Given Outcome} → SendWay L n b r → Valid L r.node
+  send_kept b (SendWay.refused x s) = v
+  send_kept b (SendWay.done o h z w r) =
+      sent_facts L n v _ (distance_below_lem n.nodes n.number b v.number (λ q. z (sym q)) h) w r
 
-  pub send-valid : (b : ℕ) → valid L (send L n b).node ≡ true
-  send-valid b = valid-good L _ (send-kept b (send-way L n b))
+  pub send_valid : (b : ℕ) → valid L (send L n b).node ≡ true
+  send_valid b = valid_good L _ (send_kept b (send_way L n b))
 
-  take-kept : (kind : Kind) (a phase : ℕ) {r : Given Outcome} → TakeWay L n kind a phase r → Valid L r.node
-  take-kept kind a phase (TakeWay.refused x s) = v
-  take-kept kind a phase (TakeWay.done o h z d r) =
-      taken-facts L n v kind _ (distance-below n.nodes n.number a v.number (λ q. z (sym q)) h) r
+  take_kept : (kind : Kind) (a phase : ℕ) {r : Given Outcome} → TakeWay L n kind a phase r → Valid L r.node
+  take_kept kind a phase (TakeWay.refused x s) = v
+  take_kept kind a phase (TakeWay.done o h z d r) =
+      taken_facts L n v kind _ (distance_below_lem n.nodes n.number a v.number (λ q. z (sym q)) h) r
 
-  pub take-valid : (kind : Kind) (a phase : ℕ) → valid L (take L n kind a phase).node ≡ true
-  take-valid kind a phase = valid-good L _ (take-kept kind a phase (take-way L n kind a phase))
+  pub take_valid : (kind : Kind) (a phase : ℕ) → valid L (take L n kind a phase).node ≡ true
+  take_valid kind a phase = valid_good L _ (take_kept kind a phase (take_way L n kind a phase))
 
-  idle-kept : {r : Given Outcome} → IdleWay L n r → Valid L r.node
-  idle-kept (IdleWay.refused x s) = v
-  idle-kept (IdleWay.done o) = idle-facts L n v
+  idle_kept : {r : Given Outcome} → IdleWay L n r → Valid L r.node
+  idle_kept (IdleWay.refused x s) = v
+  idle_kept (IdleWay.done o) = idle_facts L n v
 
-  pub idle-valid : valid L (idle L n).node ≡ true
-  idle-valid = valid-good L _ (idle-kept (idle-way L n))
+  pub idle_valid : valid L (idle L n).node ≡ true
+  idle_valid = valid_good L _ (idle_kept (idle_way L n))
 
-  frame-kept : (bs : List ℕ) {r : Given Outcome} → FrameWay L n bs r → Valid L r.node
-  frame-kept bs (FrameWay.refused x s) = v
-  frame-kept bs (FrameWay.early c d) = v
-  frame-kept bs (FrameWay.foreign c d e f) = v
-  frame-kept bs (FrameWay.late c d) = v
-  frame-kept bs (FrameWay.done c d) =
+  frame_kept : (bs : List ℕ) {r : Given Outcome} → FrameWay L n bs r → Valid L r.node
+  frame_kept bs (FrameWay.refused x s) = v
+  frame_kept bs (FrameWay.early c d) = v
+  frame_kept bs (FrameWay.foreign c d e f) = v
+  frame_kept bs (FrameWay.late c d) = v
+  frame_kept bs (FrameWay.done c d) =
       let f = frame_of L n bs in
-      got-facts L n v f c.read.accepted (ap is_none c.awaits) (got_way n f c.read.accepted.pass)
+      got_facts L n v f c.read.accepted (ap is_none c.awaits) (got_way n f c.read.accepted.pass)
 
-  pub frame-valid : (bs : List ℕ) → valid L (frame_in L n bs).node ≡ true
-  frame-valid bs = valid-good L _ (frame-kept bs (frame-way L n bs))
+  pub frame_valid : (bs : List ℕ) → valid L (frame_in L n bs).node ≡ true
+  frame_valid bs = valid_good L _ (frame_kept bs (frame_way L n bs))
 
   left : Valid L (leaving n).node
-  left = fresh-facts L n.nodes n.number ((n.phase + 1) % 256) v.board v.number
+  left = fresh_facts L n.nodes n.number ((n.phase + 1) % 256) v.board v.number
 
   call_kept : L.nodes ≤ 2 ^ width → (bytes : ℕ) {r : Given Barrier} → CallWay L n bytes r → Valid L r.node
   call_kept room bytes (CallWay.refused x s) = v
-  call_kept room bytes (CallWay.sends a to o b f e l) = stays-facts L n v b false
-  call_kept room bytes (CallWay.waits o b d z g) = stays-facts L n v b false
-  call_kept room bytes (CallWay.next o b d g l) = next-facts L n v b g l
-  call_kept room bytes (CallWay.second o b d z g l e) = second-facts L n v b g room z l e
+  call_kept room bytes (CallWay.sends a to o b f e l) = stays_facts L n v b false
+  call_kept room bytes (CallWay.waits o b d z g) = stays_facts L n v b false
+  call_kept room bytes (CallWay.next o b d g l) = next_facts L n v b g l
+  call_kept room bytes (CallWay.second o b d z g l e) = second_facts L n v b g room z l e
   call_kept room bytes (CallWay.leaves o b d z g l e) = left
   call_kept room bytes (CallWay.single o b z) = left
 
-  pub barrier-valid : L.nodes ≤ 2 ^ width → (bytes : ℕ) → valid L (barrier L n bytes).node ≡ true
-  barrier-valid room bytes = valid-good L _ (call_kept room bytes (call-way L n bytes))
+  pub barrier_valid : L.nodes ≤ 2 ^ width → (bytes : ℕ) → valid L (barrier L n bytes).node ≡ true
+  barrier_valid room bytes = valid_good L _ (call_kept room bytes (call_way L n bytes))

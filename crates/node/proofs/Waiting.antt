@@ -16,7 +16,7 @@ use Rattle.node.specs.Answers.{Given, Barrier, sent, waits, moved, left, barred}
 use Rattle.node.specs.Barrier.{barrier}
 use Rattle.node.specs.declared.Node.{Node}
 use Rattle.node.proofs.FirstFailing.{Lowest, lowest}
-use Rattle.node.proofs.Ways.{CallWay, call-way}
+use Rattle.node.proofs.Ways.{CallWay, call_way}
 
 -- the clause of an answer, 0 where it is none
 abbrev named : Barrier → ℕ
@@ -38,40 +38,40 @@ module _ (L : Limits) (n : Node) where
   tests = clauses L n n.pass n.dim
 
   -- a step that does not agree is not an alone one, and some clause fails
-  some-fails : agrees L n n.pass n.dim ≡ false → all_hold tests ≡ false
+  some_fails : agrees L n n.pass n.dim ≡ false → all_hold tests ≡ false
   unfolding agrees
-  some-fails e = go (is_alone n n.dim) e
+  some_fails e = go (is_alone n n.dim) e
     where
       go : (t : Bool) → choose t true (all_hold tests) ≡ false → all_hold tests ≡ false
       go true q = clash q
       go false q = q
 
   module _ (room c : ℕ) (e : (barrier L n room).answer ≡ waits c) where
-    pub wait-lowest : Lowest tests c
-    wait-lowest = go (call-way L n room) (ap is_wait e) (ap named e)
+    pub wait_lowest : Lowest tests c
+    wait_lowest = go (call_way L n room) (ap is_wait e) (ap named e)
       where
         go : {r : Given Barrier} → CallWay L n room r → is_wait r.answer ≡ true → named r.answer ≡ c → Lowest tests c
         go (CallWay.refused x s) h q = clash (sym h)
         go (CallWay.sends a to o b f e l) h q = clash (sym h)
-        go (CallWay.waits o b d z g) h q = rw (← q) (lowest tests (some-fails g))
+        go (CallWay.waits o b d z g) h q = rw (← q) (lowest tests (some_fails g))
         go (CallWay.next o b d g l) h q = clash (sym h)
         go (CallWay.second o b d z g l e) h q = clash (sym h)
         go (CallWay.leaves o b d z g l e) h q = clash (sym h)
         go (CallWay.single o b z) h q = clash (sym h)
 
-    pub wait-fails : get_or tests c true ≡ false
-    wait-fails = wait-lowest.fails
+    pub wait_fails : get_or tests c true ≡ false
+    wait_fails = wait_lowest.fails
 
-    pub wait-lower : (i : ℕ) → i < c → get_or tests i true ≡ true
-    wait-lower = wait-lowest.lower
+    pub wait_lower : (i : ℕ) → i < c → get_or tests i true ≡ true
+    wait_lower = wait_lowest.lower
 
   -- whether a frame is stored for the position's step
   abbrev stored : Bool
   stored = choose (eqb n.pass 1) (first_at n n.dim).present (second_at n n.dim).present
 
-  clause-0 : get_or tests 0 true ≡ stored
+  clause_0 : get_or tests 0 true ≡ stored
   unfolding first_clauses second_clauses
-  clause-0 = go (eqb n.pass 1)
+  clause_0 = go (eqb n.pass 1)
     where
       go : (t : Bool)
           → get_or
@@ -82,11 +82,11 @@ module _ (L : Limits) (n : Node) where
       go true = refl
       go false = refl
 
-  pub wait-unstored : (room c : ℕ) → (barrier L n room).answer ≡ waits c → stored ≡ false → c ≡ 0
-  wait-unstored room zero e s = refl
-  wait-unstored room (suc c) e s = clash (sym (wait-lower room (suc c) e 0 (omega arith)) ∙ clause-0 ∙ s)
+  pub wait_unstored : (room c : ℕ) → (barrier L n room).answer ≡ waits c → stored ≡ false → c ≡ 0
+  wait_unstored room zero e s = refl
+  wait_unstored room (suc c) e s = clash (sym (wait_lower room (suc c) e 0 (omega arith)) ∙ clause_0 ∙ s)
 
-  pub wait-stored : (room c : ℕ) → (barrier L n room).answer ≡ waits c → stored ≡ true → c ≢ 0
-  wait-stored room c e s z =
+  pub wait_stored : (room c : ℕ) → (barrier L n room).answer ≡ waits c → stored ≡ true → c ≢ 0
+  wait_stored room c e s z =
       let f : (barrier L n room).answer ≡ waits 0 = e ∙ ap waits z in
-      clash (sym s ∙ sym clause-0 ∙ wait-fails room 0 f)
+      clash (sym s ∙ sym clause_0 ∙ wait_fails room 0 f)

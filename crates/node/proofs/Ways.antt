@@ -15,7 +15,7 @@ use Rattle.base.specs.Limits.{Limits, taken_limit}
 use Rattle.base.specs.Refusal.{Refusal, refused as unread, found, Check, when}
 use Rattle.base.specs.declared.Kind.{Kind}
 use Rattle.base.proofs.Laws.{clash, choose_yes, choose_no, cases}
-use Rattle.base.proofs.Laws.{Passes, Stops, order-passes, order-stops, order-cases, checks_known}
+use Rattle.base.proofs.Laws.{Passes, Stops, order_passes, order_stops, order_cases, checks_known}
 use Rattle.tree.specs.Tree.{awaited, distance}
 use Rattle.tree.specs.Lookups.{bad_board}
 use Rattle.frame.specs.Frame.{fields_of, read_checks, read_frame}
@@ -23,7 +23,7 @@ use Rattle.frame.specs.Timing.{difference, timing}
 use Rattle.frame.specs.declared.Frame.{Frame}
 use Rattle.frame.specs.declared.Timing.{Timing}
 use Rattle.frame.specs.declared.Timing.TheVariants.{Now, Early, Late, Foreign}
-use Rattle.frame.proofs.RoundTripAccepted.{Read, read_known, read-good}
+use Rattle.frame.proofs.RoundTripAccepted.{Read, read_known, read_good_lem}
 use Rattle.node.specs.Sums.{dims, all_sent, all_taken, tally, own}
 use Rattle.node.specs.Agree.{agrees}
 use Rattle.node.specs.State.{valid}
@@ -35,7 +35,7 @@ use Rattle.node.specs.Calls.{gotten, is_awaited, by_timing, frame_in}
 use Rattle.node.specs.Barrier.{length_due, receivers_due, is_empty, is_due}
 use Rattle.node.specs.Barrier.{sending, leaving, waiting, looking, barrier}
 use Rattle.node.specs.declared.Node.{Node}
-use Rattle.node.proofs.Valid.{valid-known}
+use Rattle.node.proofs.Valid.{valid_known}
 
 -- ---- the phase difference
 
@@ -81,34 +81,34 @@ timing_late other node e = go (timing_is other node)
 -- ---- fresh
 
 module _ (L : Limits) (P number : ℕ) where
-  abbrev pub freshChecks : List Check
-  freshChecks = when (bad_board L P) Refusal.board ∷ when (leb P number) Refusal.stranger ∷ []
+  abbrev pub fresh_checks : List Check
+  fresh_checks = when (bad_board L P) Refusal.board ∷ when (leb P number) Refusal.stranger ∷ []
 
   pub data FreshWay : Given Outcome → Type 0 where
-    refused : (x : ℕ) → Stops freshChecks x → FreshWay (refusal no_node x)
+    refused : (x : ℕ) → Stops fresh_checks x → FreshWay (refusal no_node x)
     done : bad_board L P ≡ false → number < P → FreshWay (give (fresh_in P number 0) Outcome.done)
 
-  pub fresh-way : FreshWay (fresh L P number)
+  pub fresh_way : FreshWay (fresh L P number)
   unfolding fresh
-  fresh-way =
-      order-cases (refusal no_node) FreshWay freshChecks _ (λ x s. refused x s)
+  fresh_way =
+      order_cases (refusal no_node) FreshWay fresh_checks _ (λ x s. refused x s)
       (λ c. done c.0 (leb-false P number c.1.0))
 
-  pub fresh-refuses : {x : ℕ} → Stops freshChecks x → fresh L P number ≡ refusal no_node x
+  pub fresh_refuses : {x : ℕ} → Stops fresh_checks x → fresh L P number ≡ refusal no_node x
   unfolding fresh
-  fresh-refuses s = order-stops (refusal no_node) _ s
+  fresh_refuses s = order_stops (refusal no_node) _ s
 
-  pub fresh-does : bad_board L P ≡ false → number < P → fresh L P number ≡ give (fresh_in P number 0) Outcome.done
+  pub fresh_does : bad_board L P ≡ false → number < P → fresh L P number ≡ give (fresh_in P number 0) Outcome.done
   unfolding fresh
-  fresh-does b h = order-passes (refusal no_node) freshChecks _ (b, (lt-leb P number h, tt))
+  fresh_does b h = order_passes (refusal no_node) fresh_checks _ (b, (lt-leb P number h, tt))
 
 -- ---- calls on a node
 
 module _ (L : Limits) (n : Node) where
   -- ---- send
 
-  abbrev pub sendChecks : ℕ → List Check
-  sendChecks b =
+  abbrev pub send_checks : ℕ → List Check
+  send_checks b =
       bad_state L n
       ∷ when (leb n.nodes b) Refusal.stranger
       ∷ when (eqb b n.number) Refusal.self
@@ -117,33 +117,33 @@ module _ (L : Limits) (n : Node) where
       ∷ []
 
   pub data SendWay (b : ℕ) : Given Outcome → Type 0 where
-    refused : (x : ℕ) → Stops (sendChecks b) x → SendWay b (refusal n x)
+    refused : (x : ℕ) → Stops (send_checks b) x → SendWay b (refusal n x)
     done : valid L n ≡ true → b < n.nodes → b ≢ n.number → n.busy ≡ true → tally n all_sent < L.sends
         → SendWay b (give (one_sent n (distance n.nodes n.number b)) Outcome.done)
 
-  pub send-way : (b : ℕ) → SendWay b (send L n b)
+  pub send_way : (b : ℕ) → SendWay b (send L n b)
   unfolding send
-  send-way b =
-      order-cases (refusal n) (SendWay b) (sendChecks b) _ (λ x s. refused x s)
+  send_way b =
+      order_cases (refusal n) (SendWay b) (send_checks b) _ (λ x s. refused x s)
       (λ c.
       done (not-false _ c.0) (leb-false _ _ c.1.0) (eqb-false _ _ c.1.1.0) (not-false _ c.1.1.1.0)
       (leb-false _ _ c.1.1.1.1.0))
 
-  pub send-refuses : (b : ℕ) {x : ℕ} → Stops (sendChecks b) x → send L n b ≡ refusal n x
+  pub send_refuses : (b : ℕ) {x : ℕ} → Stops (send_checks b) x → send L n b ≡ refusal n x
   unfolding send
-  send-refuses b s = order-stops (refusal n) _ s
+  send_refuses b s = order_stops (refusal n) _ s
 
-  pub send-does : (b : ℕ) → valid L n ≡ true → b < n.nodes → b ≢ n.number → n.busy ≡ true
+  pub send_does : (b : ℕ) → valid L n ≡ true → b < n.nodes → b ≢ n.number → n.busy ≡ true
       → tally n all_sent < L.sends → send L n b ≡ give (one_sent n (distance n.nodes n.number b)) Outcome.done
   unfolding send
-  send-does b v h o w r =
-      order-passes (refusal n) (sendChecks b) _
+  send_does b v h o w r =
+      order_passes (refusal n) (send_checks b) _
       (ap not v, (lt-leb _ _ h, (ne_eqb _ _ o, (ap not w, (lt-leb _ _ r, tt)))))
 
   -- ---- take
 
-  abbrev pub takeChecks : ℕ → ℕ → List Check
-  takeChecks a phase =
+  abbrev pub take_checks : ℕ → ℕ → List Check
+  take_checks a phase =
       bad_state L n
       ∷ when (leb n.nodes a) Refusal.stranger
       ∷ when (eqb a n.number) Refusal.self
@@ -153,51 +153,51 @@ module _ (L : Limits) (n : Node) where
       ∷ []
 
   pub data TakeWay (kind : Kind) (a phase : ℕ) : Given Outcome → Type 0 where
-    refused : (x : ℕ) → Stops (takeChecks a phase) x → TakeWay kind a phase (refusal n x)
+    refused : (x : ℕ) → Stops (take_checks a phase) x → TakeWay kind a phase (refusal n x)
     done : valid L n ≡ true → a < n.nodes → a ≢ n.number → difference phase n.phase ≡ 0
         → tally n all_taken < taken_limit L
         → TakeWay kind a phase (give (counted n kind (distance n.nodes n.number a)) Outcome.done)
 
   -- work that is neither early nor foreign is of now
-  now-work : {a b : ℕ} {t : Timing} → Differs a b t → is_early t ≡ false → is_foreign_work t ≡ false → difference a b ≡ 0
-  now-work (now d) e f = d
-  now-work (early d) e f = clash e
-  now-work (late d) e f = clash f
-  now-work (foreign d u v) e f = clash f
+  now_work : {a b : ℕ} {t : Timing} → Differs a b t → is_early t ≡ false → is_foreign_work t ≡ false → difference a b ≡ 0
+  now_work (now d) e f = d
+  now_work (early d) e f = clash e
+  now_work (late d) e f = clash f
+  now_work (foreign d u v) e f = clash f
 
-  pub take-way : (kind : Kind) (a phase : ℕ) → TakeWay kind a phase (take L n kind a phase)
+  pub take_way : (kind : Kind) (a phase : ℕ) → TakeWay kind a phase (take L n kind a phase)
   unfolding take
-  take-way kind a phase =
-      order-cases (refusal n) (TakeWay kind a phase) (takeChecks a phase) _ (λ x s. refused x s)
+  take_way kind a phase =
+      order_cases (refusal n) (TakeWay kind a phase) (take_checks a phase) _ (λ x s. refused x s)
       (λ c.
       done (not-false _ c.0) (leb-false _ _ c.1.0) (eqb-false _ _ c.1.1.0)
-      (now-work (timing_is phase n.phase) c.1.1.1.0 c.1.1.1.1.0) (leb-false _ _ c.1.1.1.1.1.0))
+      (now_work (timing_is phase n.phase) c.1.1.1.0 c.1.1.1.1.0) (leb-false _ _ c.1.1.1.1.1.0))
 
-  pub take-refuses : (kind : Kind) (a phase : ℕ) {x : ℕ} → Stops (takeChecks a phase) x
+  pub take_refuses : (kind : Kind) (a phase : ℕ) {x : ℕ} → Stops (take_checks a phase) x
       → take L n kind a phase ≡ refusal n x
   unfolding take
-  take-refuses kind a phase s = order-stops (refusal n) _ s
+  take_refuses kind a phase s = order_stops (refusal n) _ s
 
   -- ---- idle
 
-  abbrev pub idleChecks : List Check
-  idleChecks = bad_state L n ∷ []
+  abbrev pub idle_checks : List Check
+  idle_checks = bad_state L n ∷ []
 
   pub data IdleWay : Given Outcome → Type 0 where
-    refused : (x : ℕ) → Stops idleChecks x → IdleWay (refusal n x)
+    refused : (x : ℕ) → Stops idle_checks x → IdleWay (refusal n x)
     done : valid L n ≡ true → IdleWay (give (with_busy n false) Outcome.done)
 
-  pub idle-way : IdleWay (idle L n)
+  pub idle_way : IdleWay (idle L n)
   unfolding idle
-  idle-way = order-cases (refusal n) IdleWay idleChecks _ (λ x s. refused x s) (λ c. done (not-false _ c.0))
+  idle_way = order_cases (refusal n) IdleWay idle_checks _ (λ x s. refused x s) (λ c. done (not-false _ c.0))
 
-  pub idle-refuses : {x : ℕ} → Stops idleChecks x → idle L n ≡ refusal n x
+  pub idle_refuses : {x : ℕ} → Stops idle_checks x → idle L n ≡ refusal n x
   unfolding idle
-  idle-refuses s = order-stops (refusal n) _ s
+  idle_refuses s = order_stops (refusal n) _ s
 
-  pub idle-does : valid L n ≡ true → idle L n ≡ give (with_busy n false) Outcome.done
+  pub idle_does : valid L n ≡ true → idle L n ≡ give (with_busy n false) Outcome.done
   unfolding idle
-  idle-does v = order-passes (refusal n) idleChecks _ (ap not v, tt)
+  idle_does v = order_passes (refusal n) idle_checks _ (ap not v, tt)
 
   -- ---- frame in
 
@@ -205,8 +205,8 @@ module _ (L : Limits) (n : Node) where
   abbrev pub frame_of : List ℕ → Frame
   frame_of bs = fields_of (dims n) bs
 
-  abbrev pub frameChecks : List ℕ → List Check
-  frameChecks bs =
+  abbrev pub frame_checks : List ℕ → List Check
+  frame_checks bs =
       bad_state L n
       ∷ read_checks L n.nodes bs
       ++ (when (eqb (frame_of bs).sender n.number) Refusal.self
@@ -225,21 +225,21 @@ module _ (L : Limits) (n : Node) where
   away bs = difference (frame_of bs).phase n.phase
 
   pub data FrameWay (bs : List ℕ) : Given Outcome → Type 0 where
-    refused : (x : ℕ) → Stops (frameChecks bs) x → FrameWay bs (refusal n x)
+    refused : (x : ℕ) → Stops (frame_checks bs) x → FrameWay bs (refusal n x)
     early : Comes bs → away bs ≡ 1 → FrameWay bs (refusal n 7)
     foreign : Comes bs → away bs ≢ 0 → away bs ≢ 1 → away bs ≢ 255 → FrameWay bs (refusal n 8)
     late : Comes bs → away bs ≡ 255 → FrameWay bs (give n dropped)
     done : Comes bs → away bs ≡ 0 → FrameWay bs (give (gotten n (frame_of bs)) Outcome.done)
 
-  is-awaited : (o : Option ℕ) (a : ℕ) → is_awaited o a ≡ true → o ≡ some a
-  is-awaited none a e = clash (sym e)
-  is-awaited (some w) a e = ap some (eqb-true w a e)
+  is_awaited_lem : (o : Option ℕ) (a : ℕ) → is_awaited o a ≡ true → o ≡ some a
+  is_awaited_lem none a e = clash (sym e)
+  is_awaited_lem (some w) a e = ap some (eqb-true w a e)
 
   -- the checks of the reader, which is given P
   read_all : List ℕ → List Check
   read_all bs = when (bad_board L n.nodes) Refusal.board ∷ read_checks L n.nodes bs
 
-  comes : (bs : List ℕ) → Passes (frameChecks bs) → Comes bs
+  comes : (bs : List ℕ) → Passes (frame_checks bs) → Comes bs
   unfolding read_frame read_all
   comes bs c =
       let v = not-false (valid L n) c.0 in
@@ -249,51 +249,51 @@ module _ (L : Limits) (n : Node) where
         ok = v;
         read =
             read_known L n.nodes bs (frame_of bs)
-            (order-passes unread (read_all bs) (found (frame_of bs))
-            ((valid-known L n v).board, (r.0, (r.1.0, (r.1.1.0, (r.1.1.1.0, (r.1.1.1.1.0, tt)))))));
+            (order_passes unread (read_all bs) (found (frame_of bs))
+            ((valid_known L n v).board, (r.0, (r.1.0, (r.1.1.0, (r.1.1.1.0, (r.1.1.1.1.0, tt)))))));
         other = eqb-false _ _ s.0;
-        awaits = is-awaited _ _ (not-false _ s.1.0);
+        awaits = is_awaited_lem _ _ (not-false _ s.1.0);
       }
 
-  by-phase : (bs : List ℕ) → Comes bs → {t : Timing} → Differs (frame_of bs).phase n.phase t
+  by_phase : (bs : List ℕ) → Comes bs → {t : Timing} → Differs (frame_of bs).phase n.phase t
       → FrameWay bs (by_timing n (frame_of bs) t)
-  by-phase bs c (Differs.now d) = done c d
-  by-phase bs c (Differs.early d) = early c d
-  by-phase bs c (Differs.late d) = late c d
-  by-phase bs c (Differs.foreign d u v) = foreign c d u v
+  by_phase bs c (Differs.now d) = done c d
+  by_phase bs c (Differs.early d) = early c d
+  by_phase bs c (Differs.late d) = late c d
+  by_phase bs c (Differs.foreign d u v) = foreign c d u v
 
-  pub frame-way : (bs : List ℕ) → FrameWay bs (frame_in L n bs)
+  pub frame_way : (bs : List ℕ) → FrameWay bs (frame_in L n bs)
   unfolding frame_in
-  frame-way bs =
-      order-cases (refusal n) (FrameWay bs) (frameChecks bs) _ (λ x s. refused x s)
-      (λ c. by-phase bs (comes bs c) (timing_is (frame_of bs).phase n.phase))
+  frame_way bs =
+      order_cases (refusal n) (FrameWay bs) (frame_checks bs) _ (λ x s. refused x s)
+      (λ c. by_phase bs (comes bs c) (timing_is (frame_of bs).phase n.phase))
 
-  pub frame-refuses : (bs : List ℕ) {x : ℕ} → Stops (frameChecks bs) x → frame_in L n bs ≡ refusal n x
+  pub frame_refuses : (bs : List ℕ) {x : ℕ} → Stops (frame_checks bs) x → frame_in L n bs ≡ refusal n x
   unfolding frame_in
-  frame-refuses bs s = order-stops (refusal n) _ s
+  frame_refuses bs s = order_stops (refusal n) _ s
 
-  pub frame-comes : (bs : List ℕ) → Comes bs
+  pub frame_comes : (bs : List ℕ) → Comes bs
       → frame_in L n bs ≡ by_timing n (frame_of bs) (timing (frame_of bs).phase n.phase)
   unfolding frame_in read_frame read_all
-  frame-comes bs c =
+  frame_comes bs c =
       let f = frame_of bs in
-      let e = read-good L n.nodes bs c.read.accepted c.read.count in
+      let e = read_good_lem L n.nodes bs c.read.accepted c.read.count in
       let r = (checks_known (read_all bs) f f e).0.1 in
       let awaits = ap (λ o. not (is_awaited o f.sender)) c.awaits ∙ ap not (eq-eqb f.sender _ refl) in
-      order-passes (refusal n) (frameChecks bs) _ (
+      order_passes (refusal n) (frame_checks bs) _ (
         ap not c.ok,
         (r.0, (r.1.0, (r.1.1.0, (r.1.1.1.0, (r.1.1.1.1.0, (ne_eqb _ _ c.other, (awaits, tt))))))),
       )
 
-  pub frame-does : (bs : List ℕ) → Comes bs → away bs ≡ 0
+  pub frame_does : (bs : List ℕ) → Comes bs → away bs ≡ 0
       → frame_in L n bs ≡ give (gotten n (frame_of bs)) Outcome.done
-  frame-does bs c d =
-      frame-comes bs c ∙ ap (by_timing n (frame_of bs)) (timing_now (frame_of bs).phase n.phase d)
+  frame_does bs c d =
+      frame_comes bs c ∙ ap (by_timing n (frame_of bs)) (timing_now (frame_of bs).phase n.phase d)
 
   -- ---- the barrier call
 
-  abbrev pub callChecks : ℕ → List Check
-  callChecks room =
+  abbrev pub call_checks : ℕ → List Check
+  call_checks room =
       bad_state L n
       ∷ when n.busy Refusal.working
       ∷ when (both (is_due n) (ltb room (length_due n))) Refusal.buffer
@@ -304,7 +304,7 @@ module _ (L : Limits) (n : Node) where
   NoneDue = (n.flag ≡ false) ⊎ (receivers_due n ≡ [])
 
   pub data CallWay (room : ℕ) : Given Barrier → Type 0 where
-    refused : (x : ℕ) → Stops (callChecks room) x → CallWay room (give n (barred x))
+    refused : (x : ℕ) → Stops (call_checks room) x → CallWay room (give n (barred x))
     -- the frame for the position goes out
     sends : (first : ℕ) (rest : List ℕ) → valid L n ≡ true → n.busy ≡ false → n.flag ≡ true
         → receivers_due n ≡ first ∷ rest → length_due n ≤ room → CallWay room (sending n)
@@ -328,8 +328,8 @@ module _ (L : Limits) (n : Node) where
     due : (first : ℕ) (rest : List ℕ) → n.flag ≡ true → receivers_due n ≡ first ∷ rest → Due true
     nobody : NoneDue → Due false
 
-  due-is : Due (is_due n)
-  due-is = go n.flag refl (receivers_due n) refl
+  due_is : Due (is_due n)
+  due_is = go n.flag refl (receivers_due n) refl
     where
       go : (t : Bool) → n.flag ≡ t → (to : List ℕ) → receivers_due n ≡ to → Due (both t (not (is_empty to)))
       go true f [] e = nobody (inr e)
@@ -355,27 +355,27 @@ module _ (L : Limits) (n : Node) where
     goes (due a to f e) r = sends a to v b f e (ltb-false _ _ r)
     goes (nobody d) r = looks d
 
-  pub call-way : (room : ℕ) → CallWay room (barrier L n room)
+  pub call_way : (room : ℕ) → CallWay room (barrier L n room)
   unfolding barrier
-  call-way room =
-      order-cases (λ x. give n (barred x)) (CallWay room) (callChecks room) _ (λ x s. refused x s)
-      (λ c. goes room (not-false _ c.0) c.1.0 due-is c.1.1.0)
+  call_way room =
+      order_cases (λ x. give n (barred x)) (CallWay room) (call_checks room) _ (λ x s. refused x s)
+      (λ c. goes room (not-false _ c.0) c.1.0 due_is c.1.1.0)
 
-  pub call-refuses : (room : ℕ) {x : ℕ} → Stops (callChecks room) x → barrier L n room ≡ give n (barred x)
+  pub call_refuses : (room : ℕ) {x : ℕ} → Stops (call_checks room) x → barrier L n room ≡ give n (barred x)
   unfolding barrier
-  call-refuses room s = order-stops (λ x. give n (barred x)) _ s
+  call_refuses room s = order_stops (λ x. give n (barred x)) _ s
 
-  pub call-sends : (room first : ℕ) (rest : List ℕ) → valid L n ≡ true → n.busy ≡ false → n.flag ≡ true
+  pub call_sends_lem : (room first : ℕ) (rest : List ℕ) → valid L n ≡ true → n.busy ≡ false → n.flag ≡ true
       → receivers_due n ≡ first ∷ rest → length_due n ≤ room → barrier L n room ≡ sending n
   unfolding barrier
-  call-sends room first rest v b f e l =
+  call_sends_lem room first rest v b f e l =
       let d : is_due n ≡ true = rw (f, e) in
-      order-passes (λ x. give n (barred x)) (callChecks room) _ (ap not v, (b, (rw d (le-ltb _ _ l), tt)))
+      order_passes (λ x. give n (barred x)) (call_checks room) _ (ap not v, (b, (rw d (le-ltb _ _ l), tt)))
       ∙ choose_yes _ _ d
 
-  pub call-looks : (room : ℕ) → valid L n ≡ true → n.busy ≡ false → NoneDue → barrier L n room ≡ looking L n
+  pub call_looks : (room : ℕ) → valid L n ≡ true → n.busy ≡ false → NoneDue → barrier L n room ≡ looking L n
   unfolding barrier
-  call-looks room v b d = go (none_due d)
+  call_looks room v b d = go (none_due d)
     where
       none_due : NoneDue → is_due n ≡ false
       none_due (inl f) = rw f
@@ -387,4 +387,4 @@ module _ (L : Limits) (n : Node) where
 
       go : is_due n ≡ false → barrier L n room ≡ looking L n
       go e =
-          order-passes (λ x. give n (barred x)) (callChecks room) _ (ap not v, (b, (rw e, tt))) ∙ choose_no _ _ e
+          order_passes (λ x. give n (barred x)) (call_checks room) _ (ap not v, (b, (rw e, tt))) ∙ choose_no _ _ e

@@ -1,8 +1,10 @@
 // The state of a node, and what its calls answer. The definitions of the calls stand in specs/, their code in the crates above.
+#![tactic(auto)]
+
 use frame::{Sent, Taken};
 
 // The latest frame of pass 1 in a dimension. Where none is stored, all numbers are 0.
-#[derive(Drop)]
+#[derive(Clone, Copy)]
 pub struct Stored {
     pub present: bool,
     // the tallies of each shell, by the shell's own number
@@ -14,7 +16,7 @@ pub struct Stored {
 }
 
 // The latest frame of pass 2 in a dimension.
-#[derive(Drop)]
+#[derive(Clone, Copy)]
 pub struct Confirm {
     pub present: bool,
     // the agreed total T and total sent
@@ -22,7 +24,7 @@ pub struct Confirm {
     pub issued: Sent,
 }
 
-#[derive(Drop)]
+#[derive(Clone, Copy)]
 pub struct Node {
     // P and the node's number
     pub nodes: u16,
@@ -47,7 +49,7 @@ pub struct Node {
 pub const NO_CLAUSE: u32 = 7;
 
 // What fresh, send, take, idle and frame in answer.
-#[derive(Drop)]
+#[derive(Clone, Copy)]
 pub enum Answer {
     Done,
     // a late frame
@@ -56,20 +58,20 @@ pub enum Answer {
 }
 
 // A second receiver of a frame.
-#[derive(Drop)]
+#[derive(Clone, Copy)]
 pub enum Extra {
     Nobody,
     Also(u8),
 }
 
 // The receivers of a frame, the neighbour first.
-#[derive(Drop)]
+#[derive(Clone, Copy)]
 pub struct Receivers {
     pub first: u8,
     pub extra: Extra,
 }
 
-#[derive(Drop)]
+#[derive(Clone, Copy)]
 pub enum BarrierAnswer {
     // to these receivers, a frame of this length
     Sends(Receivers, u32),

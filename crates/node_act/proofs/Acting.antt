@@ -7,7 +7,7 @@ use Rattle.layout.specs.Held.{word, dims_of, unpacked, is_whole, holding}
 use Rattle.layout.proofs.Whole.{whole}
 use Rattle.layout.proofs.Repack.{repacked}
 use Rattle.layout.proofs.Becomes.{becomes_words}
-use Rattle.layout.proofs.Writes.{put-flag, put-position}
+use Rattle.layout.proofs.Writes.{put_flag, put_position}
 use Rattle.layout.proofs.Fresh.{put_fresh}
 use Rattle.node_turn.specs.Turn.{node_after, freshened, words_after}
 use Rattle.node_turn.specs.declared.Turn.{Turn}
@@ -22,7 +22,7 @@ module _ (L : Limits) (fit : Fits L) (ws : List ℕ) (e : is_whole L ws ≡ true
 
   pub acted : (t : Turn) → words_after ws (dims_of ws) t ≡ holding ws (node_after (unpacked ws) t)
   acted (Refuses x) = sym (repacked L fit ws e)
-  acted (Sends to length) = becomes_words L fit (put-flag L ws e false)
-  acted (Waits clause) = becomes_words L fit (put-flag L ws e false)
-  acted (Moves pass k agreed) = becomes_words L fit (put-position L ws e pass k true agreed)
+  acted (Sends to length) = becomes_words L fit (put_flag L ws e false)
+  acted (Waits clause) = becomes_words L fit (put_flag L ws e false)
+  acted (Moves pass k agreed) = becomes_words L fit (put_position L ws e pass k true agreed)
   acted Leaves = left

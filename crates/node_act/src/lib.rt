@@ -1,4 +1,6 @@
 // What a node's turn in a barrier call makes of the words that the caller lends, and its answer.
+#![tactic(auto)]
+
 ghost use Rattle.std.specs.Prelude.{◌≡◌, ◌+◌, ◌%◌, ◌≤◌, length, nat_lt};
 ghost use Rattle.base.specs.Choice.{choose};
 ghost use Rattle.layout.specs.Places.{head_words};

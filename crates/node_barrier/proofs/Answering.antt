@@ -26,11 +26,11 @@ module _ (L : Limits) (ws buf : List ℕ) (room : ℕ) where
   no_state_lem e =
       (sym (choose_no _ _ e), (sym (choose_no _ _ e), sym (choose_no _ _ e)))
 
-  pub on-state : is_ready L room ws ≡ true → {r : BarrierAnswer} (t : Turn) (words after : List ℕ) → r ≡ answer_of t
+  pub on_state_lem : is_ready L room ws ≡ true → {r : BarrierAnswer} (t : Turn) (words after : List ℕ) → r ≡ answer_of t
       → Turns L (unpacked ws) buf after t
       → words ≡ holding ws (node_after (unpacked ws) t)
       → On words after r
-  on-state e t words after q h w =
+  on_state_lem e t words after q h w =
       subst (On words after) (sym q) (
         ap (λ (g : Given Barrier). g.answer) h.reply ∙ sym (choose_yes _ _ e),
         (

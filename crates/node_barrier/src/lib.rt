@@ -1,4 +1,6 @@
 // The barrier call, one step, in place on the words that the caller lends.
+#![tactic(auto)]
+
 ghost use Rattle.std.specs.Prelude.{◌≡◌, length};
 ghost use Rattle.base.specs.Limits.{limits_of};
 ghost use Rattle.node.specs.Answers.{barrier_of};

@@ -1,5 +1,7 @@
 // The calls fresh, send, take and idle, in place on the words that the caller lends. What is not allowed is refused with its
 // number, and a refused call leaves the words as they were. `sums` is lent for the own sums; what it holds is of no account.
+#![tactic(auto)]
+
 ghost use Rattle.std.specs.Prelude.{◌≡◌, length};
 ghost use Rattle.base.specs.Limits.{limits_of};
 ghost use Rattle.node.specs.Sums.{all_sent, tally};

@@ -36,16 +36,16 @@ module _ (L : Limits) (n : Node) where
   unfolding first_clauses second_clauses
   seven = cases (λ (l : List Bool). length l ≡ no_clause) (eqb n.pass 1) _ _ (λ e. refl) (λ e. refl)
 
-  pub agrees-here : agrees L n n.pass n.dim ≡ eqb (clause_here L n) no_clause
+  pub agrees_here : agrees L n n.pass n.dim ≡ eqb (clause_here L n) no_clause
   unfolding agrees
-  agrees-here = go (is_alone n n.dim)
+  agrees_here = go (is_alone n n.dim)
     where
       go : (t : Bool) → choose t true (all_hold tests) ≡ eqb (choose t no_clause (first_failing tests)) no_clause
       go true = refl
       go false = past_last tests ∙ ap (eqb (first_failing tests)) seven
 
-  pub fails-here : eqb (clause_here L n) no_clause ≡ false → first_failing tests ≡ clause_here L n % 256
-  fails-here = go (is_alone n n.dim)
+  pub fails_here : eqb (clause_here L n) no_clause ≡ false → first_failing tests ≡ clause_here L n % 256
+  fails_here = go (is_alone n n.dim)
     where
       go : (t : Bool) → let c = choose t no_clause (first_failing tests) in eqb c no_clause ≡ false → first_failing tests ≡ c % 256
       go true e = clash e

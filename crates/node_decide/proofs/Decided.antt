@@ -27,7 +27,7 @@ use Rattle.due.specs.declared.Whom.TheVariants.{To, Nobody}
 use Rattle.node_decide.specs.Decides.{sent_turn, decide_turn, decide_lent}
 use Rattle.node_decide.proofs.Turning.{Turns, turns_same, short, sends, looks}
 use Rattle.node_decide.proofs.Handed.{Lent, held}
-use Rattle.node_decide.proofs.Due.{due-is, due-can, due-none, due-some, due_bytes_lem}
+use Rattle.node_decide.proofs.Due.{due_is, due_can, due_none, due_some, due_bytes_lem}
 use Rattle.node_decide.proofs.Looking.{Seen, looked}
 
 module _ (L : Limits) (fit : Fits L) (ws sums : List ℕ) (p total : ℕ) (h : Lent L ws sums p total)
@@ -44,10 +44,10 @@ module _ (L : Limits) (fit : Fits L) (ws sums : List ℕ) (p total : ℕ) (h : L
     low = omega (arith, due_dim L n (held L fit ws sums p total h) _ _ whose, h.dims)
 
     can : can_send ws p (length sums) ≡ true
-    can = due-can L fit ws sums p total h low room
+    can = due_can L fit ws sums p total h low room
 
     is : bytes ≡ frame_bytes (dims n) (frame_due n)
-    is = due-is L fit ws sums p total h low room
+    is = due_is L fit ws sums p total h low room
 
     long : length bytes ≡ length_due n
     long = ap length is ∙ due_length n (held L fit ws sums p total h).pass
@@ -72,8 +72,8 @@ module _ (L : Limits) (fit : Fits L) (ws sums : List ℕ) (p total : ℕ) (h : L
       → Turns L n buf (decide_lent ws sums p whom total buf)
       (decide_turn ws sums p whom total clause received (length buf))
   decided clause received (To to) e seen =
-      let q = due-some L fit ws sums p total h _ _ (sym e) in
+      let q = due_some L fit ws sums p total h _ _ (sym e) in
       sending to q.0 q.1
   decided clause received Nobody e seen =
-      looks L n buf h.valid idle (due-none L fit ws sums p total h (sym e)) _
+      looks L n buf h.valid idle (due_none L fit ws sums p total h (sym e)) _
       (looked L fit ws sums p total h clause received (seen refl))

@@ -28,8 +28,8 @@ use Rattle.layout.specs.Held.{word, unpacked, sum_of}
 use Rattle.wire.proofs.Putting.{part_is}
 use Rattle.due_bytes.specs.Bytes.{sent_part, taken_part, first_numbers, due_bytes, has_sums, can_send}
 use Rattle.due.specs.Due.{due_to}
-use Rattle.node_decide.proofs.Handed.{Lent, held, lies, low-dims, number_low, head_room, gathered, issued_is}
-use Rattle.node_decide.proofs.Placing.{looked-whom}
+use Rattle.node_decide.proofs.Handed.{Lent, held, lies, low_dims, number_low, head_room, gathered, issued_is}
+use Rattle.node_decide.proofs.Placing.{looked_whom}
 
 -- two values more at the end
 list_two : (k count : ℕ) (f : ℕ → ℕ)
@@ -50,7 +50,7 @@ module _ (L : Limits) (fit : Fits L) (ws sums : List ℕ) (p total : ℕ) (h : L
   k = n.dim
 
   few : p ≤ width
-  few = low-dims L fit ws sums p total h
+  few = low_dims L fit ws sums p total h
 
   -- ---- pass 1
 
@@ -97,9 +97,9 @@ module _ (L : Limits) (fit : Fits L) (ws sums : List ℕ) (p total : ℕ) (h : L
         list_same k (p - k) after (taken_at (first_frame n).taken) (λ m a b. taken_is m a (omega arith)) i
         ++ ((ap (word sums) d ∙ sum_is all_sent tt) i ∷ (ap (word sums) e ∙ sum_is all_taken tt) i ∷ []))
 
-    first-due : 1 ∷ n.phase ∷ k ∷ n.number ∷ bytes_of (first_numbers sums p k) ≡ frame_bytes (dims n) (frame_due n)
+    first_due : 1 ∷ n.phase ∷ k ∷ n.number ∷ bytes_of (first_numbers sums p k) ≡ frame_bytes (dims n) (frame_due n)
     unfolding frame_bytes numbers_of
-    first-due =
+    first_due =
         ap (λ xs. 1 ∷ n.phase ∷ k ∷ n.number ∷ bytes_of xs)
         ((λ i. sents i ++ rest i)
         ∙ ap
@@ -112,9 +112,9 @@ module _ (L : Limits) (fit : Fits L) (ws sums : List ℕ) (p total : ℕ) (h : L
   -- ---- pass 2
 
   module _ (second : n.pass ≡ 2) where
-    second-due : 2 ∷ n.phase ∷ k ∷ n.number ∷ bytes_of (n.agreed ∷ total ∷ []) ≡ frame_bytes (dims n) (frame_due n)
+    second_due : 2 ∷ n.phase ∷ k ∷ n.number ∷ bytes_of (n.agreed ∷ total ∷ []) ≡ frame_bytes (dims n) (frame_due n)
     unfolding frame_bytes numbers_of
-    second-due =
+    second_due =
         ap (λ t. 2 ∷ n.phase ∷ k ∷ n.number ∷ bytes_of (n.agreed ∷ t ∷ []))
         (issued_is L fit ws sums p total h second)
         ∙ ap (frame_bytes (dims n)) (sym (due_second n second))
@@ -122,10 +122,10 @@ module _ (L : Limits) (fit : Fits L) (ws sums : List ℕ) (p total : ℕ) (h : L
   -- ---- both
 
   -- the head's numbers are bytes
-  head-is : (pass : ℕ) (l : List ℕ)
+  head_is : (pass : ℕ) (l : List ℕ)
       → pass ∷ ((n.phase % 256 ∷ k % 256 ∷ n.number % 256 ∷ []) ++ l) ≡ pass ∷ n.phase ∷ k ∷ n.number ∷ l
   unfolding unpacked
-  head-is pass l i =
+  head_is pass l i =
       let low : k < 256 = omega (arith, few) in
       let known : n.number < 256 = omega (arith, number_low L fit ws sums p total h) in
       pass
@@ -134,18 +134,18 @@ module _ (L : Limits) (fit : Fits L) (ws sums : List ℕ) (p total : ℕ) (h : L
       ∷ mod-eq_of_lt known i
       ∷ l
 
-  pub due-is : due_bytes ws sums p total ≡ frame_bytes (dims n) (frame_due n)
+  pub due_is : due_bytes ws sums p total ≡ frame_bytes (dims n) (frame_due n)
   unfolding unpacked
-  due-is = go (held L fit ws sums p total h).pass
+  due_is = go (held L fit ws sums p total h).pass
     where
       go : (n.pass ≡ 1) ⊎ (n.pass ≡ 2) → due_bytes ws sums p total ≡ frame_bytes (dims n) (frame_due n)
-      go (inl e) = choose_yes _ _ (eq-eqb n.pass 1 e) ∙ head-is 1 _ ∙ first-due e
-      go (inr e) = choose_no _ _ (ne_eqb n.pass 1 (λ q. omega arith)) ∙ head-is 2 _ ∙ second-due e
+      go (inl e) = choose_yes _ _ (eq-eqb n.pass 1 e) ∙ head_is 1 _ ∙ first_due e
+      go (inr e) = choose_no _ _ (ne_eqb n.pass 1 (λ q. omega arith)) ∙ head_is 2 _ ∙ second_due e
 
   -- the sums are there
-  pub due-can : can_send ws p (length sums) ≡ true
+  pub due_can : can_send ws p (length sums) ≡ true
   unfolding unpacked
-  due-can =
+  due_can =
       both_make (le-leb head_words (length ws) (head_room L ws h.whole))
       (cases (λ t. t ≡ true) (eqb n.pass 1) (has_sums p k (length sums)) true
       (λ e. both_make (le-leb k p (omega arith)) (le-leb (sum_words p) (length sums) room)) (λ e. refl))
@@ -160,17 +160,17 @@ module _ (L : Limits) (fit : Fits L) (ws sums : List ℕ) (p total : ℕ) (h : L
   unfolding unpacked
   flagged = λ i.
       choose (both (le-leb head_words (length ws) (head_room L ws h.whole) i) node.flag)
-      (looked-whom L node (held L fit ws sums p total h) i) []
+      (looked_whom L node (held L fit ws sums p total h) i) []
 
-  pub due-none : due_to L ws ≡ [] → NoneDue L node
-  due-none e = go node.flag refl (sym flagged ∙ e)
+  pub due_none : due_to L ws ≡ [] → NoneDue L node
+  due_none e = go node.flag refl (sym flagged ∙ e)
     where
       go : (t : Bool) → node.flag ≡ t → choose t (receivers_due node) [] ≡ [] → NoneDue L node
       go true f q = inr q
       go false f q = inl f
 
-  pub due-some : (a : ℕ) (l : List ℕ) → due_to L ws ≡ a ∷ l → (node.flag ≡ true) × (receivers_due node ≡ a ∷ l)
-  due-some a l e = go node.flag refl (sym flagged ∙ e)
+  pub due_some : (a : ℕ) (l : List ℕ) → due_to L ws ≡ a ∷ l → (node.flag ≡ true) × (receivers_due node ≡ a ∷ l)
+  due_some a l e = go node.flag refl (sym flagged ∙ e)
     where
       go : (t : Bool) → node.flag ≡ t → choose t (receivers_due node) [] ≡ a ∷ l
           → (node.flag ≡ true) × (receivers_due node ≡ a ∷ l)

@@ -12,7 +12,7 @@ use Rattle.tree.proofs.Lookups.{board_good}
 use Rattle.node.specs.Sums.{dims, Field, Has, own, own_issued}
 use Rattle.node.specs.State.{valid}
 use Rattle.node.specs.declared.Node.{Node}
-use Rattle.node.proofs.Valid.{Valid, valid-known}
+use Rattle.node.proofs.Valid.{Valid, valid_known}
 use Rattle.layout.specs.Places.{head_words, at_number}
 use Rattle.layout.specs.Held.{word, dims_of, unpacked, is_whole, sum_of}
 use Rattle.layout.proofs.Offsets.{first_above}
@@ -37,21 +37,21 @@ module _ (L : Limits) (fit : Fits L) (ws sums : List ℕ) (p total : ℕ) (h : L
   n = unpacked ws
 
   pub held : Valid L n
-  held = valid-known L n h.valid
+  held = valid_known L n h.valid
 
   pub lies : Whole L ws
   lies = whole L ws h.whole
 
-  pub low-dims : p ≤ width
+  pub low_dims : p ≤ width
   unfolding unpacked
-  low-dims = let e : p ≡ dims_of ws = h.dims in omega (arith, e, few L fit ws lies.board)
+  low_dims = let e : p ≡ dims_of ws = h.dims in omega (arith, e, few L fit ws lies.board)
 
   pub number_low : word ws at_number < base.nodes
   unfolding unpacked
   number_low = omega (arith, held.number, board_good L n.nodes held.board, fit.nodes)
 
-  pub dim-low : 0 < p → n.dim < p
-  dim-low z = rw h.dims (held.dim (rw (sym h.dims) z))
+  pub dim_low : 0 < p → n.dim < p
+  dim_low z = rw h.dims (held.dim (rw (sym h.dims) z))
 
   -- the sums of pass 1 are those for the position
   pub gathered : n.pass ≡ 1 → (f : Field) → Has (dims n) n.dim f → sum_of (dims n) sums f ≡ own n n.dim f

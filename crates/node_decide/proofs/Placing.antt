@@ -12,7 +12,7 @@ use Rattle.tree.proofs.Lookups.{place_found}
 use Rattle.node.specs.Sums.{dims}
 use Rattle.node.specs.Barrier.{receivers_due}
 use Rattle.node.specs.declared.Node.{Node}
-use Rattle.node.proofs.Bound.{one-receivers}
+use Rattle.node.proofs.Bound.{one_receivers}
 use Rattle.node.proofs.Valid.{Valid}
 use Rattle.due.specs.Due.{to_whom}
 
@@ -29,10 +29,10 @@ module _ (L : Limits) (n : Node) (h : Valid L n) where
     unfolding place_lookup
     nowhere = rw (h.board, lt-leb n.nodes _ h.number, le-leb (dims n) n.dim (omega arith))
 
-  pub looked-whom : to_whom looked ≡ receivers_due n
+  pub looked_whom : to_whom looked ≡ receivers_due n
   unfolding receivers
-  looked-whom = go (ℕ_discrete (dims n) 0)
+  looked_whom = go (ℕ_discrete (dims n) 0)
     where
       go : Dec (dims n ≡ 0) → to_whom looked ≡ receivers_due n
-      go (yes z) = ap to_whom (nowhere z) ∙ sym (one-receivers n.nodes n.dim n.number z)
+      go (yes z) = ap to_whom (nowhere z) ∙ sym (one_receivers n.nodes n.dim n.number z)
       go (no z) = ap to_whom (there (h.dim (omega arith)))

@@ -22,12 +22,12 @@ use Rattle.node.specs.Barrier.{frame_due, length_due, receivers_due, is_due, mov
 use Rattle.node.specs.Barrier.{lent_after, barrier_bytes}
 use Rattle.node.specs.declared.Node.{Node}
 use Rattle.node.specs.declared.Receivers.{Receivers}
-use Rattle.node.proofs.Ways.{callChecks, NoneDue, call-refuses, call-sends, call-looks}
+use Rattle.node.proofs.Ways.{call_checks, NoneDue, call_refuses, call_sends_lem, call_looks}
 use Rattle.scanned.specs.Scan.{clause_here}
 use Rattle.node_turn.specs.Turn.{onward_turn, node_after, answer_of}
 use Rattle.node_turn.specs.declared.Turn.{Turn}
 use Rattle.node_turn.specs.declared.Turn.TheVariants.{Refuses, Sends, Waits, Leaves}
-use Rattle.node_decide.proofs.Clauses.{agrees-here, fails-here}
+use Rattle.node_decide.proofs.Clauses.{agrees_here, fails_here}
 
 abbrev pub turned : Node → Turn → Given Barrier
 turned n t = give (node_after n t) (barrier_of (answer_of t))
@@ -56,15 +56,15 @@ module _ (L : Limits) (n : Node) where
   -- ---- refusals
 
   module _ (buf : List ℕ) where
-    refuses : {x : ℕ} → Stops (callChecks L n (length buf)) x → Turns L n buf buf (Refuses x)
-    refuses {x} s = turns buf buf (Refuses x) (sym (call-refuses L n (length buf) s)) refl
+    refuses : {x : ℕ} → Stops (call_checks L n (length buf)) x → Turns L n buf buf (Refuses x)
+    refuses {x} s = turns buf buf (Refuses x) (sym (call_refuses L n (length buf) s)) refl
 
-    pub refuses-state : not (valid L n) ≡ true → Turns L n buf buf (Refuses 13)
-    refuses-state e = refuses (here {c = bad_state L n} e)
+    pub refuses_state : not (valid L n) ≡ true → Turns L n buf buf (Refuses 13)
+    refuses_state e = refuses (here {c = bad_state L n} e)
 
     module _ (ok : valid L n ≡ true) where
-      pub refuses-busy : n.busy ≡ true → Turns L n buf buf (Refuses 12)
-      refuses-busy e = refuses (later (ap not ok) (here {c = when n.busy Refusal.working} e))
+      pub refuses_busy : n.busy ≡ true → Turns L n buf buf (Refuses 12)
+      refuses_busy e = refuses (later (ap not ok) (here {c = when n.busy Refusal.working} e))
 
       -- ---- the frame due
 
@@ -83,13 +83,13 @@ module _ (L : Limits) (n : Node) where
         sends to count bytes f r e l is =
             turns buf (bytes ++ drop count buf) (Sends to count)
             ((λ i. give (at n n.pass n.dim false n.agreed) (sent (sym r i) (e i)))
-            ∙ sym (call-sends L n (length buf) _ _ ok b f r (omega arith)))
+            ∙ sym (call_sends_lem L n (length buf) _ _ ok b f r (omega arith)))
             (ap (λ l. l ++ drop count buf) is)
 
   -- ---- a node that looks
 
-  pub looks-out : dims n ≡ 0 → Looks L n Leaves
-  looks-out z =
+  pub looks_out : dims n ≡ 0 → Looks L n Leaves
+  looks_out z =
       let e : eqb (dims n) 0 ≡ true = rw z in
       record { reply = sym (choose_yes _ _ e); bytes = λ buf. refl }
 
@@ -116,18 +116,18 @@ module _ (L : Limits) (n : Node) where
         record { reply = sym (moves ∙ choose_no _ _ e ∙ choose_no _ _ f); bytes = λ buf. refl })))
       where
         moves : looking L n ≡ moving n
-        moves = choose_no _ _ z ∙ choose_yes _ _ (agrees-here L n ∙ v)
+        moves = choose_no _ _ z ∙ choose_yes _ _ (agrees_here L n ∙ v)
 
-    pub looks-wait : eqb (clause_here L n) no_clause ≡ false → Looks L n (Waits (clause_here L n % 256))
-    looks-wait e =
+    pub looks_wait : eqb (clause_here L n) no_clause ≡ false → Looks L n (Waits (clause_here L n % 256))
+    looks_wait e =
         record {
           reply =
-              ap (λ i. give (at n n.pass n.dim false n.agreed) (waits i)) (sym (fails-here L n e))
-              ∙ sym (choose_no _ _ z ∙ choose_no _ _ (agrees-here L n ∙ e));
+              ap (λ i. give (at n n.pass n.dim false n.agreed) (waits i)) (sym (fails_here L n e))
+              ∙ sym (choose_no _ _ z ∙ choose_no _ _ (agrees_here L n ∙ e));
           bytes = λ buf. refl;
         }
 
   pub looks : (buf : List ℕ) → valid L n ≡ true → n.busy ≡ false → NoneDue L n → (t : Turn) → Looks L n t
       → Turns L n buf buf t
   looks buf ok b d t s =
-      turns buf buf t (s.reply ∙ sym (call-looks L n (length buf) ok b d)) (s.bytes buf)
+      turns buf buf t (s.reply ∙ sym (call_looks L n (length buf) ok b d)) (s.bytes buf)

@@ -1,4 +1,6 @@
 // The turn of an idle node in a barrier call: it sends the frame that is due, or looks.
+#![tactic(auto)]
+
 ghost use Rattle.std.specs.Prelude.{◌≡◌, length};
 ghost use Rattle.node_decide.specs.Decides.{sent_turn, decide_turn, decide_lent};
 

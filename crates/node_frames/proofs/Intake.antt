@@ -18,13 +18,13 @@ use Rattle.frame.specs.declared.Frame.{Frame}
 use Rattle.frame.specs.declared.Outcome.TheVariants.{Done, Refused}
 use Rattle.frame.specs.declared.Timing.{Timing}
 use Rattle.frame.proofs.Answers.{answer_refused, answer_done}
-use Rattle.frame.proofs.RoundTripAccepted.{Read, read_known, head-phase, head-dim, head-sender}
+use Rattle.frame.proofs.RoundTripAccepted.{Read, read_known, head_phase, head_dim, head_sender}
 use Rattle.node.specs.Sums.{dims}
 use Rattle.node.specs.State.{valid}
 use Rattle.node.specs.Calls.{refusal, frame_in, is_awaited, by_timing}
 use Rattle.node.specs.declared.Node.{Node}
-use Rattle.node.proofs.Valid.{valid-known}
-use Rattle.node.proofs.Ways.{frame-refuses, frame-comes}
+use Rattle.node.proofs.Valid.{valid_known}
+use Rattle.node.proofs.Ways.{frame_refuses, frame_comes}
 
 -- ---- who is awaited
 
@@ -45,55 +45,55 @@ module _ (L : Limits) (n : Node) (bs : List ℕ) (v : valid L n ≡ true) where
   abbrev all : List Check
   all = when (bad_board L n.nodes) Refusal.board ∷ checks
 
-  read-stops : (x : ℕ) → read_frame L n.nodes bs ≡ refused x → Stops checks x
+  read_stops : (x : ℕ) → read_frame L n.nodes bs ≡ refused x → Stops checks x
   unfolding read_frame
-  read-stops x e = go (checks_stop all got x e)
+  read_stops x e = go (checks_stop all got x e)
     where
       go : {y : ℕ} → Stops all y → Stops checks y
-      go (here b) = clash (sym b ∙ (valid-known L n v).board)
+      go (here b) = clash (sym b ∙ (valid_known L n v).board)
       go (later b s) = s
 
   pub frame_refused : (x : ℕ) → answer_of (read_frame L n.nodes bs) ≡ Refused x → frame_in L n bs ≡ refusal n x
   frame_refused x a =
-      frame-refuses L n bs
-      (later (ap not v) (stops_before _ (read-stops x (answer_refused (read_frame L n.nodes bs) x a))))
+      frame_refuses L n bs
+      (later (ap not v) (stops_before _ (read_stops x (answer_refused (read_frame L n.nodes bs) x a))))
 
   module _ (a : answer_of (read_frame L n.nodes bs) ≡ Done) where
-    read-passes : Passes checks
+    read_passes : Passes checks
     unfolding read_frame
-    read-passes =
+    read_passes =
         let r = answer_done (read_frame L n.nodes bs) a in (checks_known all got r.0 r.1).0.1
 
-    pub frame-read : Read L n.nodes bs got
-    frame-read =
+    pub frame_read : Read L n.nodes bs got
+    frame_read =
         let r = answer_done (read_frame L n.nodes bs) a in
         let k = read_known L n.nodes bs r.0 r.1 in
         subst (Read L n.nodes bs) k.fields k
 
     pub frame_self : get_or bs 3 0 ≡ n.number → frame_in L n bs ≡ refusal n 3
     frame_self e =
-        frame-refuses L n bs
-        (later (ap not v) (stops_after checks read-passes (here (eq-eqb _ _ (head-sender (dims n) bs ∙ e)))))
+        frame_refuses L n bs
+        (later (ap not v) (stops_after checks read_passes (here (eq-eqb _ _ (head_sender (dims n) bs ∙ e)))))
 
     module _ (e : get_or bs 3 0 ≢ n.number) where
       other : got.sender ≢ n.number
-      other z = e (sym (head-sender (dims n) bs) ∙ z)
+      other z = e (sym (head_sender (dims n) bs) ∙ z)
 
       -- whether the sender is awaited, of the fields
       same : (t : Bool) → is_awaited (awaited n.nodes (get_or bs 2 0) n.number) (get_or bs 3 0) ≡ t
           → is_awaited (awaited n.nodes got.dim n.number) got.sender ≡ t
-      same t h = rw (head-dim (dims n) bs, head-sender (dims n) bs) h
+      same t h = rw (head_dim (dims n) bs, head_sender (dims n) bs) h
 
-      pub frame-partner : is_awaited (awaited n.nodes (get_or bs 2 0) n.number) (get_or bs 3 0) ≡ false
+      pub frame_partner : is_awaited (awaited n.nodes (get_or bs 2 0) n.number) (get_or bs 3 0) ≡ false
           → frame_in L n bs ≡ refusal n 11
-      frame-partner h =
-          frame-refuses L n bs
+      frame_partner h =
+          frame_refuses L n bs
           (later (ap not v)
-          (stops_after checks read-passes (later (ne_eqb _ _ other) (here (ap not (same false h))))))
+          (stops_after checks read_passes (later (ne_eqb _ _ other) (here (ap not (same false h))))))
 
-      pub frame-timed : is_awaited (awaited n.nodes (get_or bs 2 0) n.number) (get_or bs 3 0) ≡ true → (t : Timing)
+      pub frame_timed : is_awaited (awaited n.nodes (get_or bs 2 0) n.number) (get_or bs 3 0) ≡ true → (t : Timing)
           → timing (get_or bs 1 0) n.phase ≡ t → frame_in L n bs ≡ by_timing n got t
-      frame-timed h t z =
-          frame-comes L n bs
-          (record { ok = v; read = frame-read; other = other; awaits = awaited_is _ _ (same true h) })
-          ∙ ap (by_timing n got) (ap (λ b. timing b n.phase) (head-phase (dims n) bs) ∙ z)
+      frame_timed h t z =
+          frame_comes L n bs
+          (record { ok = v; read = frame_read; other = other; awaits = awaited_is _ _ (same true h) })
+          ∙ ap (by_timing n got) (ap (λ b. timing b n.phase) (head_phase (dims n) bs) ∙ z)

@@ -17,8 +17,8 @@ use Rattle.frame.specs.declared.Frame.{Frame}
 use Rattle.frame.proofs.Shells.{shell_there, shell_gone}
 use Rattle.frame.proofs.Writing.{first_length_lem, second_length}
 use Rattle.frame.proofs.RoundTripChecks.{step_known, step_good, shell_known}
-use Rattle.frame.proofs.RoundTripAccepted.{Read, head-pass, head-dim}
-use Rattle.wire_read.proofs.Within.{fields-first, fields-second}
+use Rattle.frame.proofs.RoundTripAccepted.{Read, head_pass, head_dim}
+use Rattle.wire_read.proofs.Within.{fields_first, fields_second}
 use Rattle.node.specs.Change.{at}
 use Rattle.node.specs.Calls.{step_number, first_of, stored, gotten}
 use Rattle.node.specs.declared.Node.{Node}
@@ -27,7 +27,7 @@ use Rattle.layout.specs.Places.{second_words, mark_words, sum_issued, sum_receiv
 use Rattle.layout.specs.Held.{word, dims_of, first_from, unpacked, is_whole}
 use Rattle.layout.proofs.Whole.{few}
 use Rattle.layout.proofs.Becomes.{Becomes, becomes_then}
-use Rattle.layout.proofs.Writes.{put-position}
+use Rattle.layout.proofs.Writes.{put_position}
 use Rattle.layout.proofs.Stores.{put_first, put_second}
 use Rattle.node_frames.specs.Pieces.{kept_words, back_words, stored_words}
 
@@ -56,8 +56,8 @@ module _ (p : ℕ) (bs : List ℕ) (h : get_or bs 2 0 < p) where
       after (start + (m - k)) j e (omega arith) ∙ sym (shell_there p k bs start m r.0 r.1))
       (λ q. sym (shell_gone p k bs start m q))
 
-  first-put : first_from put p k 0 ≡ first_of (first_fields p bs)
-  first-put =
+  first_put_lem : first_from put p k 0 ≡ first_of (first_fields p bs)
+  first_put_lem =
       rw (
         list_same 0 width _ (λ m. sent_number (shell_at p k bs 0 m))
             (λ m a b. ap sent_number (shell 0 m (sent_place 0 k m) (omega arith) (omega arith))),
@@ -91,12 +91,12 @@ module _ (L : Limits) (ws bs : List ℕ) (e : is_whole L ws ≡ true) (narrow : 
       go : (pass ≡ 1) ⊎ (pass ≡ 2) → dim < p → Becomes L ws (kept_words p ws bs) (stored (unpacked ws) got)
       go (inl one) h =
           let n : (length bs - 4) / 4 ≡ sum_words (p - dim) = omega (arith, first_length_lem p pass dim one) in
-          rw (head-pass p bs, head-dim p bs, eq-eqb pass 1 one, n, fields-first p bs one, sym (first-put p bs h))
+          rw (head_pass p bs, head_dim p bs, eq-eqb pass 1 one, n, fields_first p bs one, sym (first_put_lem p bs h))
           (put_first L ws e dim h (omega arith) (list 0 (sum_words (p - dim)) (number_at bs))
           (omega (arith, length_list 0 (sum_words (p - dim)) (number_at bs))))
       go (inr two) h =
           let n : (length bs - 4) / 4 ≡ second_words - mark_words = omega (arith, second_length p pass dim (λ z. omega arith)) in
-          rw (head-pass p bs, head-dim p bs, ne_eqb pass 1 (λ z. omega arith), n, fields-second p bs (λ z. omega arith))
+          rw (head_pass p bs, head_dim p bs, ne_eqb pass 1 (λ z. omega arith), n, fields_second p bs (λ z. omega arith))
           (put_second L ws e dim h (omega arith) (number_at bs 0) (number_at bs 1))
 
   total : (l : List ℕ) → word l at_agreed ≡ (unpacked l).agreed
@@ -104,8 +104,8 @@ module _ (L : Limits) (ws bs : List ℕ) (e : is_whole L ws ≡ true) (narrow : 
   total l = refl
 
   -- T is not changed by a stored frame
-  agreed-kept : (stored (unpacked ws) got).agreed ≡ (unpacked ws).agreed
-  agreed-kept =
+  agreed_kept : (stored (unpacked ws) got).agreed ≡ (unpacked ws).agreed
+  agreed_kept =
       cases (λ (n : Node). n.agreed ≡ (unpacked ws).agreed) (eqb got.pass 1) _ _ (λ z. refl) (λ z. refl)
 
   back : Becomes L ws (back_words (kept_words p ws bs) pass dim)
@@ -113,25 +113,25 @@ module _ (L : Limits) (ws bs : List ℕ) (e : is_whole L ws ≡ true) (narrow : 
   unfolding back_words
   back =
       let ks = kept_words p ws bs in
-      let z : word ks at_agreed ≡ (unpacked ws).agreed = total ks ∙ ap (λ (n : Node). n.agreed) kept.node ∙ agreed-kept in
+      let z : word ks at_agreed ≡ (unpacked ws).agreed = total ks ∙ ap (λ (n : Node). n.agreed) kept.node ∙ agreed_kept in
       subst (Becomes L ws (back_words ks pass dim))
       (ap (λ (n : Node). at n pass dim false (choose (eqb pass 1) 0 (word ks at_agreed))) kept.node
       ∙ ap (λ t. at (stored (unpacked ws) got) pass dim false (choose (eqb pass 1) 0 t)) z)
-      (becomes_then L kept (put-position L ks kept.whole pass dim false (choose (eqb pass 1) 0 (word ks at_agreed))))
+      (becomes_then L kept (put_position L ks kept.whole pass dim false (choose (eqb pass 1) 0 (word ks at_agreed))))
 
   -- the frame's step is earlier than the position
   abbrev earlier : Bool
   earlier = ltb (step_number p pass dim) (step_number p (word ws at_pass) (word ws at_dim))
 
-  gotten-is : gotten (unpacked ws) got
+  gotten_is : gotten (unpacked ws) got
       ≡ choose earlier (at (stored (unpacked ws) got) pass dim false (choose (eqb pass 1) 0 (unpacked ws).agreed))
       (stored (unpacked ws) got)
   unfolding gotten unpacked
-  gotten-is = rw (head-pass p bs, head-dim p bs)
+  gotten_is = rw (head_pass p bs, head_dim p bs)
 
-  stored-words : Becomes L ws (stored_words p ws bs) (gotten (unpacked ws) got)
+  stored_words_lem : Becomes L ws (stored_words p ws bs) (gotten (unpacked ws) got)
   unfolding stored_words
-  stored-words = subst (Becomes L ws (stored_words p ws bs)) (sym gotten-is) (go earlier back kept)
+  stored_words_lem = subst (Becomes L ws (stored_words p ws bs)) (sym gotten_is) (go earlier back kept)
     where
       go : (t : Bool) {a b : List ℕ} {m n : Node} → Becomes L ws a m → Becomes L ws b n
           → Becomes L ws (choose t a b) (choose t m n)
@@ -141,17 +141,17 @@ module _ (L : Limits) (ws bs : List ℕ) (e : is_whole L ws ≡ true) (narrow : 
 -- ---- bytes that are read as a frame of the board
 
 module _ (L : Limits) (ws bs : List ℕ) (r : Read L (word ws at_nodes) bs (fields_of (dims_of ws) bs)) where
-  pub read-dim : get_or bs 2 0 < dims_of ws
-  read-dim = rw (head-dim (dims_of ws) bs) at r.accepted.dim
+  pub read_dim : get_or bs 2 0 < dims_of ws
+  read_dim = rw (head_dim (dims_of ws) bs) at r.accepted.dim
 
-  pub read-pass : (get_or bs 0 0 ≡ 1) ⊎ (get_or bs 0 0 ≡ 2)
-  read-pass = rw (head-pass (dims_of ws) bs) at r.accepted.pass
+  pub read_pass : (get_or bs 0 0 ≡ 1) ⊎ (get_or bs 0 0 ≡ 2)
+  read_pass = rw (head_pass (dims_of ws) bs) at r.accepted.pass
 
   pub read_count : length bs ≡ frame_length (dims_of ws) (get_or bs 0 0) (get_or bs 2 0)
-  read_count = rw (head-pass (dims_of ws) bs, head-dim (dims_of ws) bs) at r.count
+  read_count = rw (head_pass (dims_of ws) bs, head_dim (dims_of ws) bs) at r.count
 
-  pub put-read : Fits L → is_whole L ws ≡ true
+  pub put_read : Fits L → is_whole L ws ≡ true
       → Becomes L ws (stored_words (dims_of ws) ws bs) (gotten (unpacked ws) (fields_of (dims_of ws) bs))
-  put-read fit e =
-      stored-words L ws bs e (few L fit ws r.accepted.board)
-      (step_good (dims_of ws) (get_or bs 0 0) (get_or bs 2 0) read-pass read-dim) read_count
+  put_read fit e =
+      stored_words_lem L ws bs e (few L fit ws r.accepted.board)
+      (step_good (dims_of ws) (get_or bs 0 0) (get_or bs 2 0) read_pass read_dim) read_count

@@ -1,4 +1,6 @@
 // The call frame in, in place on the words that the caller lends.
+#![tactic(auto)]
+
 ghost use Rattle.std.specs.Prelude.{◌≡◌, ◌+◌, ◌≤◌, ◌<◌, length};
 ghost use Rattle.base.specs.Limits.{limits_of, width};
 ghost use Rattle.frame.specs.Parts.{pasted};

@@ -33,25 +33,25 @@ module _ (L : Limits) (P a : ℕ) (ws : List ℕ) where
   unfolding fresh_words
   left n o q e f = rw (e, f)
 
-  pub fresh-stops : {x : ℕ} → fresh L P a ≡ refusal no_node x
+  pub fresh_stops : {x : ℕ} → fresh L P a ≡ refusal no_node x
       → (refused x ≡ fresh_on L P a ws) × (ws ≡ fresh_words L P a ws)
-  fresh-stops {x} e =
+  fresh_stops {x} e =
       let o = answered no_node (refused x) e in (sym o, sym (left no_node (refused x) (refused x) e o))
 
   module _ (e : fresh L P a ≡ give (fresh_in P a 0) done) where
-    pub fresh-short : length ws < state_words (dimension P) → (refused 13 ≡ fresh_on L P a ws) × (ws ≡ fresh_words L P a ws)
-    fresh-short h =
+    pub fresh_short : length ws < state_words (dimension P) → (refused 13 ≡ fresh_on L P a ws) × (ws ≡ fresh_words L P a ws)
+    fresh_short h =
         let o = answered (fresh_in P a 0) done e ∙ ap (λ t. with_room t done) (lt-leb _ _ h) in
         (sym o, sym (left (fresh_in P a 0) done (refused 13) e o))
 
-    pub fresh-put : (p : ℕ) → p ≡ dimension P → state_words p ≤ length ws → p ≤ width
+    pub fresh_put : (p : ℕ) → p ≡ dimension P → state_words p ≤ length ws → p ≤ width
         → (done ≡ fresh_on L P a ws)
         × (choose (leb (state_words p) (length ws))
         ((P ∷ a ∷ 0 ∷ 1 ∷ 1 ∷ 0 ∷ 1 ∷ 0 ∷ [])
         ++ (list 0 (state_words p - head_words) (λ i. 0) ++ drop (state_words p) ws))
         ws
         ≡ fresh_words L P a ws)
-    fresh-put p q h l =
+    fresh_put p q h l =
         let b : state_words (dimension P) ≤ length ws = rw q at h in
         let w : dimension P ≤ width = rw q at l in
         let o = answered (fresh_in P a 0) done e ∙ ap (λ t. with_room t done) (le-leb _ _ b) in

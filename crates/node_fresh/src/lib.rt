@@ -1,4 +1,6 @@
 // The call fresh: a fresh state in lent words, or a refusal of what is not allowed with its number.
+#![tactic(auto)]
+
 ghost use Rattle.std.specs.Prelude.{◌≡◌};
 ghost use Rattle.base.specs.Limits.{limits_of};
 ghost use Rattle.node.specs.Answers.{outcome_of};

@@ -1,7 +1,6 @@
 -- The turn of a node that looks: on, or it waits for the clause that is named.
 use Rattle.std.specs.Prelude.{Bool, List, ℕ, ◌%◌, ltb, leb, eqb, length}
 use Rattle.base.specs.Choice.{choose, both}
-use Rattle.node.specs.Agree.{no_clause}
 use Rattle.layout.specs.Places.{head_words, at_pass, at_dim, at_agreed}
 use Rattle.layout.specs.Held.{word}
 use Rattle.node_turn.specs.Turn.{onward_turn}
@@ -16,6 +15,6 @@ has_step ws p = both (leb head_words (length ws)) (ltb (word ws at_dim) p)
 unfoldable pub look_turn : List ℕ → ℕ → ℕ → ℕ → Turn
 look_turn ws p clause received =
     choose (has_step ws p)
-    (choose (eqb clause no_clause) (onward_turn p (word ws at_pass) (word ws at_dim) (word ws at_agreed) received)
+    (choose (eqb clause 7) (onward_turn p (word ws at_pass) (word ws at_dim) (word ws at_agreed) received)
     (Waits (clause % 256)))
     Leaves

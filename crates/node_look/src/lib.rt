@@ -1,4 +1,6 @@
 // The turn of a node that looks, by the first clause of its position's step that fails.
+#![tactic(auto)]
+
 ghost use Rattle.std.specs.Prelude.{◌≡◌};
 ghost use Rattle.node_look.specs.Looks.{has_step, look_turn};
 

@@ -25,7 +25,7 @@ use Rattle.layout.proofs.Offsets.{first_above}
 use Rattle.layout.proofs.Whole.{whole}
 use Rattle.layout.proofs.Reading.{sent_word, taken_word}
 use Rattle.layout.proofs.Becomes.{Becomes, becomes_then}
-use Rattle.layout.proofs.Writes.{put-busy, put-position, put-sent, put-taken}
+use Rattle.layout.proofs.Writes.{put_busy, put_position, put_sent, put_taken}
 use Rattle.layout.proofs.Answers.{fails}
 use Rattle.scanned.specs.Scan.{Scanned}
 use Rattle.scanned.specs.declared.Scan.{Scan}
@@ -48,8 +48,8 @@ becomes_is {L} {ws} {after} e b = rw e at b
 
 module _ (L : Limits) (ws : List ℕ) (e : is_whole L ws ≡ true) where
   -- the head and the tallies are there
-  pub tallies-room : head_words + (dims_of ws + dims_of ws) ≤ length ws
-  tallies-room = omega (arith, first_above (dims_of ws) (dims_of ws), (whole L ws e).long)
+  pub tallies_room : head_words + (dims_of ws + dims_of ws) ≤ length ws
+  tallies_room = omega (arith, first_above (dims_of ws) (dims_of ws), (whole L ws e).long)
 
   module _ (m : ℕ) (h : m < dims_of ws) (l : m < width) where
     sent_is : sent_at (unpacked ws).sent m ≡ word ws (at_sent m)
@@ -59,33 +59,33 @@ module _ (L : Limits) (ws : List ℕ) (e : is_whole L ws ≡ true) where
     taken_is = taken_word ws m l ∙ choose_yes _ _ (lt-ltb _ _ h)
 
     -- a tally is at most the total
-    pub sent-within : word ws (at_sent m) ≤ tally (unpacked ws) all_sent
+    pub sent_within : word ws (at_sent m) ≤ tally (unpacked ws) all_sent
     unfolding unpacked
-    sent-within = omega (arith, sent_is, total_has (sent_at (unpacked ws).sent) (dims_of ws) m h)
+    sent_within = omega (arith, sent_is, total_has (sent_at (unpacked ws).sent) (dims_of ws) m h)
 
-    pub taken-within : word ws (at_taken (dims_of ws) m) ≤ tally (unpacked ws) all_taken
+    pub taken_within : word ws (at_taken (dims_of ws) m) ≤ tally (unpacked ws) all_taken
     unfolding unpacked
-    taken-within = omega (arith, taken_is, total_has (taken_at (unpacked ws).taken) (dims_of ws) m h)
+    taken_within = omega (arith, taken_is, total_has (taken_at (unpacked ws).taken) (dims_of ws) m h)
 
-    pub put-one-sent : Becomes L ws (set ws (at_sent m) (word ws (at_sent m) + 1)) (one_sent (unpacked ws) m)
-    put-one-sent =
+    pub put_one_sent : Becomes L ws (set ws (at_sent m) (word ws (at_sent m) + 1)) (one_sent (unpacked ws) m)
+    put_one_sent =
         becomes_is (ap (λ x. with_sent (unpacked ws) (set (unpacked ws).sent m (sent_number (x + 1)))) (sym sent_is))
-        (put-sent L ws e m (word ws (at_sent m) + 1) h l)
+        (put_sent L ws e m (word ws (at_sent m) + 1) h l)
 
-    put-one-taken : Becomes L ws (set ws (at_taken (dims_of ws) m) (word ws (at_taken (dims_of ws) m) + 1))
+    put_one_taken : Becomes L ws (set ws (at_taken (dims_of ws) m) (word ws (at_taken (dims_of ws) m) + 1))
         (one_taken (unpacked ws) m)
-    put-one-taken =
+    put_one_taken =
         becomes_is (ap (λ x. with_taken (unpacked ws) (set (unpacked ws).taken m (taken_number (x + 1)))) (sym taken_is))
-        (put-taken L ws e m (word ws (at_taken (dims_of ws) m) + 1) h l)
+        (put_taken L ws e m (word ws (at_taken (dims_of ws) m) + 1) h l)
 
-    put-counted : Becomes L ws (counted_words ws (at_taken (dims_of ws) m)) (at (one_taken (unpacked ws) m) 1 0 true 0)
-    put-counted =
-        let a = put-one-taken in
-        becomes_then L a (becomes_is (ap (λ n. at n 1 0 true 0) a.node) (put-position L _ a.whole 1 0 true 0))
+    put_counted : Becomes L ws (counted_words ws (at_taken (dims_of ws) m)) (at (one_taken (unpacked ws) m) 1 0 true 0)
+    put_counted =
+        let a = put_one_taken in
+        becomes_then L a (becomes_is (ap (λ n. at n 1 0 true 0) a.node) (put_position L _ a.whole 1 0 true 0))
 
-    pub put-taken-one : (kind : Kind) → Becomes L ws (woken_words kind (counted_words ws (at_taken (dims_of ws) m)))
+    pub put_taken_one : (kind : Kind) → Becomes L ws (woken_words kind (counted_words ws (at_taken (dims_of ws) m)))
         (counted (unpacked ws) kind m)
-    put-taken-one Job =
-        let a = put-counted in
-        becomes_then L a (becomes_is (ap (λ n. with_busy n true) a.node) (put-busy L _ a.whole true))
-    put-taken-one Note = put-counted
+    put_taken_one Job =
+        let a = put_counted in
+        becomes_then L a (becomes_is (ap (λ n. with_busy n true) a.node) (put_busy L _ a.whole true))
+    put_taken_one Note = put_counted

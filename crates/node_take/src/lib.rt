@@ -1,6 +1,8 @@
 // The call take, in place on the words that the caller lends, and the shell in which a message is counted. What is not
 // allowed is refused with its number, and a refused call leaves the words as they were. `sums` is lent for the own sums;
 // what it holds is of no account.
+#![tactic(auto)]
+
 ghost use Rattle.std.specs.Prelude.{◌≡◌, ◌≤◌, ◌<◌, length, get_or};
 ghost use Rattle.base.specs.Limits.{limits_of};
 ghost use Rattle.tree.specs.Lookups.{distance_lookup};

@@ -1,4 +1,6 @@
 // What a node does in a barrier call, and which of it where its step agrees.
+#![tactic(auto)]
+
 ghost use Rattle.std.specs.Prelude.{◌≡◌};
 ghost use Rattle.layout.specs.Places.{at_pass, at_agreed};
 ghost use Rattle.layout.specs.Held.{word};
@@ -7,7 +9,7 @@ ghost use Rattle.node_turn.specs.Turn.{onward_turn};
 use frame::Taken;
 use node::Receivers;
 
-#[derive(Drop)]
+#[derive(Clone, Copy)]
 pub enum Turn {
     Refuses(u8),
     // to these receivers, a frame of this length

@@ -1,17 +1,12 @@
 -- A first line of another kind opens no board.
 use mathlib.Core.Path.{◌≡◌, refl}
-use mathlib.Core.List.{[], ◌∷◌}
 use Prim.Native.Nat.{ℕ}
-use types.Run.{OneOf, miss}
-use denote.Enum.Declared.{tag_of}
 use Rattle.line_forms.specs.declared.Line.{Line}
 use Rattle.line_forms.specs.declared.Line.TheVariants.{Nodes, Sends, Delivers, Idles, Calls, Bad}
-use Rattle.line_forms.specs.contracts.Line as LineT
 use Rattle.opening.specs.Opens.{shut, opened_by}
 
-pub no_board : (l : Line) (len next : ℕ) → OneOf (1 ∷ 2 ∷ 3 ∷ 4 ∷ 5 ∷ []) (tag_of LineT.the_type l)
-    → opened_by len next l ≡ shut len 17 1
-no_board (Nodes P) len next h = absurd (miss (1 ∷ 2 ∷ 3 ∷ 4 ∷ 5 ∷ []) 0 tt h)
+pub no_board : (l : Line) (len next : ℕ) → ((P : ℕ) → l ≡ Nodes P → ⊥) → opened_by len next l ≡ shut len 17 1
+no_board (Nodes P) len next h = absurd (h P refl)
 no_board (Sends kind a b) len next h = refl
 no_board (Delivers a b) len next h = refl
 no_board (Idles a) len next h = refl

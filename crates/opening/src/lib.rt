@@ -1,4 +1,6 @@
 // How a rehearsal opens, by the first line of a script. Any script may be handed.
+#![tactic(auto)]
+
 ghost use Rattle.std.specs.Prelude.{◌≡◌, ltb, eqb};
 ghost use Rattle.base.specs.Choice.{either};
 ghost use Rattle.opening.specs.Opens.{shut, opened};
@@ -8,7 +10,7 @@ use line_forms::Line;
 
 // How a script opens: the board, where the second line begins, and what stops the play (0 where nothing does) at which
 // line.
-#[derive(Drop)]
+#[derive(Clone, Copy)]
 pub struct Opened {
     pub stage: Stage,
     pub at: usize,

@@ -1,4 +1,6 @@
 // What opens a rehearsal: the fresh board, and what is printed before the first event. Any numbers may be handed.
+#![tactic(auto)]
+
 ghost use Rattle.std.specs.Prelude.{◌≡◌};
 ghost use Rattle.board_states.specs.States.{opening};
 ghost use Rattle.printing.specs.Put.{put, ends};

@@ -13,7 +13,7 @@ use Rattle.base.specs.Limits.{Limits, field_limit}
 use Rattle.node.specs.Sums.{Field, all_sent, all_taken}
 use Rattle.node.specs.Agree.{first_clauses, all_hold}
 use Rattle.node.specs.declared.Stored.{Stored}
-use Rattle.node.proofs.Clauses.{FirstAgrees, first-known, first_good}
+use Rattle.node.proofs.Clauses.{FirstAgrees, first_known, first_good}
 use Rattle.layout.specs.Places.{sum_issued, sum_received}
 use Rattle.layout.specs.Held.{word, sum_of}
 use Rattle.adding.specs.Adding.{Within, Added}
@@ -33,7 +33,7 @@ module _ (L : Limits) (p k : ℕ) (x : Stored) (before : List ℕ) where
       → Agreed L p k x before after false
   apart none after l =
       record {
-        ok = fails (all_hold (first_clauses L p k own x)) (λ e. none (first-known L p k own x e));
+        ok = fails (all_hold (first_clauses L p k own x)) (λ e. none (first_known L p k own x e));
         sums = λ q. clash (sym q);
         length = l;
       }

@@ -1,5 +1,7 @@
 // A step of pass 1 before the position, over the words that a caller lends: those of its frame, and the own sums. The numbers
 // of the frame are added to the sums as they are tested, so that each is read once.
+#![tactic(auto)]
+
 ghost use Rattle.std.specs.Prelude.{◌≡◌, true, eqb};
 ghost use Rattle.base.specs.Choice.{choose};
 ghost use Rattle.base.specs.Limits.{limits_of};

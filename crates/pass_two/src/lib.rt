@@ -1,4 +1,6 @@
 // The clauses of a step of pass 2, by the words of its frame.
+#![tactic(auto)]
+
 ghost use Rattle.std.specs.Prelude.{◌≡◌};
 ghost use Rattle.base.specs.Limits.{limits_of};
 ghost use Rattle.node.specs.Agree.{first_failing};
@@ -8,7 +10,7 @@ use base::Bounds;
 use frame::Sent;
 
 // The words of a stored pass 2 frame.
-#[derive(Drop)]
+#[derive(Clone, Copy)]
 pub struct Confirmed {
     pub mark: u32,
     // T of the other side

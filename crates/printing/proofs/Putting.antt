@@ -53,8 +53,8 @@ put_cons (y ∷ out) (suc at) x text =
     ∙ ap (λ l. y ∷ l) (put_cons out at x text)
     ∙ sym (rw e (put_below y (set out at x) (at + 1) text))
 
-pub put_one : (out : List ℕ) (at x : ℕ) → set out at x ≡ put out at (x ∷ [])
-put_one out at x = sym (put_cons out at x [] ∙ put_none (set out at x) (at + 1))
+pub put_one_lem : (out : List ℕ) (at x : ℕ) → set out at x ≡ put out at (x ∷ [])
+put_one_lem out at x = sym (put_cons out at x [] ∙ put_none (set out at x) (at + 1))
 
 pub length_put : (out : List ℕ) (at : ℕ) (text : List ℕ) → length (put out at text) ≡ length out
 length_put out at [] = ap length (put_none out at)
@@ -113,7 +113,7 @@ pub put_next : (l : List ℕ) (i : ℕ) (f : ℕ → ℕ) → set (put l 0 (list
 put_next l i f =
     let z : 0 + length (list 0 i f) ≡ i = omega (arith, length_list 0 i f) in
     let s : 0 + i ≡ i = omega arith in
-    put_one _ i (f i)
+    put_one_lem _ i (f i)
     ∙ rw z at (put_more l 0 (list 0 i f) (f i ∷ []))
     ∙ ap (put l 0) (sym (rw s at (list_more 0 i f)))
 

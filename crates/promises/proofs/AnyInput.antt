@@ -10,7 +10,7 @@ use Rattle.base.specs.Choice.{choose, both, either}
 use Rattle.base.specs.Limits.{base}
 use Rattle.base.specs.Refusal.{Refusal, Check, number, Answered, refused as noAnswer, found, when, in_order}
 use Rattle.base.specs.declared.Kind.{Kind}
-use Rattle.base.proofs.Laws.{cases, both_true, Stops, order-cases}
+use Rattle.base.proofs.Laws.{cases, both_true, Stops, order_cases}
 use Rattle.base.proofs.Limits.{fits_base}
 use Rattle.tree.specs.Tree.{Place, dimension, place, distance}
 use Rattle.tree.specs.Lookups.{bad_board, dimension_lookup, place_lookup, distance_lookup}
@@ -20,9 +20,9 @@ use Rattle.node.specs.Answers.{Given, Outcome, done, dropped, refused, outcome_n
 use Rattle.node.specs.Calls.{fresh, send, take, idle, frame_in}
 use Rattle.node.specs.Barrier.{barrier, lent_after, barrier_bytes}
 use Rattle.node.specs.declared.Node.{Node}
-use Rattle.node.proofs.Ways.{FreshWay, fresh-way, SendWay, send-way, TakeWay, take-way, IdleWay, idle-way}
-use Rattle.node.proofs.Ways.{FrameWay, frame-way, CallWay, call-way}
-use Rattle.node.proofs.Passes.{barrier-back}
+use Rattle.node.proofs.Ways.{FreshWay, fresh_way, SendWay, send_way, TakeWay, take_way, IdleWay, idle_way}
+use Rattle.node.proofs.Ways.{FrameWay, frame_way, CallWay, call_way}
+use Rattle.node.proofs.Passes.{barrier_back}
 use Rattle.layout.specs.Places.{state_words}
 use Rattle.layout.specs.Held.{is_whole, unpacked, holding}
 use Rattle.layout.proofs.Repack.{repacked}
@@ -69,7 +69,7 @@ abbrev Back : Node → Given Outcome → Type 0
 Back n g = outcome_number g.answer ≢ 0 → g.node ≡ n
 
 pub sends : (to : ℕ) → Answers (13 ∷ 2 ∷ 3 ∷ 4 ∷ 5 ∷ 0 ∷ []) (λ n. send base n to)
-sends to = answers _ (λ n. send base n to) refl (λ n. ours (send-way base n to)) (λ n. back (send-way base n to))
+sends to = answers _ (λ n. send base n to) refl (λ n. ours (send_way base n to)) (λ n. back (send_way base n to))
   where
     ours : {n : Node} {g : Given Outcome} → SendWay base n to g → Ours (13 ∷ 2 ∷ 3 ∷ 4 ∷ 5 ∷ 0 ∷ []) g
     ours (SendWay.refused x s) = stops_among (13 ∷ 2 ∷ 3 ∷ 4 ∷ 5 ∷ 0 ∷ []) refl s
@@ -82,8 +82,8 @@ sends to = answers _ (λ n. send base n to) refl (λ n. ours (send-way base n to
 pub takes : (kind : Kind) (from phase : ℕ)
     → Answers (13 ∷ 2 ∷ 3 ∷ 7 ∷ 8 ∷ 6 ∷ 0 ∷ []) (λ n. take base n kind from phase)
 takes kind from phase =
-    answers _ (λ n. take base n kind from phase) refl (λ n. ours (take-way base n kind from phase))
-    (λ n. back (take-way base n kind from phase))
+    answers _ (λ n. take base n kind from phase) refl (λ n. ours (take_way base n kind from phase))
+    (λ n. back (take_way base n kind from phase))
   where
     ours : {n : Node} {g : Given Outcome} → TakeWay base n kind from phase g → Ours (13 ∷ 2 ∷ 3 ∷ 7 ∷ 8 ∷ 6 ∷ 0 ∷ []) g
     ours (TakeWay.refused x s) = stops_among (13 ∷ 2 ∷ 3 ∷ 7 ∷ 8 ∷ 6 ∷ 0 ∷ []) refl s
@@ -94,7 +94,7 @@ takes kind from phase =
     back (TakeWay.done v h o d r) z = absurd (z refl)
 
 pub idles : Answers (13 ∷ 0 ∷ []) (idle base)
-idles = answers _ (idle base) refl (λ n. ours (idle-way base n)) (λ n. back (idle-way base n))
+idles = answers _ (idle base) refl (λ n. ours (idle_way base n)) (λ n. back (idle_way base n))
   where
     ours : {n : Node} {g : Given Outcome} → IdleWay base n g → Ours (13 ∷ 0 ∷ []) g
     ours (IdleWay.refused x s) = stops_among (13 ∷ 0 ∷ []) refl s
@@ -106,7 +106,7 @@ idles = answers _ (idle base) refl (λ n. ours (idle-way base n)) (λ n. back (i
 
 pub frames : (bs : List ℕ)
     → Answers (13 ∷ 9 ∷ 10 ∷ 2 ∷ 3 ∷ 11 ∷ 7 ∷ 8 ∷ 24 ∷ 0 ∷ []) (λ n. frame_in base n bs)
-frames bs = answers _ (λ n. frame_in base n bs) refl (λ n. ours (frame-way base n bs)) (λ n. back (frame-way base n bs))
+frames bs = answers _ (λ n. frame_in base n bs) refl (λ n. ours (frame_way base n bs)) (λ n. back (frame_way base n bs))
   where
     ours : {n : Node} {g : Given Outcome} → FrameWay base n bs g
         → Ours (13 ∷ 9 ∷ 10 ∷ 2 ∷ 3 ∷ 11 ∷ 7 ∷ 8 ∷ 24 ∷ 0 ∷ []) g
@@ -127,7 +127,7 @@ frames bs = answers _ (λ n. frame_in base n bs) refl (λ n. ours (frame-way bas
 
 pub fresh_ours : (P a : ℕ) (ws : List ℕ) → OneOf (1 ∷ 2 ∷ 13 ∷ 0 ∷ []) (outcome_number (fresh_on base P a ws))
 unfolding fresh_on
-fresh_ours P a ws = go (leb (state_words (dimension P)) (length ws)) (fresh-way base P a)
+fresh_ours P a ws = go (leb (state_words (dimension P)) (length ws)) (fresh_way base P a)
   where
     go : (room : Bool) {g : Given Outcome} → FreshWay base P a g
         → OneOf (1 ∷ 2 ∷ 13 ∷ 0 ∷ []) (outcome_number (with_room room g.answer))
@@ -149,7 +149,7 @@ fresh_stays_lem P a ws = go (fresh_on base P a ws)
 pub steps : (ws : List ℕ) (room : ℕ)
     → OneOf (13 ∷ 12 ∷ 14 ∷ 20 ∷ 21 ∷ 22 ∷ 23 ∷ []) (barrier_number (barrier_on base ws room))
 steps ws room =
-    cases (λ o. OneOf (13 ∷ 12 ∷ 14 ∷ 20 ∷ 21 ∷ 22 ∷ 23 ∷ []) (barrier_number o)) (is_whole base ws) _ _ (λ e. go (call-way base (unpacked ws) room)) (λ e. refl)
+    cases (λ o. OneOf (13 ∷ 12 ∷ 14 ∷ 20 ∷ 21 ∷ 22 ∷ 23 ∷ []) (barrier_number o)) (is_whole base ws) _ _ (λ e. go (call_way base (unpacked ws) room)) (λ e. refl)
   where
     go : {g : Given Barrier} → CallWay base (unpacked ws) room g
         → OneOf (13 ∷ 12 ∷ 14 ∷ 20 ∷ 21 ∷ 22 ∷ 23 ∷ []) (barrier_number g.answer)
@@ -176,7 +176,7 @@ step_stays_lem ws buf ds x e =
         → (choose t (holding ws (barrier base (unpacked ws) (length buf)).node) ws ≡ ws)
         × (choose t (barrier_bytes base (unpacked ws) buf) buf ≡ buf)
     go true w q = (
-      ap (holding ws) (barrier-back base (unpacked ws) (length buf) x q) ∙ repacked base fits_base ws w,
+      ap (holding ws) (barrier_back base (unpacked ws) (length buf) x q) ∙ repacked base fits_base ws w,
       bytes_back (unpacked ws) buf x q,
     )
     go false w q = (refl, refl)
@@ -186,7 +186,7 @@ step_stays_lem ws buf ds x e =
 -- what is found gives 0, and what is refused the number of a check
 pub looked_up_lem : {A : Type 0} (ns : List ℕ) (cs : List Check) (r : Answered A) → covers ns cs ≡ true
     → OneOf ns (lookup_number r) → OneOf ns (lookup_number (in_order noAnswer cs r))
-looked_up_lem ns cs r e z = order-cases noAnswer (λ q. OneOf ns (lookup_number q)) cs r (λ x s. stops_among ns e s) (λ p. z)
+looked_up_lem ns cs r e z = order_cases noAnswer (λ q. OneOf ns (lookup_number q)) cs r (λ x s. stops_among ns e s) (λ p. z)
 
 pub dimensions : (P : ℕ) → OneOf (1 ∷ 0 ∷ []) (lookup_number (dimension_lookup base P))
 unfolding dimension_lookup

@@ -1,10 +1,9 @@
 -- All that is promised, from the crates below.
-use mathlib.Core.Path.{◌≡◌}
 use Prim.Native.Nat.{ℕ, ◌≤◌}
 use native.Mathlib.Omega.{arith}
 use Rattle.base.specs.Limits.{base}
 use Rattle.node.proofs.Taken.{note_as_job, job_wakes}
-use Rattle.node.proofs.Waiting.{wait-fails, wait-lower, wait-unstored, wait-stored}
+use Rattle.node.proofs.Waiting.{wait_fails, wait_lower, wait_unstored, wait_stored}
 use Rattle.events.specs.Fit.{Fit}
 use Rattle.runs.proofs.Whole.{demand3}
 use Rattle.runs.proofs.Facts.{every_run}
@@ -38,10 +37,10 @@ promises =
       kinds = record { notes = note_as_job base; jobs = job_wakes base };
       waits =
           record {
-            fails = wait-fails base;
-            lower = wait-lower base;
-            unstored = wait-unstored base;
-            stored = wait-stored base;
+            fails = wait_fails base;
+            lower = wait_lower base;
+            unstored = wait_unstored base;
+            stored = wait_stored base;
           };
       tree = λ P one few. tree P;
       frames = λ P one few. frames P;

@@ -1,8 +1,10 @@
 // Reads a script from standard input, plays it, and writes its recording; where the play stops, the line that says so.
+#![tactic(auto)]
+
 ghost use Rattle.std.specs.Prelude.{◌≡◌, ◌≤◌, length};
 ghost use Rattle.text.specs.Text.{text_room};
 
-use libc::{STDIN_FILENO, STDOUT_FILENO};
+use std::io;
 use tree::Found;
 
 // Plays a script, and answers how much of `out` is printed. Every text fits the bytes that it asks for (rule S1).
@@ -23,19 +25,18 @@ fn recorded(script: &[u8], text: &[u8], buf: &mut [u8]) -> usize
     size as usize
 }
 
-fn main() {
+fn main(rt: HostRuntime) -> io::Result<()> {
     // one byte more than a script may have
     let mut script: [u8; 4097] = [0; 4097];
-    let read = io::read_full(STDIN_FILENO, &mut script);
+    let read = input_read::read_full(&mut rt.stdin(), &mut script)?;
     let mut bytes: [u8; 34816] = [0; 34816];
-    let mut out = io::large_buffer();
+    let mut out: [u8; 65536] = [0; 65536];
     let printed = play(&mut bytes, &mut out, &script[..read]);
     let stop = script_events::stop_at(&out[..printed]);
     if stop < printed {
-        io::write_all(STDOUT_FILENO, &out[stop..printed]);
-        return;
+        return rt.write_all(&out[stop..printed]);
     }
     let mut buf: [u8; 60000] = [0; 60000];
     let size = recorded(&script[..read], &out[..printed], &mut buf);
-    io::write_all(STDOUT_FILENO, &buf[..size]);
+    rt.write_all(&buf[..size])
 }

@@ -35,11 +35,11 @@ module _ (out text now : List ℕ) (n : ℕ) (e : now ≡ put out 0 text) (h : n
 
 -- the same by where the text ends, and how far that is
 module _ (out text now : List ℕ) (end : ℕ) (e : now ≡ put out 0 text) (m : end ≡ ends out 0 text) where
-  pub put-fits : end ≤ length now
-  put-fits = front_fits out text now end e (omega (arith, m))
+  pub put_fits : end ≤ length now
+  put_fits = front_fits out text now end e (omega (arith, m))
 
-  pub put-length : end ≡ length (take end now)
-  put-length = front_length out text now end e (omega (arith, m))
+  pub put_length_lem : end ≡ length (take end now)
+  put_length_lem = front_length out text now end e (omega (arith, m))
 
 pub length_counts : (events : ℕ) → length (counts_for events) ≡ sections_for events
 unfolding counts_for

@@ -1,4 +1,6 @@
 // The recording of a script that was played, from the text that was printed for it. Any script and text may be handed.
+#![tactic(auto)]
+
 ghost use Rattle.std.specs.Prelude.{◌≡◌, ◌*◌, ◌≤◌, length};
 ghost use Rattle.tree.specs.Lookups.{found_answer};
 ghost use Rattle.printing.specs.Put.{put};

@@ -30,26 +30,26 @@ module _ (r : Recording) (e : is_bad r ≡ false) where
   abbrev n : ℕ
   n = length r.counts
 
-  table-back : (placed (bytes_of r) (bodies n) 0 n ≡ true) × (list 0 n (count_at (bytes_of r)) ≡ r.counts)
+  table_back : (placed (bytes_of r) (bodies n) 0 n ≡ true) × (list 0 n (count_at (bytes_of r)) ≡ r.counts)
   unfolding bytes_of
-  table-back =
+  table_back =
       let s = sized r e in table_read (bytes_of r) 0 (bodies n) r.counts r.events refl (omega arith)
 
-  events-back : drop (bodies n) (bytes_of r) ≡ r.events
+  events_back : drop (bodies n) (bytes_of r) ≡ r.events
   unfolding bytes_of
-  events-back =
+  events_back =
       drop_at (r.nodes ∷ n ∷ table (bodies n) r.counts) r.events (bodies n)
       (omega (arith, length_table (bodies n) r.counts))
 
   written_read : recording_in (bytes_of r) ≡ r
   unfolding bytes_of recording_in
-  written_read = λ i. made r.nodes (table-back.1 i) (events-back i)
+  written_read = λ i. made r.nodes (table_back.1 i) (events_back i)
 
-  written-good : is_bad_in (bytes_of r) ≡ false
+  written_good_lem : is_bad_in (bytes_of r) ≡ false
   unfolding is_bad_in bytes_of
-  written-good =
+  written_good_lem =
       let room = le-ltb (length (bytes_of r)) (bodies n) (omega (arith, length_bytes_of r)) in
-      rw (room, table-back.0, written_read) e
+      rw (room, table_back.0, written_read) e
 
 -- ---- Read, then written
 
@@ -80,7 +80,7 @@ read_written_lem bs b e =
 pub survives : Survives
 survives =
     record {
-      written_good = written-good;
+      written_good = written_good_lem;
       written_read = written_read;
       read_good = λ bs e. (known bs e).2;
       read_written = read_written_lem;

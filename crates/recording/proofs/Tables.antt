@@ -30,14 +30,14 @@ module _ (bs : List ℕ) (k start n : ℕ) (rest : List ℕ) (e : drop k bs ≡ 
   byte : (j : ℕ) → get_or bs (k + j) 0 ≡ get_or (two_bytes start ++ (two_bytes n ++ rest)) j 0
   byte j = sym (get_or-drop k bs j 0) ∙ ap (λ l. get_or l j 0) e
 
-  start-read : start < 65536 → number_at bs k ≡ start
-  start-read h =
+  start_read : start < 65536 → number_at bs k ≡ start
+  start_read h =
       let z : k + 0 ≡ k = omega arith in
       let p : get_or bs k 0 ≡ start % 256 = rw z at (byte 0) in
       rw (p, byte 1) (two_read start h)
 
-  count-read : n < 65536 → (m : ℕ) → m ≡ k + 2 → number_at bs m ≡ n
-  count-read h m q =
+  count_read : n < 65536 → (m : ℕ) → m ≡ k + 2 → number_at bs m ≡ n
+  count_read h m q =
       let z : k + 2 + 1 ≡ k + 3 = omega arith in
       rw (q, byte 2, z, byte 3) (two_read n h)
 
@@ -52,8 +52,8 @@ table_read bs i start [] rest e h = (refl, refl)
 table_read bs i start (n ∷ counts) rest e h =
     let k = 2 + 4 * i in
     let more = table (start + 4 * n) counts ++ rest in
-    let s : start_at bs i ≡ start = start-read bs k start n more e (omega arith) in
-    let c : count_at bs i ≡ n = count-read bs k start n more e (omega arith) (4 + 4 * i) (omega arith) in
+    let s : start_at bs i ≡ start = start_read bs k start n more e (omega arith) in
+    let c : count_at bs i ≡ n = count_read bs k start n more e (omega arith) (4 + 4 * i) (omega arith) in
     let d = behind bs k start n more e (2 + 4 * (i + 1)) (omega arith) in
     let r = table_read bs (i + 1) (start + 4 * n) counts rest d (omega arith) in
     (both_make (eq-eqb _ _ s) (rw c r.0), rw (c, ← add-one i, r.1))

@@ -25,15 +25,15 @@ above most x l = rw (ne_eqb x 0 (λ e. omega arith), lt-ltb most x l)
 -- ---- Where bodies begin
 
 module _ (bs : List ℕ) where
-  pub placed-start : (at n : ℕ) → placed bs at 0 n ≡ placed bs at 0 (n - 0)
-  placed-start at n = rw sub-zero
+  pub placed_start : (at n : ℕ) → placed bs at 0 n ≡ placed bs at 0 (n - 0)
+  placed_start at n = rw sub-zero
 
   -- the first of the sections that are left, and the rest
-  pub placed-here : (at i n : ℕ) → i < n
+  pub placed_here : (at i n : ℕ) → i < n
       → placed bs at i (n - i)
       ≡ both (eqb (start_at bs i) at) (placed bs (at + 4 * count_at bs i) (i + 1) (n - (i + 1)))
   unfolding placed
-  placed-here at i n h = let e : n - i ≡ suc (n - (i + 1)) = omega arith in rw e
+  placed_here at i n h = let e : n - i ≡ suc (n - (i + 1)) = omega arith in rw e
 
   pub placed_end : (at i n : ℕ) → n ≤ i → placed bs at i (n - i) ≡ true
   unfolding placed
@@ -42,38 +42,38 @@ module _ (bs : List ℕ) where
 -- ---- What is refused
 
 module _ (bs : List ℕ) where
-  abbrev heldBad : Bool
-  heldBad =
+  abbrev held_bad : Bool
+  held_bad =
       is_bad_by (get_or bs 0 0) (sections_in bs) (sum (list 0 (sections_in bs) (count_at bs)))
       (drop (bodies (sections_in bs)) bs)
 
-  held : is_bad (recording_in bs) ≡ heldBad
+  held : is_bad (recording_in bs) ≡ held_bad
   unfolding recording_in
   held = rw length_list
 
-  pub bad-short : length bs < bodies (sections_in bs) → is_bad_in bs ≡ true
+  pub bad_short : length bs < bodies (sections_in bs) → is_bad_in bs ≡ true
   unfolding is_bad_in
-  bad-short h = rw (lt-ltb (length bs) (bodies (sections_in bs)) h)
+  bad_short h = rw (lt-ltb (length bs) (bodies (sections_in bs)) h)
 
-  pub bad-many : 32 < sections_in bs → is_bad_in bs ≡ true
+  pub bad_many : 32 < sections_in bs → is_bad_in bs ≡ true
   unfolding is_bad_in is_bad_by
-  bad-many h =
+  bad_many h =
       either_right (ltb (length bs) (bodies (sections_in bs)))
       (either_right (not (placed bs (bodies (sections_in bs)) 0 (sections_in bs)))
       (held ∙ either_right (outside 16 (get_or bs 0 0)) (rw (above 32 (sections_in bs) h))))
 
   -- by the number of sections as it was read
   module _ (n : ℕ) (read : n ≡ sections_in bs) where
-    pub bad-placed : placed bs (bodies n) 0 n ≡ false → is_bad_in bs ≡ true
+    pub bad_placed : placed bs (bodies n) 0 n ≡ false → is_bad_in bs ≡ true
     unfolding is_bad_in
-    bad-placed e = either_right (ltb (length bs) (bodies (sections_in bs))) (rw (← read, e))
+    bad_placed e = either_right (ltb (length bs) (bodies (sections_in bs))) (rw (← read, e))
 
     -- what is left, once the table is there and the bodies stand behind it
-    pub bad-held : bodies n ≤ length bs → placed bs (bodies n) 0 n ≡ true → (nodes total : ℕ) (events : List ℕ)
+    pub bad_held : bodies n ≤ length bs → placed bs (bodies n) 0 n ≡ true → (nodes total : ℕ) (events : List ℕ)
         → nodes ≡ get_or bs 0 0 → total ≡ sum (list 0 n (count_at bs)) → events ≡ drop (bodies n) bs
         → is_bad_by nodes n total events ≡ is_bad_in bs
     unfolding is_bad_in
-    bad-held h e nodes total events p q r =
+    bad_held h e nodes total events p q r =
         rw (held, ← read, p, q, r, le-ltb (length bs) (bodies n) h, e)
 
 -- ---- What is not refused

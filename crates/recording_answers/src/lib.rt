@@ -1,5 +1,7 @@
 // The answers of the reader of recordings and of a replay as numbers, as a caller in C is told them, and what is told
 // besides put into lent words.
+#![tactic(auto)]
+
 ghost use Rattle.std.specs.Prelude.{◌≡◌};
 ghost use Rattle.lookup_answers.specs.Words.{lookup_number};
 ghost use Rattle.recording_read.specs.Read.{held_answer};

@@ -1,4 +1,6 @@
 // The test behind refusal 18: whether a recording is refused. Any numbers and bytes may be handed.
+#![tactic(auto)]
+
 ghost use Rattle.std.specs.Prelude.{◌≡◌};
 ghost use Rattle.recording.specs.Test.{is_bad_by};
 

@@ -1,4 +1,6 @@
 // What a maker links to write, read and replay recordings: bytes and words that the caller lends, answers as numbers.
+#![tactic(auto)]
+
 ghost use Rattle.std.specs.Prelude.{◌≡◌, length};
 ghost use Rattle.lookup_answers.specs.Words.{lookup_number, number_words};
 ghost use Rattle.recording.specs.Recording.{made, recording_in};

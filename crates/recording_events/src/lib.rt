@@ -1,4 +1,6 @@
 // Whether lent bytes are events of a recording, on a board of so many nodes. Any numbers and bytes may be handed.
+#![tactic(auto)]
+
 ghost use Rattle.std.specs.Prelude.{◌≡◌};
 ghost use Rattle.recording.specs.Test.{good_event, good_events};
 

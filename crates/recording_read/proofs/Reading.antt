@@ -30,8 +30,8 @@ module _ (bs counts events : List ℕ) where
   refuses : (x : ℕ) → refused x ≡ answer → Read (Refused x) counts events
   refuses x e = (e, (rw (← e), rw (← e)))
 
-  pub is-bad : is_bad_in bs ≡ true → Read (Refused 18) counts events
-  is-bad e = refuses 18 (rw e)
+  pub is_bad_lem : is_bad_in bs ≡ true → Read (Refused 18) counts events
+  is_bad_lem e = refuses 18 (rw e)
 
   -- by the number of sections and the events as they were read
   module _ (good : is_bad_in bs ≡ false) (n : ℕ) (text : List ℕ) (p : n ≡ sections_in bs)

@@ -1,4 +1,6 @@
 // Recordings in lent bytes, read into lent words and bytes. Any bytes may be handed.
+#![tactic(auto)]
+
 ghost use Rattle.std.specs.Prelude.{◌≡◌, ◌+◌, ◌≤◌, ◌<◌, length, drop};
 ghost use Rattle.base.specs.Choice.{list};
 ghost use Rattle.printing.specs.Put.{put};
@@ -6,7 +8,7 @@ ghost use Rattle.recording.specs.Recording.{number_at, bodies, sections_in, coun
 ghost use Rattle.recording_read.specs.Read.{read_answer, held_answer, filled};
 
 // What a recording has: nodes, sections, events.
-#[derive(Drop)]
+#[derive(Clone, Copy)]
 pub struct Head {
     pub nodes: u32,
     pub sections: u32,
@@ -14,7 +16,7 @@ pub struct Head {
 }
 
 // A recording is read, or refused with a number.
-#[derive(Drop)]
+#[derive(Clone, Copy)]
 pub enum Held {
     Is(Head),
     Refused(u8),

@@ -1,4 +1,6 @@
 // Whether lent bytes are a recording. Any bytes may be handed.
+#![tactic(auto)]
+
 ghost use Rattle.std.specs.Prelude.{◌≡◌, not, ◌+◌, ◌≤◌, ◌<◌, length, drop};
 ghost use Rattle.base.specs.Choice.{list};
 ghost use Rattle.recording.specs.Recording.{number_at, bodies, sections_in, count_at};

@@ -22,8 +22,8 @@ module _ (out : List ℕ) (at : ℕ) (counts : List ℕ) where
     pub body : start ≡ first + 4 * sum (take i counts)
     pub text : Written out at (table first (take i counts)) now next
 
-  pub none-put : at ≤ length out → Put out at first 0
-  none-put h =
+  pub none_put : at ≤ length out → Put out at first 0
+  none_put h =
       record {
         known = omega arith;
         same = refl;
@@ -33,8 +33,8 @@ module _ (out : List ℕ) (at : ℕ) (counts : List ℕ) where
       }
 
   module _ (now : List ℕ) (next start i : ℕ) (p : Put now next start i) where
-    pub next-body : i < length counts → sum counts ≤ 15000 → start + 4 * get_or counts i 0 ≤ first + 60000
-    next-body h s = omega (arith, sum_more counts i h, sum_part counts (i + 1), p.body)
+    pub next_body : i < length counts → sum counts ≤ 15000 → start + 4 * get_or counts i 0 ≤ first + 60000
+    next_body h s = omega (arith, sum_more counts i h, sum_part counts (i + 1), p.body)
 
     pub one_more : (s t : List ℕ) (n m : ℕ) → i < length counts → Written now next (two_bytes start) s n
         → Written s n (two_bytes (get_or counts i 0)) t m → Put t m (start + 4 * get_or counts i 0) (i + 1)
@@ -53,7 +53,7 @@ module _ (out : List ℕ) (at : ℕ) (counts : List ℕ) where
               (then out now t (table first (take i counts)) (x ++ y) at next m p.text section);
         }
 
-    pub all-put : length counts ≤ i → Written out at (table first counts) now next
-    all-put h =
+    pub all_put : length counts ≤ i → Written out at (table first counts) now next
+    all_put h =
         said out now (table first (take i counts)) (table first counts) at next
         (ap (table first) (take_all i counts h)) p.text

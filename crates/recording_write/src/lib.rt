@@ -1,4 +1,6 @@
 // Recordings written into lent bytes. Any numbers, events and buffer may be handed.
+#![tactic(auto)]
+
 ghost use Rattle.std.specs.Prelude.{◌≡◌, ◌≤◌, length};
 ghost use Rattle.tree.specs.Lookups.{found_answer};
 ghost use Rattle.printing.specs.Put.{put, ends};

@@ -5,7 +5,7 @@ use mathlib.Core.List.{List}
 use Prim.Native.Nat.{ℕ}
 use native.Mathlib.Omega.{arith}
 use Rattle.base.specs.Refusal.{Refusal, Check, number}
-use Rattle.base.proofs.Laws.{Passes, Stops, here, later, order-passes, order-stops, order-cases}
+use Rattle.base.proofs.Laws.{Passes, Stops, here, later, order_passes, order_stops, order_cases}
 use Rattle.refusals.specs.Tests.{first_met}
 
 -- no refusal has the number 0
@@ -37,14 +37,14 @@ stops_some (later e s) = stops_some s
 pub met_some : (cs : List Check) {x : ℕ} → x ≡ first_met cs → x ≢ 0 → Stops cs x
 met_some cs {x} e f =
     rw e
-    (order-cases (λ y. y) (λ y. y ≢ 0 → Stops cs y) cs 0 (λ y s n. s) (λ p n. absurd (n refl)) (λ z. f (e ∙ z)))
+    (order_cases (λ y. y) (λ y. y ≢ 0 → Stops cs y) cs 0 (λ y s n. s) (λ p n. absurd (n refl)) (λ z. f (e ∙ z)))
 
 pub met_none : (cs : List Check) {x : ℕ} → x ≡ first_met cs → x ≡ 0 → Passes cs
 met_none cs e z =
-    order-cases (λ y. y) (λ y. y ≡ 0 → Passes cs) cs 0 (λ y s n. absurd (stops_some s n)) (λ p n. p) (sym e ∙ z)
+    order_cases (λ y. y) (λ y. y ≡ 0 → Passes cs) cs 0 (λ y s n. absurd (stops_some s n)) (λ p n. p) (sym e ∙ z)
 
 pub stops_first : (cs : List Check) {x : ℕ} → Stops cs x → x ≡ first_met cs
-stops_first cs s = sym (order-stops (λ y. y) 0 s)
+stops_first cs s = sym (order_stops (λ y. y) 0 s)
 
 pub passes_first : (cs : List Check) → Passes cs → 0 ≡ first_met cs
-passes_first cs h = sym (order-passes (λ y. y) cs 0 h)
+passes_first cs h = sym (order_passes (λ y. y) cs 0 h)

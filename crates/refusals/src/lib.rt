@@ -1,4 +1,6 @@
 // Whether a message may be sent or taken, by the numbers of a state: the number of the refusal, 0 for none.
+#![tactic(auto)]
+
 ghost use Rattle.std.specs.Prelude.{◌≡◌};
 ghost use Rattle.base.specs.Limits.{limits_of};
 ghost use Rattle.refusals.specs.Tests.{first_met, send_tests, take_tests};

@@ -29,8 +29,8 @@ use Rattle.opening_parts.proofs.Texts.{opening_stop}
 use Rattle.opening.specs.Opens.{shut, opened_by, opened}
 use Rattle.lines.specs.Told.{taken, stops, told_at}
 use Rattle.lines.specs.Printed.{line_text}
-use Rattle.line_step.specs.Steps.{stepped, steppedBytes, stepped_items}
-use Rattle.line_turns.proofs.Turned.{Near, near, turn_after, still, step-turns, step_keeps}
+use Rattle.line_step.specs.Steps.{stepped, stepped_bytes, stepped_items}
+use Rattle.line_turns.proofs.Turned.{Near, near, turn_after, still, step_turns, step_keeps}
 use Rattle.opening.specs.declared.Opened.{Opened}
 use Rattle.opening.proofs.Sizes.{size_good, size_some}
 
@@ -69,7 +69,7 @@ module _ (st : Stage) (items : List Item) (bytes : List ℕ) (within : st.under 
         → read E S (choose t (event (turn_of st items bytes l)) stop)
         ≡ choose (stops (choose t l Bad)) S (E (turn_after st items bytes (choose t l Bad)))
     by_test true l e h =
-        sym (ap E (step-turns st items bytes within some small l (h refl)))
+        sym (ap E (step_turns st items bytes within some small l (h refl)))
         ∙ sym (choose_no S (E (turn_after st items bytes l)) e)
     by_test false l e h = refl
 
@@ -85,15 +85,15 @@ module _ (st : Stage) (items : List Item) (bytes : List ℕ) (within : st.under 
     acts Bad = refl
 
   -- so a line is played as the player plays it
-  pub play-line : 0 < st.size → (script : List ℕ) (j at count : ℕ) → at < length script
+  pub play_line : 0 < st.size → (script : List ℕ) (j at count : ℕ) → at < length script
       → let told = told_at script at st.size in
       let r = stepped st items bytes told.line in
       play_from script (suc j) at count st items bytes
       ≡ printed_before (line_text told.line r count)
       (play_from script j told.next (count + 1) r.stage (stepped_items st.under r items)
-      (steppedBytes st items bytes told.line))
+      (stepped_bytes st items bytes told.line))
   unfolding play_from told_at
-  play-line h script j at count below =
+  play_line h script j at count below =
       choose_no _ _ (lt-leb (length script) at below) ∙ acts h E S p.line ∙ go (stops l) refl
     where
       p : Parsed
@@ -118,7 +118,7 @@ module _ (st : Stage) (items : List Item) (bytes : List ℕ) (within : st.under 
           ≡ printed_before (choose t (stop_text 17 count) (turn_text r.actor r.answer
           (node_at r.stage r.actor)))
           (play_from script j (choose t (length script) p.next) (count + 1) r.stage
-          (stepped_items st.under r items) (steppedBytes st items bytes l))
+          (stepped_items st.under r items) (stepped_bytes st items bytes l))
       go true e =
           sym
           (ap (printed_before (stop_text 17 count))
@@ -129,7 +129,7 @@ module _ (st : Stage) (items : List Item) (bytes : List ℕ) (within : st.under 
       go false e = refl
 
 -- the next line begins after this one
-told_on : (script : List ℕ) (at size : ℕ) → at < length script → at < (told_at script at size).next
+pub told_on : (script : List ℕ) (at size : ℕ) → at < length script → at < (told_at script at size).next
 unfolding told_at
 told_on script at size h =
     cases (λ (n : ℕ). at < n) (stops (taken size (line_at script at).line)) _ _ (λ e. h) (λ e. next_on script at h)
@@ -151,18 +151,20 @@ module _ (script : List ℕ) (items : List Item) (bytes out : List ℕ) where
     pub live : at < length script → Live at count st
     pub small : st.size ≤ 16
     pub within : st.under ≤ room_for (length zs) bs
-    pub long-items : length zs ≡ length items
-    pub long-bytes : length bs ≡ length bytes
     pub text : List ℕ
     pub written : Written out 0 text us printed
     pub rest : printed_before text (play_from script j at count st zs bs) ≡ goal
 
+  -- so it is, with as many lines to come as need be
+  abbrev pub Kept : ℕ → ℕ → Stage → List Item → List ℕ → List ℕ → ℕ → Type 0
+  Kept at count st zs bs us printed = (j : ℕ) × Inv j at count st zs bs us printed
+
   -- a line is played
-  pub again : (j at count : ℕ) (st : Stage) (zs : List Item) (bs us : List ℕ) (printed : ℕ)
+  again : (j at count : ℕ) (st : Stage) (zs : List Item) (bs us : List ℕ) (printed : ℕ)
       → Inv (suc j) at count st zs bs us printed → at < length script
       → (told : Parsed) → told ≡ told_at script at st.size → (r : Acted) → r ≡ stepped st zs bs told.line
       → (zs' : List Item) → length zs' ≡ length zs → zs' ≡ stepped_items st.under r zs → (bs' : List ℕ)
-      → length bs' ≡ length bs → bs' ≡ steppedBytes st zs bs told.line
+      → length bs' ≡ length bs → bs' ≡ stepped_bytes st zs bs told.line
       → (us' : List ℕ) (printed' : ℕ) → Written us printed (line_text told.line r count) us' printed'
       → Inv j told.next (count + 1) r.stage zs' bs' us' printed'
   again j at count st zs bs us printed inv below told told_is r r-is zs' l-items zs-is bs' l-bytes bs-is us' printed' w
@@ -172,14 +174,12 @@ module _ (script : List ℕ) (items : List Item) (bytes out : List ℕ) where
         live = λ h. (live.0, (omega (arith, next, live.1.0), omega (arith, keeps.0, live.1.1)));
         small = omega (arith, keeps.0, inv.small);
         within = keeps.1;
-        long-items = l-items ∙ inv.long-items;
-        long-bytes = l-bytes ∙ inv.long-bytes;
         text = inv.text ++ line_text told.line r count;
         written = then out us us' inv.text (line_text told.line r count) 0 printed printed' inv.written w;
         rest =
             sym (printed_twice inv.text (line_text told.line r count) _)
             ∙ ap (printed_before inv.text)
-            (played ∙ sym (play-line st zs bs inv.within inv.small live.1.1 script j at count below))
+            (played ∙ sym (play_line st zs bs inv.within inv.small live.1.1 script j at count below))
             ∙ inv.rest;
       }
     where
@@ -193,14 +193,14 @@ module _ (script : List ℕ) (items : List Item) (bytes out : List ℕ) where
       keeps = step_keeps st zs bs inv.within told.line r r-is zs' l-items bs' l-bytes
 
       -- what the calls answered is what the definitions say
-      r-said : r ≡ stepped st zs bs (told_at script at st.size).line
-      r-said = r-is ∙ ap (λ (p : Parsed). stepped st zs bs p.line) told_is
+      r_said : r ≡ stepped st zs bs (told_at script at st.size).line
+      r_said = r-is ∙ ap (λ (p : Parsed). stepped st zs bs p.line) told_is
 
-      zs-said : zs' ≡ stepped_items st.under (stepped st zs bs (told_at script at st.size).line) zs
-      zs-said = zs-is ∙ ap (λ (a : Acted). stepped_items st.under a zs) r-said
+      zs_said : zs' ≡ stepped_items st.under (stepped st zs bs (told_at script at st.size).line) zs
+      zs_said = zs-is ∙ ap (λ (a : Acted). stepped_items st.under a zs) r_said
 
-      bs-said : bs' ≡ steppedBytes st zs bs (told_at script at st.size).line
-      bs-said = bs-is ∙ ap (λ (p : Parsed). steppedBytes st zs bs p.line) told_is
+      bs_said : bs' ≡ stepped_bytes st zs bs (told_at script at st.size).line
+      bs_said = bs-is ∙ ap (λ (p : Parsed). stepped_bytes st zs bs p.line) told_is
 
       played : printed_before (line_text told.line r count) (play_from script j told.next (count + 1) r.stage zs'
           bs')
@@ -209,13 +209,31 @@ module _ (script : List ℕ) (items : List Item) (bytes out : List ℕ) where
           (play_from script j (told_at script at st.size).next (count + 1)
           (stepped st zs bs (told_at script at st.size).line).stage
           (stepped_items st.under (stepped st zs bs (told_at script at st.size).line) zs)
-          (steppedBytes st zs bs (told_at script at st.size).line))
+          (stepped_bytes st zs bs (told_at script at st.size).line))
       played = λ i.
-          printed_before (line_text (told_is i).line (r-said i) count)
-          (play_from script j (told_is i).next (count + 1) (r-said i).stage (zs-said i) (bs-said i))
+          printed_before (line_text (told_is i).line (r_said i) count)
+          (play_from script j (told_is i).next (count + 1) (r_said i).stage (zs_said i) (bs_said i))
+
+  pub goes_on : (at count : ℕ) (st : Stage) (zs : List Item) (bs us : List ℕ) (printed : ℕ)
+      → Kept at count st zs bs us printed → at < length script
+      → (told : Parsed) → told ≡ told_at script at st.size → (r : Acted) → r ≡ stepped st zs bs told.line
+      → (zs' : List Item) → length zs' ≡ length zs → zs' ≡ stepped_items st.under r zs → (bs' : List ℕ)
+      → length bs' ≡ length bs → bs' ≡ stepped_bytes st zs bs told.line
+      → (us' : List ℕ) (printed' : ℕ) → Written us printed (line_text told.line r count) us' printed'
+      → Kept told.next (count + 1) r.stage zs' bs' us' printed'
+  goes_on at count st zs bs us printed kept below told told_is r r-is zs' l-items zs-is bs' l-bytes bs-is us' printed' w =
+      go kept.0 kept.1
+    where
+      go : (j : ℕ) → Inv j at count st zs bs us printed → Kept told.next (count + 1) r.stage zs' bs' us' printed'
+      go zero inv = absurd (omega (arith, below, inv.enough))
+      go (suc j) inv = (
+        j,
+        again j at count st zs bs us printed inv below told told_is r r-is zs' l-items zs-is bs' l-bytes bs-is us'
+            printed' w,
+      )
 
   -- the end
-  pub finish : (j at count : ℕ) (st : Stage) (zs : List Item) (bs us : List ℕ) (printed : ℕ)
+  finish : (j at count : ℕ) (st : Stage) (zs : List Item) (bs us : List ℕ) (printed : ℕ)
       → Inv j at count st zs bs us printed → length script ≤ at
       → (zs ≡ goal.items) × ((bs ≡ goal.bytes) × Written out 0 goal.text us printed)
   finish j at count st zs bs us printed inv h = (
@@ -232,41 +250,46 @@ module _ (script : List ℕ) (items : List Item) (bytes out : List ℕ) where
           sym (printed_end inv.text zs bs) ∙ ap (printed_before inv.text)
           (sym (no_more script j at count st zs bs h)) ∙ inv.rest
 
+  pub finished : (at count : ℕ) (st : Stage) (zs : List Item) (bs us : List ℕ) (printed : ℕ)
+      → Kept at count st zs bs us printed → length script ≤ at
+      → (zs ≡ goal.items) × ((bs ≡ goal.bytes) × Written out 0 goal.text us printed)
+  finished at count st zs bs us printed kept h = finish kept.0 at count st zs bs us printed kept.1 h
+
   -- how the script opens
   abbrev Opens : Opened → Type 0
   Opens o =
       (o.at < length script → Live o.at 2 o.stage) × ((o.stage.size ≤ 16) × (o.stage.under ≡ 0))
 
-  shut-opens : (why line : ℕ) → Opens (shut (length script) why line)
-  shut-opens why line = ((λ h. absurd (omega (arith, h))), (omega arith, refl))
+  shut_opens : (why line : ℕ) → Opens (shut (length script) why line)
+  shut_opens why line = ((λ h. absurd (omega (arith, h))), (omega arith, refl))
 
   opens : Opens (opened script)
   unfolding opened
   opens =
-      cases Opens (ltb 4096 (length script)) _ _ (λ e. shut-opens 17 0)
-      (λ e. by-line (line_at script 0).line (ltb-false 4096 (length script) e))
+      cases Opens (ltb 4096 (length script)) _ _ (λ e. shut_opens 17 0)
+      (λ e. by_line (line_at script 0).line (ltb-false 4096 (length script) e))
     where
-      by-line : (l : Line) → length script ≤ 4096 → Opens (opened_by (length script) (line_at script 0).next l)
-      by-line (Nodes P) short =
-          cases Opens (either (eqb P 0) (ltb 16 P)) _ _ (λ e. shut-opens 1 1)
+      by_line : (l : Line) → length script ≤ 4096 → Opens (opened_by (length script) (line_at script 0).next l)
+      by_line (Nodes P) short =
+          cases Opens (either (eqb P 0) (ltb 16 P)) _ _ (λ e. shut_opens 1 1)
           (λ e. (
             (λ h. let n = next_on script 0 (omega (arith, h)) in (short, (omega (arith, n), size_some P e))),
             (size_good P e, refl),
           ))
-      by-line (Sends kind a b) short = shut-opens 17 1
-      by-line (Delivers a b) short = shut-opens 17 1
-      by-line (Idles a) short = shut-opens 17 1
-      by-line (Calls a) short = shut-opens 17 1
-      by-line Bad short = shut-opens 17 1
+      by_line (Sends kind a b) short = shut_opens 17 1
+      by_line (Delivers a b) short = shut_opens 17 1
+      by_line (Idles a) short = shut_opens 17 1
+      by_line (Calls a) short = shut_opens 17 1
+      by_line Bad short = shut_opens 17 1
 
   -- what is played from there
   abbrev From : Opened → Played
   From o = printed_before (opening_text o.why o.line) (play_from script (length script) o.at 2 o.stage items
       bytes)
 
-  shut-from : (why line : ℕ) → (why ≡ 0 → ⊥) → From (shut (length script) why line) ≡ printed_before header
+  shut_from : (why line : ℕ) → (why ≡ 0 → ⊥) → From (shut (length script) why line) ≡ printed_before header
       (stopped why line items bytes)
-  shut-from why line e =
+  shut_from why line e =
       ap (printed_before (opening_text why line)) (no_more script (length script) (length script) 2 (opening 0) items
       bytes (omega arith))
       ∙ printed_end (opening_text why line) items bytes
@@ -286,42 +309,42 @@ module _ (script : List ℕ) (items : List Item) (bytes out : List ℕ) where
           }))
           ≡ printed_before header (choose t (stopped 1 1 items bytes)
           (play_from script (length script) (line_at script 0).next 2 (opening P) items bytes))
-      by_size P true = shut-from 1 1 (λ e. omega (arith, e))
+      by_size P true = shut_from 1 1 (λ e. omega (arith, e))
       by_size P false = refl
 
-      by-line : (l : Line) → From (opened_by (length script) (line_at script 0).next l) ≡ printed_before header
+      by_line : (l : Line) → From (opened_by (length script) (line_at script 0).next l) ≡ printed_before header
           (play_opened script (line_at script 0).next items bytes l)
-      by-line (Nodes P) = by_size P (either (eqb P 0) (ltb 16 P))
-      by-line (Sends kind a b) = shut-from 17 1 (λ e. omega (arith, e))
-      by-line (Delivers a b) = shut-from 17 1 (λ e. omega (arith, e))
-      by-line (Idles a) = shut-from 17 1 (λ e. omega (arith, e))
-      by-line (Calls a) = shut-from 17 1 (λ e. omega (arith, e))
-      by-line Bad = shut-from 17 1 (λ e. omega (arith, e))
+      by_line (Nodes P) = by_size P (either (eqb P 0) (ltb 16 P))
+      by_line (Sends kind a b) = shut_from 17 1 (λ e. omega (arith, e))
+      by_line (Delivers a b) = shut_from 17 1 (λ e. omega (arith, e))
+      by_line (Idles a) = shut_from 17 1 (λ e. omega (arith, e))
+      by_line (Calls a) = shut_from 17 1 (λ e. omega (arith, e))
+      by_line Bad = shut_from 17 1 (λ e. omega (arith, e))
 
       go : (t : Bool)
           → From (choose t (shut (length script) 17 0) (opened_by (length script) (line_at script 0).next
           (line_at script 0).line))
           ≡ printed_before header (choose t (stopped 17 0 items bytes)
           (play_opened script (line_at script 0).next items bytes (line_at script 0).line))
-      go true = shut-from 17 0 (λ e. omega (arith, e))
-      go false = by-line (line_at script 0).line
+      go true = shut_from 17 0 (λ e. omega (arith, e))
+      go false = by_line (line_at script 0).line
 
   -- the start
   pub start : (o : Opened) → o ≡ opened script → (us : List ℕ) (printed : ℕ)
       → Written out 0 (opening_text o.why o.line) us printed
-      → Inv (length script) o.at 2 o.stage items bytes us printed
-  start o o_is us printed w =
-      record {
-        enough = omega arith;
-        live = ok.0;
-        small = ok.1.0;
-        within = omega (arith, ok.1.1);
-        long-items = refl;
-        long-bytes = refl;
-        text = opening_text o.why o.line;
-        written = w;
-        rest = ap From o_is ∙ from;
-      }
+      → Kept o.at 2 o.stage items bytes us printed
+  start o o_is us printed w = (
+    length script,
+    record {
+      enough = omega arith;
+      live = ok.0;
+      small = ok.1.0;
+      within = omega (arith, ok.1.1);
+      text = opening_text o.why o.line;
+      written = w;
+      rest = ap From o_is ∙ from;
+    },
+  )
     where
       ok : Opens o
       ok = subst Opens (sym o_is) opens

@@ -6,7 +6,7 @@ use Rattle.script.specs.Script.{line_at}
 use Rattle.line_forms.specs.declared.Line.{Line}
 use Rattle.line_forms.specs.declared.Line.TheVariants.{Nodes, Sends, Delivers, Idles, Calls, Bad}
 use Rattle.board_states.specs.States.{node_at, opening}
-use Rattle.turns.specs.Events.{Turn, sendTurn, idleTurn, callTurn, deliverTurn}
+use Rattle.turns.specs.Events.{Turn, send_turn, idle_turn, call_turn, deliver_turn}
 use Rattle.text.specs.Text.{header, turn_text, stop_text}
 use Rattle.items.specs.declared.Item.{Item}
 use Rattle.board_states.specs.declared.Stage.{Stage}
@@ -33,11 +33,11 @@ pub data Act : Type 0 where
 abbrev pub act_of : Stage → List Item → List ℕ → Line → Act
 act_of st items bytes (Nodes P) = stop
 act_of st items bytes (Sends kind a b) =
-    choose (both (ltb a st.size) (ltb b st.size)) (event (sendTurn st items bytes kind a b)) stop
+    choose (both (ltb a st.size) (ltb b st.size)) (event (send_turn st items bytes kind a b)) stop
 act_of st items bytes (Delivers a b) =
-    choose (both (ltb a st.size) (ltb b st.size)) (event (deliverTurn st items bytes a b)) stop
-act_of st items bytes (Idles a) = choose (ltb a st.size) (event (idleTurn st items bytes a)) stop
-act_of st items bytes (Calls a) = choose (ltb a st.size) (event (callTurn st items bytes a)) stop
+    choose (both (ltb a st.size) (ltb b st.size)) (event (deliver_turn st items bytes a b)) stop
+act_of st items bytes (Idles a) = choose (ltb a st.size) (event (idle_turn st items bytes a)) stop
+act_of st items bytes (Calls a) = choose (ltb a st.size) (event (call_turn st items bytes a)) stop
 act_of st items bytes Bad = stop
 
 -- a stop is printed in place of an event, and nothing follows

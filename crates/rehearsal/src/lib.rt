@@ -1,5 +1,7 @@
 // A board of up to 16 nodes, played from a script. The headers and the bytes of the items under way, and what is
 // printed, are lent by the caller.
+#![tactic(auto)]
+
 ghost use Rattle.std.specs.Prelude.{◌≡◌};
 ghost use Rattle.printing.specs.Put.{put, ends};
 ghost use Rattle.rehearsal.specs.Play.{play};

@@ -1,4 +1,6 @@
 // A rehearsal with headers of its own. The bytes of the items under way, and what is printed, are lent by the caller.
+#![tactic(auto)]
+
 ghost use Rattle.std.specs.Prelude.{◌≡◌};
 ghost use Rattle.printing.specs.Put.{put, ends};
 ghost use Rattle.rehearsal.specs.Play.{play};

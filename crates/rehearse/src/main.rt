@@ -1,8 +1,10 @@
 // Reads a script from standard input, plays it, and writes what is printed.
+#![tactic(auto)]
+
 ghost use Rattle.std.specs.Prelude.{◌≡◌, ◌≤◌, length};
 ghost use Rattle.text.specs.Text.{text_room};
 
-use libc::{STDIN_FILENO, STDOUT_FILENO};
+use std::io;
 
 // Plays a script, and answers how much of `out` is printed. Every text fits the bytes that it asks for (rule S1).
 fn play(bytes: &mut [u8], out: &mut [u8], script: &[u8]) -> usize
@@ -12,12 +14,12 @@ fn play(bytes: &mut [u8], out: &mut [u8], script: &[u8]) -> usize
     rehearsal_headers::rehearse(bytes, out, script)
 }
 
-fn main() {
+fn main(rt: HostRuntime) -> io::Result<()> {
     // one byte more than a script may have
     let mut script: [u8; 4097] = [0; 4097];
-    let read = io::read_full(STDIN_FILENO, &mut script);
+    let read = input_read::read_full(&mut rt.stdin(), &mut script)?;
     let mut bytes: [u8; 34816] = [0; 34816];
-    let mut out = io::large_buffer();
+    let mut out: [u8; 65536] = [0; 65536];
     let printed = play(&mut bytes, &mut out, &script[..read]);
-    io::write_all(STDOUT_FILENO, &out[..printed]);
+    rt.write_all(&out[..printed])
 }

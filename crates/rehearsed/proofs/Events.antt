@@ -32,8 +32,8 @@ use Rattle.rehearsed.specs.Run.{Told, told_of, kept, events_of, events_in, lines
 use Rattle.rehearsed.proofs.States.{Bears, fresh_bears}
 use Rattle.rehearsed.proofs.Same.{Same}
 use Rattle.rehearsed.proofs.Follows.{Follows}
-use Rattle.rehearsed.proofs.Acting.{send-follows, idle-follows, call-follows}
-use Rattle.rehearsed.proofs.Delivering.{deliver-follows}
+use Rattle.rehearsed.proofs.Acting.{send_follows, idle_follows, call_follows}
+use Rattle.rehearsed.proofs.Delivering.{deliver_follows}
 
 -- a board that a run leads to
 pub record Ran (P : ℕ) (w : Board) : Type 0 where
@@ -72,20 +72,20 @@ module _ (P : ℕ) (one : 1 ≤ P) (few : P ≤ 16) where
   fit : Fit base
   fit = record { room = omega arith; four = omega arith }
 
-  one-after : (w : Board) (es : List Event) (e : Event)
+  one_after : (w : Board) (es : List Event) (e : Event)
       → after base P w (es ++ e ∷ []) ≡ step base P (after base P w es) e
-  one-after w [] e = refl
-  one-after w (x ∷ es) e = one-after (step base P w x) es e
+  one_after w [] e = refl
+  one_after w (x ∷ es) e = one_after (step base P w x) es e
 
   ran_on : (w : Board) → Ran P w → (e : Event) → Ran P (step base P w e)
   ran_on w r e =
       record {
         events = r.events ++ e ∷ [];
-        leads = one-after (start P) r.events e ∙ ap (λ w. step base P w e) r.leads;
+        leads = one_after (start P) r.events e ∙ ap (λ w. step base P w e) r.leads;
       }
 
-  facts-of : (w : Board) → Ran P w → Facts base P w
-  facts-of w r = subst (Facts base P) r.leads (every_run base fit P one (omega arith) r.events)
+  facts_of : (w : Board) → Ran P w → Facts base P w
+  facts_of w r = subst (Facts base P) r.leads (every_run base fit P one (omega arith) r.events)
 
   -- ---- one line
 
@@ -104,26 +104,26 @@ module _ (P : ℕ) (one : 1 ≤ P) (few : P ≤ 16) where
         record {
           event = sends kind a b;
           is = refl;
-          follows = send-follows few s (facts-of w r) a (within_both a b e).0 kind b;
+          follows = send_follows few s (facts_of w r) a (within_both a b e).0 kind b;
         }
     plays (Delivers a b) e =
         record {
           event = delivers a b;
           is = refl;
-          follows = deliver-follows few s (facts-of w r) a b (within_both a b e).1;
+          follows = deliver_follows few s (facts_of w r) a b (within_both a b e).1;
         }
     plays (Idles a) e =
-        record { event = idles a; is = refl; follows = idle-follows few s (facts-of w r) a (within a e) }
+        record { event = idles a; is = refl; follows = idle_follows few s (facts_of w r) a (within a e) }
     plays (Calls a) e =
-        record { event = calls a place_size; is = refl; follows = call-follows few s (facts-of w r) a (within a e) }
+        record { event = calls a place_size; is = refl; follows = call_follows few s (facts_of w r) a (within a e) }
     plays Bad e = clash (sym e)
 
   -- ---- all lines
 
-  pub prints-one : (w : Board) (l : Line) (t : Turn) (rest : List Told) → Ran P w → Plays P w l t
+  pub prints_one : (w : Board) (l : Line) (t : Turn) (rest : List Told) → Ran P w → Plays P w l t
       → ((w : Board) → Same P t.stage t.items t.bytes w → Ran P w → Prints P w rest)
       → Prints P w (told_of l t ∷ rest)
-  prints-one w l t rest r p f = go p.follows
+  prints_one w l t rest r p f = go p.follows
     where
       go : Follows P w (step base P w p.event) (printed P w p.event) t → Prints P w (told_of l t ∷ rest)
       go (Follows.out z s) =
@@ -149,9 +149,9 @@ module _ (P : ℕ) (one : 1 ≤ P) (few : P ≤ 16) where
       }
 
   -- what prints the lines of its events from every board that is the same, is a run from a fresh one
-  pub is-run : (items : List Item) (bytes : List ℕ) (ts : List Told)
+  pub is_run_lem : (items : List Item) (bytes : List ℕ) (ts : List Told)
       → ((w : Board) → Same P (opening P) items bytes w → Ran P w → Prints P w ts) → IsRun P ts
-  is-run items bytes ts f =
+  is_run_lem items bytes ts f =
       let es = events_in (kept ts) in
       record {
         printed = f (start P) (begun items bytes) (record { events = []; leads = refl });

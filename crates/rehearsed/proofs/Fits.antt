@@ -16,7 +16,7 @@ use Rattle.line_forms.specs.Forms.{before}
 use Rattle.script.specs.Script.{line_of, line_at}
 use Rattle.line_forms.specs.declared.Line.TheVariants.{Bad}
 use Rattle.script.specs.declared.Parsed.{Parsed}
-use Rattle.script.proofs.Answers.{line_one, at-newline, at-end}
+use Rattle.script.proofs.Answers.{line_one, at_newline, at_end}
 use Rattle.items.specs.declared.Item.{Item}
 use Rattle.board_states.specs.States.{opening}
 use Rattle.board_states.specs.declared.Stage.{Stage}
@@ -26,7 +26,7 @@ use Rattle.turns.specs.Events.{Turn}
 use Rattle.rehearsal.specs.Play.{Played, Act, event, stop, act_of, play}
 use Rattle.rehearsed.specs.Run.{Told, told_from, told, text_of, Closing, Rehearsal}
 use Rattle.rehearsed.specs.Fits.{HasRoom, EveryTextFits}
-use Rattle.rehearsed.proofs.Whole.{toldBy, every_rehearsal}
+use Rattle.rehearsed.proofs.Whole.{told_by, every_rehearsal}
 
 -- ---- a line printed
 
@@ -87,22 +87,22 @@ line_long script at = go (dec_lt n (length rest)) (ℕ_discrete n 0)
 
     go : Dec (n < length rest) → Dec (n ≡ 0) → ((line_at script at).line ≡ Bad)
         ⊎ ((at + 2 ≤ (line_at script at).next) × ((line_at script at).next ≤ length script))
-    go (no h) d = inl (ap (λ (p : Parsed). p.line) (at-end script at rest refl n refl (omega arith)))
+    go (no h) d = inl (ap (λ (p : Parsed). p.line) (at_end script at rest refl n refl (omega arith)))
     go (yes h) (yes z) =
-        inl (ap (λ (p : Parsed). p.line) (at-newline script at rest refl n refl h)
+        inl (ap (λ (p : Parsed). p.line) (at_newline script at rest refl n refl h)
         ∙ ap (λ k. line_of (take k rest)) z ∙ line_one [] (omega arith))
     go (yes h) (no z) =
-        let next = ap (λ (p : Parsed). p.next) (at-newline script at rest refl n refl h) in
+        let next = ap (λ (p : Parsed). p.next) (at_newline script at rest refl n refl h) in
         inr (omega (arith, next), omega (arith, next, length-drop at script))
 
 module _ (script : List ℕ) (most at : ℕ) (p : Parsed) where
-  few-by : (x : Act) → (x ≡ stop) ⊎ ((at + 2 ≤ p.next) × (p.next ≤ length script))
+  few_by : (x : Act) → (x ≡ stop) ⊎ ((at + 2 ≤ p.next) × (p.next ≤ length script))
       → ((t : Turn) → 2 * length (told_from script most p.next t.stage t.items t.bytes)
       ≤ length script - p.next)
-      → 2 * length (toldBy script most 0 p x) ≤ length script - at
-  few-by stop h f = omega arith
-  few-by (event t) (inl e) f = let z : ◌≡◌ {A = ℕ} 0 1 = cc in absurd (omega arith)
-  few-by (event t) (inr h) f = omega (arith, f t)
+      → 2 * length (told_by script most 0 p x) ≤ length script - at
+  few_by stop h f = omega arith
+  few_by (event t) (inl e) f = let z : ◌≡◌ {A = ℕ} 0 1 = cc in absurd (omega arith)
+  few_by (event t) (inr h) f = omega (arith, f t)
 
 told_few : (script : List ℕ) (most at : ℕ) (st : Stage) (items : List Item) (bytes : List ℕ)
     → 2 * length (told_from script most at st items bytes) ≤ length script - at
@@ -112,7 +112,7 @@ told_few script (suc most) at st items bytes =
     let p = line_at script at in
     cases (λ ts. 2 * length ts ≤ length script - at) (leb (length script) at) [] _ (λ e. omega arith)
     (λ e.
-    few-by script most at p (act_of st items bytes p.line) (stops (line_long script at))
+    few_by script most at p (act_of st items bytes p.line) (stops (line_long script at))
     (λ t. told_few script most p.next t.stage t.items t.bytes))
   where
     stops : ((line_at script at).line ≡ Bad)
@@ -133,12 +133,12 @@ module _ (script : List ℕ) (items : List Item) (bytes : List ℕ) where
   unfolding play
   too_long h = ap (λ (p : Played). header ++ p.text) (choose_yes _ _ (lt-ltb 4096 (length script) h))
 
-  stop-fits : (why line : ℕ) → text ≡ header ++ stop_text why line → HasRoom text
-  stop-fits why line e = omega (arith, ap length e, stop_few why line)
+  stop_fits : (why line : ℕ) → text ≡ header ++ stop_text why line → HasRoom text
+  stop_fits why line e = omega (arith, ap length e, stop_few why line)
 
-  rehearsal-fits : length script ≤ 4096 → Rehearsal script items bytes → HasRoom text
-  rehearsal-fits h (Rehearsal.shut why line l e) = stop-fits why line e
-  rehearsal-fits h (Rehearsal.opens P one few l closing c e r) =
+  rehearsal_fits : length script ≤ 4096 → Rehearsal script items bytes → HasRoom text
+  rehearsal_fits h (Rehearsal.shut why line l e) = stop_fits why line e
+  rehearsal_fits h (Rehearsal.opens P one few l closing c e r) =
       let ts = told script P items bytes in
       omega (
         arith,
@@ -153,8 +153,8 @@ module _ (script : List ℕ) (items : List Item) (bytes : List ℕ) where
   fits = go (dec_lt 4096 (length script))
     where
       go : Dec (4096 < length script) → HasRoom text
-      go (yes h) = stop-fits 17 0 (too_long h)
-      go (no h) = rehearsal-fits (omega arith) (every_rehearsal script items bytes)
+      go (yes h) = stop_fits 17 0 (too_long h)
+      go (no h) = rehearsal_fits (omega arith) (every_rehearsal script items bytes)
 
 -- what has room is put whole
 put_whole : (out text : List ℕ) → length text ≤ length out → take (ends out 0 text) (put out 0 text) ≡ text

@@ -18,7 +18,7 @@ use Rattle.board_states.specs.declared.Stage.{Stage}
 use Rattle.turns.specs.Events.{Turn, unchanged}
 use Rattle.rehearsed.proofs.States.{Bears}
 use Rattle.rehearsed.proofs.Links.{Stand}
-use Rattle.rehearsed.proofs.Same.{Stands, Same, nodes-changed, nodes-kept}
+use Rattle.rehearsed.proofs.Same.{Stands, Same, nodes_changed, nodes_kept}
 
 pub data Follows (P : ℕ) (w next : Board) (shown : List ℕ) (t : Turn) : Type 0 where
   out : t.answer ≡ 15 → Same P t.stage t.items t.bytes w → Follows P w next shown t
@@ -41,13 +41,13 @@ roomy i headers bytes h = record { headed = omega arith; lent = omega arith }
 module _ {P : ℕ} {st : Stage} {items : List Header} {bytes : List ℕ} {w : Board} (few : P ≤ 16)
     (s : Same P st items bytes w) (a : ℕ) (h : a < P) where
   -- a call is refused
-  pub refused-follows : (x : ℕ)
+  pub refused_follows : (x : ℕ)
       → Follows P w (gave w a (w.nodes a)) (line a x (put w.nodes a (w.nodes a) a))
       (unchanged st items bytes a x)
-  refused-follows x = go (ℕ_discrete x 15)
+  refused_follows x = go (ℕ_discrete x 15)
     where
       kept : (b : ℕ) → b < P → Bears (state_at st b) (put w.nodes a (w.nodes a) b)
-      kept = nodes-kept P few st w.nodes s.array s.nodes a h
+      kept = nodes_kept P few st w.nodes s.array s.nodes a h
 
       go : Dec (x ≡ 15)
           → Follows P w (gave w a (w.nodes a)) (line a x (put w.nodes a (w.nodes a) a))
@@ -66,12 +66,12 @@ module _ {P : ℕ} {st : Stage} {items : List Header} {bytes : List ℕ} {w : Bo
           (ap (line a x) (kept a h).node)
 
   -- a node gives back a state, and the items change as the board's do
-  pub changes-follow : (y : State) (n : Node) → Bears y n → (under x : ℕ) (now : List Header) (then : List ℕ)
+  pub changes_follow : (y : State) (n : Node) → Bears y n → (under x : ℕ) (now : List Header) (then : List ℕ)
       (next : Board) → x ≢ 15 → next.nodes ≡ put w.nodes a n → length next.items ≡ under
       → under ≤ room_for (length now) then → Stand (Stands P now then) 0 next.items
       → Follows P w next (line a x (next.nodes a))
       (record { stage = changed st a y under; items = now; bytes = then; actor = a; answer = x })
-  changes-follow y n holds under x now then next z e len lent stand =
+  changes_follow y n holds under x now then next z e len lent stand =
       Follows.on z
       (record {
         size = s.size;
@@ -86,12 +86,12 @@ module _ {P : ℕ} {st : Stage} {items : List Header} {bytes : List ℕ} {w : Bo
       after : (b : ℕ) → b < P → Bears (state_at (changed st a y under) b) (next.nodes b)
       after b l =
           subst (λ f. Bears (state_at (changed st a y under) b) (f b)) (sym e)
-          (nodes-changed P few st w.nodes s.array s.nodes a h y n holds under b l)
+          (nodes_changed P few st w.nodes s.array s.nodes a h y n holds under b l)
 
   -- and the items stay
-  pub quiet-follows : (y : State) (n : Node) → Bears y n → (x : ℕ) (next : Board) → x ≢ 15
+  pub quiet_follows : (y : State) (n : Node) → Bears y n → (x : ℕ) (next : Board) → x ≢ 15
       → next.nodes ≡ put w.nodes a n → next.items ≡ w.items
       → Follows P w next (line a x (next.nodes a)) (unchanged (changed st a y st.under) items bytes a x)
-  quiet-follows y n holds x next z e i =
-      changes-follow y n holds st.under x items bytes next z e (ap length i ∙ s.under) s.lent
+  quiet_follows y n holds x next z e i =
+      changes_follow y n holds st.under x items bytes next z e (ap length i ∙ s.under) s.lent
       (subst (Stand (Stands P items bytes) 0) (sym i) s.stand)

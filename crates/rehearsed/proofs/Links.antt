@@ -24,49 +24,49 @@ Stand At i (m ∷ ms) = At i m × Stand At (suc i) ms
 -- items that stand so and then otherwise
 module _ (F G : ℕ → Item → Type 0) where
   -- one more item, after the last
-  pub stand-more : (i : ℕ) (ms : List Item) (x : Item) → ((j : ℕ) (m : Item) → j < i + length ms → F j m → G j m)
+  pub stand_more : (i : ℕ) (ms : List Item) (x : Item) → ((j : ℕ) (m : Item) → j < i + length ms → F j m → G j m)
       → G (i + length ms) x → Stand F i ms → Stand G i (ms ++ x ∷ [])
-  stand-more i [] x f g s = let e : i + 0 ≡ i = omega arith in (subst (λ k. G k x) e g, tt)
-  stand-more i (m ∷ ms) x f g s =
+  stand_more i [] x f g s = let e : i + 0 ≡ i = omega arith in (subst (λ k. G k x) e g, tt)
+  stand_more i (m ∷ ms) x f g s =
       let e : i + suc (length ms) ≡ suc i + length ms = omega arith in (
         f i m (omega arith) s.0,
-        stand-more (suc i) ms x (λ j m h. f j m (omega arith)) (subst (λ k. G k x) e g) s.1,
+        stand_more (suc i) ms x (λ j m h. f j m (omega arith)) (subst (λ k. G k x) e g) s.1,
       )
 
   -- all of them one place down
-  pub stand-down : (i : ℕ) (ms : List Item)
+  pub stand_down : (i : ℕ) (ms : List Item)
       → ((j : ℕ) (m : Item) → i ≤ j → j < i + length ms → F (suc j) m → G j m) → Stand F (suc i) ms → Stand G i ms
-  stand-down i [] f s = tt
-  stand-down i (m ∷ ms) f s = (
+  stand_down i [] f s = tt
+  stand_down i (m ∷ ms) f s = (
     f i m (omega arith) (omega arith) s.0,
-    stand-down (suc i) ms (λ j m h l. f j m (omega arith) (omega arith)) s.1,
+    stand_down (suc i) ms (λ j m h l. f j m (omega arith) (omega arith)) s.1,
   )
 
   -- the oldest of a link is taken out, and those after it move down
-  pub stand-less : (a b i : ℕ) (ms : List Item) → ((j : ℕ) (m : Item) → j < i + place_in a b ms → F j m → G j m)
+  pub stand_less : (a b i : ℕ) (ms : List Item) → ((j : ℕ) (m : Item) → j < i + place_in a b ms → F j m → G j m)
       → ((j : ℕ) (m : Item) → i + place_in a b ms ≤ j → suc j < i + length ms → F (suc j) m → G j m) → Stand F i ms
       → Stand G i (without a b ms)
-  stand-less a b i [] f g s = tt
-  stand-less a b i (m ∷ ms) f g s =
+  stand_less a b i [] f g s = tt
+  stand_less a b i (m ∷ ms) f g s =
       cases (Stand G i) (on_link a b m) ms (m ∷ without a b ms)
       (λ e.
       let z : place_in a b (m ∷ ms) ≡ 0 = choose_yes _ _ e in
-      stand-down i ms (λ j m h l. g j m (omega arith) (omega arith)) s.1)
+      stand_down i ms (λ j m h l. g j m (omega arith) (omega arith)) s.1)
       (λ e.
       let z : place_in a b (m ∷ ms) ≡ suc (place_in a b ms) = choose_no _ _ e in (
         f i m (omega arith) s.0,
-        stand-less a b (suc i) ms (λ j m h. f j m (omega arith)) (λ j m h l. g j m (omega arith) (omega arith))
+        stand_less a b (suc i) ms (λ j m h. f j m (omega arith)) (λ j m h l. g j m (omega arith) (omega arith))
             s.1,
       ))
 
 module _ (a b : ℕ) where
-  pub length-less : (ms : List Item) → place_in a b ms < length ms → suc (length (without a b ms)) ≡ length ms
-  length-less [] h = absurd (omega arith)
-  length-less (m ∷ ms) h =
+  pub length_less : (ms : List Item) → place_in a b ms < length ms → suc (length (without a b ms)) ≡ length ms
+  length_less [] h = absurd (omega arith)
+  length_less (m ∷ ms) h =
       cases (λ l. suc (length l) ≡ suc (length ms)) (on_link a b m) ms (m ∷ without a b ms) (λ e. refl)
       (λ e.
       let z : place_in a b (m ∷ ms) ≡ suc (place_in a b ms) = choose_no _ _ e in
-      ap suc (length-less ms (omega arith)))
+      ap suc (length_less ms (omega arith)))
 
   -- what is found at that place
   pub data Found (F : ℕ → Item → Type 0) (i : ℕ) (ms : List Item) : Option Item → Type 0 where

@@ -17,7 +17,7 @@ use Rattle.items.specs.Places.{no_item}
 use Rattle.item_changes.specs.Places.{moved, removed}
 use Rattle.items.specs.declared.Item.{Item}
 use Rattle.under_way.specs.Frames.{place_size, closed, framed, frame_held}
-use Rattle.under_way.proofs.Parts.{length-moving, all_moved}
+use Rattle.under_way.proofs.Parts.{length_moving, all_moved}
 
 -- ---- the headers: those before the gap stay, those after it come one place down
 
@@ -63,7 +63,7 @@ pub length_closed : (bytes : List ℕ) (n at : ℕ) → at < n → place_size * 
     → length (closed bytes n at) ≡ length bytes
 length_closed bytes n at h l =
     ap length (sym (all_moved bytes n at h))
-    ∙ length-moving bytes (place_size * at) (place_size * (n - 1)) (omega arith) (omega arith)
+    ∙ length_moving bytes (place_size * at) (place_size * (n - 1)) (omega arith) (omega arith)
 
 -- ---- the bytes of one place
 
@@ -104,9 +104,9 @@ fits p pass k h =
 
 module _ (size : ℕ) (small : dimension size ≤ width) where
   -- the bytes of a place alone say what is held there
-  same-held : (bytes other : List ℕ) (i j : ℕ) → part bytes i ≡ part other j
+  same_held : (bytes other : List ℕ) (i j : ℕ) → part bytes i ≡ part other j
       → frame_held size bytes i ≡ frame_held size other j
-  same-held bytes other i j e =
+  same_held bytes other i j e =
       sym (by_part (drop (place_size * i) bytes)) ∙ ap start e ∙ by_part (drop (place_size * j) other)
     where
       start : List ℕ → List ℕ
@@ -117,28 +117,28 @@ module _ (size : ℕ) (small : dimension size ≤ width) where
           rw (get_or-take place_size l 0 0 (omega arith), get_or-take place_size l 2 0 (omega arith))
           (take-take _ place_size l (fits (dimension size) (get_or l 0 0) (get_or l 2 0) small))
 
-  pub held-closed-before : (bytes : List ℕ) (n at j : ℕ) → j < at → at < n → place_size * n ≤ length bytes
+  pub held_closed_before : (bytes : List ℕ) (n at j : ℕ) → j < at → at < n → place_size * n ≤ length bytes
       → frame_held size (closed bytes n at) j ≡ frame_held size bytes j
   unfolding closed
-  held-closed-before bytes n at j h m l = same-held _ bytes j j (part_start bytes _ at j h (omega arith))
+  held_closed_before bytes n at j h m l = same_held _ bytes j j (part_start bytes _ at j h (omega arith))
 
-  pub held-closed-after : (bytes : List ℕ) (n at j : ℕ) → at ≤ j → j + 1 < n → place_size * n ≤ length bytes
+  pub held_closed_after : (bytes : List ℕ) (n at j : ℕ) → at ≤ j → j + 1 < n → place_size * n ≤ length bytes
       → frame_held size (closed bytes n at) j ≡ frame_held size bytes (j + 1)
   unfolding closed
-  held-closed-after bytes n at j h m l =
+  held_closed_after bytes n at j h m l =
       let a = place_size * at in
       let rest = drop (place_size * (at + 1)) bytes in
       let d = length-drop (place_size * (at + 1)) bytes in
-      same-held _ bytes j (j + 1)
+      same_held _ bytes j (j + 1)
       (sym (part_drop _ at (j - at) j (omega arith))
       ∙ ap (λ r. part r (j - at)) (drop_at (take a bytes) _ a (length-take-le a bytes (omega arith)))
       ∙ part_start rest _ (n - (at + 1)) (j - at) (omega arith) (omega arith)
       ∙ part_drop bytes (at + 1) (j - at) (j + 1) (omega arith))
 
-  pub held-framed-before : (bytes : List ℕ) (place : ℕ) (frame : List ℕ) (j : ℕ) → j < place
+  pub held_framed_before : (bytes : List ℕ) (place : ℕ) (frame : List ℕ) (j : ℕ) → j < place
       → place_size * place ≤ length bytes → frame_held size (framed bytes place frame) j ≡ frame_held size bytes j
   unfolding framed
-  held-framed-before bytes place frame j h l = same-held _ bytes j j (part_start bytes _ place j h l)
+  held_framed_before bytes place frame j h l = same_held _ bytes j j (part_start bytes _ place j h l)
 
 pub held_framed_at : (size : ℕ) (bytes : List ℕ) (place : ℕ) (frame : List ℕ) → place_size * place ≤ length bytes
     → 3 ≤ length frame → frame_length (dimension size) (get_or frame 0 0) (get_or frame 2 0) ≡ length frame

@@ -24,9 +24,9 @@ use Rattle.under_way.specs.Frames.{place_size, room_for, closed, frame_held}
 use Rattle.board_states.specs.States.{state_at, changed}
 use Rattle.board_states.specs.declared.Stage.{Stage}
 use Rattle.rehearsed.proofs.States.{Bears}
-use Rattle.rehearsed.proofs.Links.{place_in, Stand, stand-more, stand-less}
+use Rattle.rehearsed.proofs.Links.{place_in, Stand, stand_more, stand_less}
 use Rattle.rehearsed.proofs.Memory.{header_before, header_after}
-use Rattle.rehearsed.proofs.Memory.{held-closed-before, held-closed-after}
+use Rattle.rehearsed.proofs.Memory.{held_closed_before, held_closed_after}
 
 -- what an item is, by its header: a job or a note with its phase byte, or the frame held at its place
 abbrev pub load_of : Header → List ℕ → Load
@@ -60,15 +60,15 @@ pub record Same (P : ℕ) (st : Stage) (items : List Header) (bytes : List ℕ) 
 
 module _ (P : ℕ) (few : P ≤ 16) (st : Stage) (f : ℕ → Node) (array : length st.states ≡ 16)
     (same : (a : ℕ) → a < P → Bears (state_at st a) (f a)) (a : ℕ) (h : a < P) where
-  pub nodes-changed : (x : State) (n : Node) → Bears x n → (under b : ℕ) → b < P
+  pub nodes_changed : (x : State) (n : Node) → Bears x n → (under b : ℕ) → b < P
       → Bears (state_at (changed st a x under) b) (put f a n b)
-  nodes-changed x n now under =
+  nodes_changed x n now under =
       put_all (λ b m. b < P → Bears (state_at (changed st a x under) b) m) f a n
       (λ l. subst (λ y. Bears y n) (sym (get_or-set_same st.states a x no_state (omega arith))) now)
       (λ b z l. subst (λ y. Bears y (f b)) (sym (get_or-set_other st.states a b x no_state z)) (same b l))
 
-  pub nodes-kept : (b : ℕ) → b < P → Bears (state_at st b) (put f a (f a) b)
-  nodes-kept = put_all (λ b m. b < P → Bears (state_at st b) m) f a (f a) (same a) (λ b z l. same b l)
+  pub nodes_kept : (b : ℕ) → b < P → Bears (state_at st b) (put f a (f a) b)
+  nodes_kept = put_all (λ b m. b < P → Bears (state_at st b) m) f a (f a) (same a) (λ b z l. same b l)
 
 -- ---- the lent memory
 
@@ -92,7 +92,7 @@ pub stand_put : (P : ℕ) (items : List Header) (bytes then : List ℕ) (ms : Li
 stand_put P items bytes then ms x m i len room held from to load s =
     let now = set items i x in
     let e : i ≡ 0 + length ms = omega arith in
-    stand-more (Stands P items bytes) (Stands P now then) 0 ms m
+    stand_more (Stands P items bytes) (Stands P now then) 0 ms m
     (λ j y h. stands_as now then j (get_or-set_other items i j x no_item (λ z. omega arith)) (held j (omega arith)))
     (subst (λ k. Stands P now then k m) e last) s
   where
@@ -116,12 +116,12 @@ stand_off P dim items bytes ms n a b len room lent there s =
     let at = place_in a b ms in
     let now = removed items n at in
     let then = closed bytes n at in
-    stand-less (Stands P items bytes) (Stands P now then) a b 0 ms
+    stand_less (Stands P items bytes) (Stands P now then) a b 0 ms
     (λ j m h.
     stands_as now then j (header_before items n at j (omega arith))
-    (held-closed-before P dim bytes n at j (omega arith) there lent))
+    (held_closed_before P dim bytes n at j (omega arith) there lent))
     (λ j m h l.
     let e : j + 1 ≡ suc j = omega arith in
     stands_as now then j
     (header_after items n at j room (omega arith) (omega arith) ∙ ap (λ k. get_or items k no_item) e)
-    (held-closed-after P dim bytes n at j (omega arith) (omega arith) lent ∙ ap (frame_held P bytes) e)) s
+    (held_closed_after P dim bytes n at j (omega arith) (omega arith) lent ∙ ap (frame_held P bytes) e)) s

@@ -23,7 +23,7 @@ use Rattle.node.specs.declared.Node.{Node}
 use Rattle.layout.specs.Held.{unpacked, is_whole, holding}
 use Rattle.layout.proofs.Offsets.{words_closed}
 use Rattle.kept.proofs.Holds.{Holds}
-use Rattle.kept.proofs.Calls.{send-holds, take-holds, idle-holds, frame-holds, step-holds}
+use Rattle.kept.proofs.Calls.{send_holds, take_holds, idle_holds, frame_holds, step_holds}
 use Rattle.kept.proofs.Fresh.{fresh_words_lem}
 use Rattle.node_fresh.specs.Fresh.{fresh_words}
 use Rattle.states.specs.Words.{most, fresh_state}
@@ -61,30 +61,30 @@ makes call none s n b now =
     }
 
 module _ (s : State) (n : Node) (b : Bears s n) where
-  on-state : (call : Node → Given Outcome) → Holds base s.words (call (unpacked s.words)).node
+  on_state_lem : (call : Node → Given Outcome) → Holds base s.words (call (unpacked s.words)).node
       → Makes (on_state call s) (call n)
   unfolding on_state
-  on-state call now = makes call (refused (number Refusal.state)) s n b now
+  on_state_lem call now = makes call (refused (number Refusal.state)) s n b now
 
-  pub send-makes : (to : ℕ) → Makes (on_state (λ m. send base m to) s) (send base n to)
-  send-makes to = on-state (λ m. send base m to) (send-holds base fits_base s.words b.whole to)
+  pub send_makes : (to : ℕ) → Makes (on_state (λ m. send base m to) s) (send base n to)
+  send_makes to = on_state_lem (λ m. send base m to) (send_holds base fits_base s.words b.whole to)
 
-  pub take-makes : (kind : Kind) (from phase : ℕ)
+  pub take_makes : (kind : Kind) (from phase : ℕ)
       → Makes (on_state (λ m. take base m kind from phase) s) (take base n kind from phase)
-  take-makes kind from phase =
-      on-state (λ m. take base m kind from phase) (take-holds base fits_base s.words b.whole kind from phase)
+  take_makes kind from phase =
+      on_state_lem (λ m. take base m kind from phase) (take_holds base fits_base s.words b.whole kind from phase)
 
-  pub idle-makes : Makes (on_state (idle base) s) (idle base n)
-  idle-makes = on-state (idle base) (idle-holds base fits_base s.words b.whole)
+  pub idle_makes : Makes (on_state (idle base) s) (idle base n)
+  idle_makes = on_state_lem (idle base) (idle_holds base fits_base s.words b.whole)
 
-  pub frame-makes : (bs : List ℕ) → Makes (on_state (λ m. frame_in base m bs) s) (frame_in base n bs)
-  frame-makes bs = on-state (λ m. frame_in base m bs) (frame-holds base fits_base s.words b.whole bs)
+  pub frame_makes : (bs : List ℕ) → Makes (on_state (λ m. frame_in base m bs) s) (frame_in base n bs)
+  frame_makes bs = on_state_lem (λ m. frame_in base m bs) (frame_holds base fits_base s.words b.whole bs)
 
-  pub step-makes : (room : ℕ) → Makes (step_on s room) (barrier base n room)
+  pub step_makes : (room : ℕ) → Makes (step_on s room) (barrier base n room)
   unfolding step_on
-  step-makes room =
+  step_makes room =
       makes (λ m. barrier base m room) (barred (number Refusal.state)) s n b
-      (step-holds base fits_base s.words b.whole room)
+      (step_holds base fits_base s.words b.whole room)
 
 -- a state by value has room for a board of 16 nodes
 fresh_holds : (P a : ℕ) → 1 ≤ P → P ≤ 16 → a < P

@@ -25,7 +25,7 @@ use Rattle.rehearsal.specs.Play.{play}
 use Rattle.rehearsed.specs.Run.{Told, told_of, told_from, told, text_of, Closing, Rehearsal, EveryRehearsal}
 use Rattle.rehearsed.proofs.Same.{Same}
 use Rattle.line_forms.proofs.Named.{is_event}
-use Rattle.rehearsed.proofs.Events.{Ran, Prints, plays, prints-one, is-run}
+use Rattle.rehearsed.proofs.Events.{Ran, Prints, plays, prints_one, is_run_lem}
 
 -- ---- what is printed
 
@@ -48,15 +48,15 @@ text_one l t rest text x =
 
 module _ (script : List ℕ) (most count : ℕ) (p : Parsed) where
   -- the events and the play after a line has been read
-  abbrev pub toldBy : Act → List Told
-  toldBy x =
+  abbrev pub told_by : Act → List Told
+  told_by x =
       elim x [
         | event t ↦ told_of p.line t ∷ told_from script most p.next t.stage t.items t.bytes
         | stop ↦ []
       ]
 
-  abbrev playedBy : List Item → List ℕ → Act → Played
-  playedBy items bytes x =
+  abbrev played_by : List Item → List ℕ → Act → Played
+  played_by items bytes x =
       elim x [
         | event t ↦
             printed_before (turn_text t.actor t.answer (node_at t.stage t.actor))
@@ -64,13 +64,13 @@ module _ (script : List ℕ) (most count : ℕ) (p : Parsed) where
         | stop ↦ stopped (number Refusal.script) count items bytes
       ]
 
-  by-act : (items : List Item) (bytes : List ℕ) (t : Bool) (x : Act)
+  by_act : (items : List Item) (bytes : List ℕ) (t : Bool) (x : Act)
       → ((t : Turn) → Texted (told_from script most p.next t.stage t.items t.bytes)
       (play_from script most p.next (count + 1) t.stage t.items t.bytes).text)
-      → Texted (choose t [] (toldBy x)) (choose t (ended [] items bytes) (playedBy items bytes x)).text
-  by-act items bytes true x f = record { closing = []; closes = Closing.ended; is = refl }
-  by-act items bytes false (event t) f = text_one p.line t _ _ (f t)
-  by-act items bytes false stop f =
+      → Texted (choose t [] (told_by x)) (choose t (ended [] items bytes) (played_by items bytes x)).text
+  by_act items bytes true x f = record { closing = []; closes = Closing.ended; is = refl }
+  by_act items bytes false (event t) f = text_one p.line t _ _ (f t)
+  by_act items bytes false stop f =
       record { closing = stop_text 17 count; closes = Closing.stopped 17 count; is = refl }
 
 texted : (script : List ℕ) (most at count : ℕ) (st : Stage) (items : List Item) (bytes : List ℕ)
@@ -79,7 +79,7 @@ unfolding told_from play_from
 texted script zero at count st items bytes = record { closing = []; closes = Closing.ended; is = refl }
 texted script (suc most) at count st items bytes =
     let p = line_at script at in
-    by-act script most count p items bytes (leb (length script) at) (act_of st items bytes p.line)
+    by_act script most count p items bytes (leb (length script) at) (act_of st items bytes p.line)
     (λ t. texted script most p.next (count + 1) t.stage t.items t.bytes)
 
 -- ---- the events
@@ -104,10 +104,10 @@ prints P one few script (suc most) at st items bytes w s r =
     let rest = told_from script most p.next t.stage t.items t.bytes in
     cases (Prints P w) (leb (length script) at) _ _ (λ e. refl)
     (λ e.
-    subst (λ x. Prints P w (toldBy script most 0 p x)) (act_is st items bytes p.line)
-    (cases (λ x. Prints P w (toldBy script most 0 p x)) (is_event st.size p.line) (event t) stop
+    subst (λ x. Prints P w (told_by script most 0 p x)) (act_is st items bytes p.line)
+    (cases (λ x. Prints P w (told_by script most 0 p x)) (is_event st.size p.line) (event t) stop
     (λ h.
-    prints-one P one few w p.line t rest r (plays P one few st items bytes w s r p.line h)
+    prints_one P one few w p.line t rest r (plays P one few st items bytes w s r p.line h)
     (prints P one few script most p.next t.stage t.items t.bytes))
     (λ h. refl)))
 
@@ -120,30 +120,30 @@ module _ (script : List ℕ) (items : List Item) (bytes : List ℕ) where
     opens : (P : ℕ) → 1 ≤ P → P ≤ 16 → (line_at script 0).line ≡ Nodes P
         → Opening (play_from script (length script) (line_at script 0).next 2 (opening P) items bytes)
 
-  by-line : (l : Line) → (line_at script 0).line ≡ l → Opening (play_opened script (line_at script 0).next items bytes l)
-  by-line (Nodes P) e =
+  by_line : (l : Line) → (line_at script 0).line ≡ l → Opening (play_opened script (line_at script 0).next items bytes l)
+  by_line (Nodes P) e =
       cases Opening (either (eqb P 0) (ltb 16 P)) _ _ (λ t. shut 1 1 (omega arith))
       (λ t. opens P (size_some P t) (size_good P t) e)
-  by-line (Sends kind a b) e = shut 17 1 (omega arith)
-  by-line (Delivers a b) e = shut 17 1 (omega arith)
-  by-line (Idles a) e = shut 17 1 (omega arith)
-  by-line (Calls a) e = shut 17 1 (omega arith)
-  by-line Bad e = shut 17 1 (omega arith)
+  by_line (Sends kind a b) e = shut 17 1 (omega arith)
+  by_line (Delivers a b) e = shut 17 1 (omega arith)
+  by_line (Idles a) e = shut 17 1 (omega arith)
+  by_line (Calls a) e = shut 17 1 (omega arith)
+  by_line Bad e = shut 17 1 (omega arith)
 
   open_is : Opening (choose (ltb 4096 (length script)) (stopped 17 0 items bytes)
       (play_opened script (line_at script 0).next items bytes (line_at script 0).line))
   open_is =
-      cases Opening (ltb 4096 (length script)) _ _ (λ e. shut 17 0 (omega arith)) (λ e. by-line (line_at script 0).line refl)
+      cases Opening (ltb 4096 (length script)) _ _ (λ e. shut 17 0 (omega arith)) (λ e. by_line (line_at script 0).line refl)
 
-  by-opening : {p : Played} → Opening p → (play script items bytes).text ≡ header ++ p.text
+  by_opening : {p : Played} → Opening p → (play script items bytes).text ≡ header ++ p.text
       → Rehearsal script items bytes
-  by-opening (shut why line h) e = Rehearsal.shut why line h e
-  by-opening (opens P one few l) e =
+  by_opening (shut why line h) e = Rehearsal.shut why line h e
+  by_opening (opens P one few l) e =
       let t = texted script (length script) (line_at script 0).next 2 (opening P) items bytes in
       Rehearsal.opens P one few l t.closing t.closes (e ∙ ap (λ r. header ++ r) t.is)
-      (is-run P one few items bytes (told script P items bytes)
+      (is_run_lem P one few items bytes (told script P items bytes)
       (prints P one few script (length script) (line_at script 0).next (opening P) items bytes))
 
 pub every_rehearsal : EveryRehearsal
 unfolding play
-every_rehearsal script items bytes = by-opening script items bytes (open_is script items bytes) refl
+every_rehearsal script items bytes = by_opening script items bytes (open_is script items bytes) refl

@@ -1,28 +1,24 @@
 // Reads a recording from standard input, plays it again, and writes how that ends: `ok N events`, `stop 18`, or
 // `stop 19 at event K`.
-use libc::{STDIN_FILENO, STDOUT_FILENO};
+#![tactic(auto)]
 
-fn print_end(why: u32, at: u32) {
+use std::io;
+
+fn print_end(rt: &impl Print, why: u32, at: u32) -> io::Result<()> {
     if why == 0 {
-        io::write_all(STDOUT_FILENO, b"ok ");
-        io::print_decimal(STDOUT_FILENO, at as u64);
-        io::write_all(STDOUT_FILENO, b" events\n");
-        return;
+        return println!(rt; "ok {at} events");
     }
-    io::write_all(STDOUT_FILENO, b"stop ");
-    io::print_decimal(STDOUT_FILENO, why as u64);
     if why == 19 {
-        io::write_all(STDOUT_FILENO, b" at event ");
-        io::print_decimal(STDOUT_FILENO, at as u64);
+        return println!(rt; "stop {why} at event {at}");
     }
-    io::write_all(STDOUT_FILENO, b"\n");
+    println!(rt; "stop {why}")
 }
 
-fn main() {
+fn main(rt: HostRuntime) -> io::Result<()> {
     // one byte more than a recording may have
     let mut recording: [u8; 60001] = [0; 60001];
-    let read = io::read_full(STDIN_FILENO, &mut recording);
+    let read = input_read::read_full(&mut rt.stdin(), &mut recording)?;
     let mut bytes: [u8; 34816] = [0; 34816];
     let end = replay_headers::replay_own(&mut bytes, &recording[..read]);
-    print_end(end.why, end.at);
+    print_end(&rt, end.why, end.at)
 }

@@ -1,11 +1,13 @@
 // How a replay starts and how it ends; and a byte of a recording. Any bytes and numbers may be handed.
+#![tactic(auto)]
+
 ghost use Rattle.std.specs.Prelude.{◌≡◌, get_or};
 ghost use Rattle.replay_ends.specs.Ends.{start_of, end_of};
 
 use board_states::Stage;
 
 // How a replay starts: the board, how many events are to be played, and why it is refused (0 where it is not).
-#[derive(Drop)]
+#[derive(Clone, Copy)]
 pub struct Start {
     pub stage: Stage,
     pub events: u32,
@@ -13,7 +15,7 @@ pub struct Start {
 }
 
 // How a replay ends: 0 with the number of events, 18, or 19 with the position of the first event whose answer differs.
-#[derive(Drop)]
+#[derive(Clone, Copy)]
 pub struct Replayed {
     pub why: u32,
     pub at: u32,

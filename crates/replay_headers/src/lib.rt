@@ -1,4 +1,6 @@
 // A replay with headers of its own. The bytes of the items under way are lent by the caller.
+#![tactic(auto)]
+
 ghost use Rattle.std.specs.Prelude.{◌≡◌};
 ghost use Rattle.rehearsal_headers.specs.Headers.{no_items};
 ghost use Rattle.replays.specs.Replay.{replay, replay_answer};

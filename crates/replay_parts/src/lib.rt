@@ -1,4 +1,6 @@
 // The events of a recording, as the player of recordings takes them. Any bytes and numbers may be handed.
+#![tactic(auto)]
+
 ghost use Rattle.std.specs.Prelude.{◌≡◌, ◌+◌, ◌*◌, get_or};
 ghost use Rattle.recording.specs.Recording.{recording_in};
 ghost use Rattle.replay_parts.specs.Events.{line_by, line_of, limit_of};

@@ -8,10 +8,8 @@ use native.Mathlib.Omega.{arith}
 use lib.Dec.{ltb, eqb}
 use borrow.Author.Tests.{ltb-false, eqb-true}
 use Rattle.base.specs.Choice.{choose, list}
-use Rattle.base.specs.declared.Kind.TheVariants.{Job, Note}
 use Rattle.base.proofs.Laws.{cases, choose_no}
 use Rattle.events.specs.Board.{Board}
-use Rattle.line_forms.specs.declared.Line.TheVariants.{Sends, Delivers, Idles, Calls, Bad}
 use Rattle.items.specs.declared.Item.{Item}
 use Rattle.board_states.specs.States.{opening}
 use Rattle.board_states.specs.declared.Stage.{Stage}
@@ -20,7 +18,7 @@ use Rattle.rehearsed.specs.Run.{Told, told_of}
 use Rattle.rehearsed.proofs.Same.{Same}
 use Rattle.line_forms.proofs.Named.{is_event}
 use Rattle.replay_parts.proofs.Good.{event_good}
-use Rattle.rehearsed.proofs.Events.{Ran, Prints, plays, prints-one, is-run}
+use Rattle.rehearsed.proofs.Events.{Ran, Prints, plays, prints_one, is_run_lem}
 use Rattle.recording.specs.Recording.{Recording, event_count, recording_in}
 use Rattle.recording.specs.Test.{is_bad_in}
 use Rattle.recording.proofs.Sizes.{Sized, sized}
@@ -40,20 +38,20 @@ abbrev recorded_at : Recording → ℕ → Recorded
 recorded_at r i = record { line = line_of r i; answer = answer_of r i }
 
 module _ (r : Recording) where
-  abbrev toldBy : ℕ → ℕ → Stage → List Item → List ℕ → List Told
-  toldBy zero i st items bytes = []
-  toldBy (suc more) i st items bytes =
+  abbrev told_by : ℕ → ℕ → Stage → List Item → List ℕ → List Told
+  told_by zero i st items bytes = []
+  told_by (suc more) i st items bytes =
       let t = turn_of st items bytes (line_of r i) in
-      told_of (line_of r i) t ∷ toldBy more (i + 1) t.stage t.items t.bytes
+      told_of (line_of r i) t ∷ told_by more (i + 1) t.stage t.items t.bytes
 
   prints : Sized r → (more i : ℕ) → i + more ≤ event_count r → (st : Stage) (items : List Item) (bytes : List ℕ)
       (w : Board) → Same r.nodes st items bytes w → Ran r.nodes w
-      → Prints r.nodes w (toldBy more i st items bytes)
+      → Prints r.nodes w (told_by more i st items bytes)
   prints g zero i h st items bytes w s ran = refl
   prints g (suc more) i h st items bytes w s ran =
       let l = line_of r i in
       let t = turn_of st items bytes l in
-      prints-one r.nodes g.board g.nodes w l t (toldBy more (i + 1) t.stage t.items t.bytes) ran
+      prints_one r.nodes g.board g.nodes w l t (told_by more (i + 1) t.stage t.items t.bytes) ran
       (plays r.nodes g.board g.nodes st items bytes w s ran l
       (ap (λ size. is_event size l) s.size ∙ event_good r g i (omega arith)))
       (prints g more (i + 1) (omega arith) t.stage t.items t.bytes)
@@ -61,13 +59,13 @@ module _ (r : Recording) where
   -- played to the end, they have answered as recorded
   answered : (more i : ℕ) (st : Stage) (items : List Item) (bytes : List ℕ)
       → i + more ≤ (replay_from r more i st items bytes).same
-      → map said (toldBy more i st items bytes) ≡ list i more (recorded_at r)
+      → map said (told_by more i st items bytes) ≡ list i more (recorded_at r)
   unfolding replay_from
   answered zero i st items bytes h = refl
   answered (suc more) i st items bytes h =
       let t = turn_of st items bytes (line_of r i) in
       cases
-      (λ c. i + suc more ≤ c.same → map said (toldBy (suc more) i st items bytes) ≡ list i (suc more) (recorded_at r))
+      (λ c. i + suc more ≤ c.same → map said (told_by (suc more) i st items bytes) ≡ list i (suc more) (recorded_at r))
       (eqb t.answer (answer_of r i)) (replay_from r more (i + 1) t.stage t.items t.bytes) _
       (λ e l.
       let rest =
@@ -95,11 +93,11 @@ every_replay bs items bytes e =
     let g = sized r (survives.read_good bs z.0) in
     let played = choose_no (course 0 items bytes) (replay_from r n 0 st items bytes) z.0 in
     record {
-      told = toldBy r n 0 st items bytes;
+      told = told_by r n 0 st items bytes;
       same =
           answered r n 0 st items bytes
           (omega (arith, ltb-false (replay bs items bytes).same n z.1, ap (λ c. c.same) played));
       is_run =
-          is-run r.nodes g.board g.nodes items bytes (toldBy r n 0 st items bytes)
+          is_run_lem r.nodes g.board g.nodes items bytes (told_by r n 0 st items bytes)
           (prints r g n 0 (omega arith) st items bytes);
     }

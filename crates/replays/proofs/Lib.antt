@@ -1,3 +1,1 @@
-pub mod Values
-pub mod Does
 pub mod Played

@@ -16,8 +16,8 @@ use Rattle.board_states.specs.States.{opening}
 use Rattle.board_states.specs.declared.Stage.{Stage}
 use Rattle.stage.specs.declared.Acted.{Acted}
 use Rattle.turns.specs.Events.{Turn, turn_of}
-use Rattle.line_step.specs.Steps.{stepped, steppedBytes, stepped_items}
-use Rattle.line_turns.proofs.Turned.{near, turn_after, step-turns, step_keeps}
+use Rattle.line_step.specs.Steps.{stepped, stepped_bytes, stepped_items}
+use Rattle.line_turns.proofs.Turned.{near, turn_after, step_turns, step_keeps}
 use Rattle.recording.specs.Recording.{Recording, event_count, recording_in}
 use Rattle.recording.specs.Test.{is_bad, is_bad_in}
 use Rattle.recording.proofs.Sizes.{Sized, sized}
@@ -46,13 +46,21 @@ module _ (recording : List ℕ) (items : List Item) (bytes : List ℕ) where
     within : st.under ≤ room_for (length zs) bs
     rest : replay_from r (most - i) i st zs bs ≡ goal
 
-  -- at the loop's head, with at most j events to come: zs and bs are lent memory
-  pub record Inv (j i most : ℕ) (st : Stage) (zs : List Item) (bs : List ℕ) : Type 0 where
-    pub enough : most ≤ i + j
+  -- at the loop's head: zs and bs are lent memory
+  pub record Inv (i most : ℕ) (st : Stage) (zs : List Item) (bs : List ℕ) : Type 0 where
     live : i < most → Live i most st zs bs
     pub over : most ≤ i → course most zs bs ≡ goal
-    pub long-items : length zs ≡ length items
-    pub long-bytes : length bs ≡ length bytes
+
+  -- a recording has no more events than its bytes
+  pub few : (i most : ℕ) (st : Stage) (zs : List Item) (bs : List ℕ) → Inv i most st zs bs → i < most → i < 60000
+  few i most st zs bs inv below =
+      let live = inv.live below in let room = (sized r live.good).room in omega (arith, live.all, room, below)
+
+  -- never are more events to come than before
+  pub limit_most : (i answer most : ℕ) → i ≤ most → limit_of r i answer most ≤ most
+  unfolding limit_of
+  limit_most i answer most h =
+      cases (λ (n : ℕ). n ≤ most) (eqb answer (answer_of r i)) _ _ (λ e. omega arith) (λ e. h)
 
   -- none is left
   none_left : (most i : ℕ) (st : Stage) (zs : List Item) (bs : List ℕ) → i ≤ most
@@ -64,14 +72,14 @@ module _ (recording : List ℕ) (items : List Item) (bytes : List ℕ) where
       ap (λ (n : ℕ). course n zs bs) s ∙ (rw z at e)
 
   -- an event is played
-  pub again : (j i most : ℕ) (st : Stage) (zs : List Item) (bs : List ℕ) → Inv (suc j) i most st zs bs → i < most
+  pub again : (i most : ℕ) (st : Stage) (zs : List Item) (bs : List ℕ) → Inv i most st zs bs → i < most
       → (line : Line) → line ≡ line_of r i → (a : Acted) → a ≡ stepped st zs bs line
       → (zs' : List Item) → length zs' ≡ length zs → zs' ≡ stepped_items st.under a zs
-      → (bs' : List ℕ) → length bs' ≡ length bs → bs' ≡ steppedBytes st zs bs line
+      → (bs' : List ℕ) → length bs' ≡ length bs → bs' ≡ stepped_bytes st zs bs line
       → (most' : ℕ) → most' ≡ limit_of r i a.answer most
-      → Inv j (i + 1) most' a.stage zs' bs'
+      → Inv (i + 1) most' a.stage zs' bs'
   unfolding replay_from limit_of
-  again j i most st zs bs inv below line line-is a a-is zs' l-items zs-is bs' l-bytes bs-is most' most-is =
+  again i most st zs bs inv below line line-is a a-is zs' l-items zs-is bs' l-bytes bs-is most' most-is =
       go (eqb a.answer (answer_of r i)) (subst rests (sym came) (rw one at live.rest)) most-is
     where
       live : Live i most st zs bs
@@ -96,7 +104,7 @@ module _ (recording : List ℕ) (items : List Item) (bytes : List ℕ) where
             answer = (a-is k).answer;
           })
           ∙ ap (turn_after st zs bs) line-is
-          ∙ step-turns st zs bs live.within (omega (arith, live.size, sizes.board))
+          ∙ step_turns st zs bs live.within (omega (arith, live.size, sizes.board))
           (omega (arith, live.size, sizes.nodes)) (line_of r i)
           (near r.nodes (omega (arith, sizes.nodes)) (line_of r i) (event_good r sizes i (omega (arith, live.all))))
 
@@ -110,10 +118,9 @@ module _ (recording : List ℕ) (items : List Item) (bytes : List ℕ) where
       one = omega arith
 
       go : (b : Bool) → choose b (replay_from r (most - (i + 1)) (i + 1) a.stage zs' bs') (course i zs' bs') ≡ goal
-          → most' ≡ choose b most i → Inv j (i + 1) most' a.stage zs' bs'
+          → most' ≡ choose b most i → Inv (i + 1) most' a.stage zs' bs'
       go true e m =
           record {
-            enough = omega (arith, inv.enough);
             live =
                 λ h.
                 record {
@@ -124,42 +131,33 @@ module _ (recording : List ℕ) (items : List Item) (bytes : List ℕ) where
                   rest = rw m e;
                 };
             over = none_left most' (i + 1) a.stage zs' bs' (omega (arith, m)) (rw m e);
-            long-items = l-items ∙ inv.long-items;
-            long-bytes = l-bytes ∙ inv.long-bytes;
           }
       go false e m =
           record {
-            enough = omega (arith, inv.enough);
             live = λ h. absurd (omega (arith, m, h));
             over = λ h. rw m e;
-            long-items = l-items ∙ inv.long-items;
-            long-bytes = l-bytes ∙ inv.long-bytes;
           }
 
   -- the start
-  pub start : (o : Start) → o ≡ start_of recording → Inv o.events 0 o.events o.stage items bytes
+  pub start : (o : Start) → o ≡ start_of recording → Inv 0 o.events o.stage items bytes
   unfolding start_of replay
   start o o_is = subst Starts (sym o_is) (cases Starts (is_bad_in recording) _ _ refused good)
     where
       Starts : Start → Type 0
-      Starts s = Inv s.events 0 s.events s.stage items bytes
+      Starts s = Inv 0 s.events s.stage items bytes
 
-      refused : is_bad_in recording ≡ true → Inv 0 0 0 (opening 0) items bytes
+      refused : is_bad_in recording ≡ true → Inv 0 0 (opening 0) items bytes
       refused e =
           record {
-            enough = omega arith;
             live = λ h. absurd (omega (arith, h));
             over = λ h. sym (choose_yes _ _ e);
-            long-items = refl;
-            long-bytes = refl;
           }
 
-      good : is_bad_in recording ≡ false → Inv (event_count r) 0 (event_count r) (opening r.nodes) items bytes
+      good : is_bad_in recording ≡ false → Inv 0 (event_count r) (opening r.nodes) items bytes
       good e =
           let rest = ap (λ (n : ℕ). replay_from r n 0 (opening r.nodes) items bytes) (sub-zero (event_count r))
           ∙ sym (choose_no (course 0 items bytes) _ e) in
           record {
-            enough = omega arith;
             live = λ h.
                 record {
                   good = survives.read_good recording e;
@@ -169,16 +167,14 @@ module _ (recording : List ℕ) (items : List Item) (bytes : List ℕ) where
                   rest = rest;
                 };
             over = none_left (event_count r) 0 (opening r.nodes) items bytes (omega arith) rest;
-            long-items = refl;
-            long-bytes = refl;
           }
 
   -- the end
-  pub finish : (j i most : ℕ) (st : Stage) (zs : List Item) (bs : List ℕ) → Inv j i most st zs bs → most ≤ i
+  pub finish : (i most : ℕ) (st : Stage) (zs : List Item) (bs : List ℕ) → Inv i most st zs bs → most ≤ i
       → (o : Start) → o ≡ start_of recording → (e : Replayed) → e ≡ end_of o.why o.events most
       → (e ≡ replay_answer recording items bytes) × ((zs ≡ goal.items) × (bs ≡ goal.bytes))
   unfolding start_of replay_answer
-  finish j i most st zs bs inv h o o_is e e-is = (
+  finish i most st zs bs inv h o o_is e e-is = (
     e-is ∙ (λ k. end_of (o_is k).why (o_is k).events (c k).same) ∙ answers (is_bad_in recording),
     (ap (λ (x : Course). x.items) c, ap (λ (x : Course). x.bytes) c),
   )

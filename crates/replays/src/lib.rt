@@ -1,5 +1,7 @@
 // A recording played again on a fresh board of up to 16 nodes. The headers and the bytes of the items under way are lent
 // by the caller.
+#![tactic(auto)]
+
 ghost use Rattle.std.specs.Prelude.{◌≡◌};
 ghost use Rattle.replays.specs.Replay.{replay, replay_answer};
 

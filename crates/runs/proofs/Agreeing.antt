@@ -18,9 +18,9 @@ use Rattle.cycle.proofs.Ledger.{Ledger, Reached}
 use Rattle.cycle.proofs.Events.{state_of}
 use Rattle.events.proofs.Setting.{Setting, tree, awaited_is}
 use Rattle.node.specs.Sums.{Has}
-use Rattle.node.proofs.Clauses.{first_step, second-step}
+use Rattle.node.proofs.Clauses.{first_step, second_step}
 use Rattle.events.proofs.View.{field_of, first_entries, second_entries, view, Alike, Like, slots_first, slots_second}
-use Rattle.events.proofs.View.{own_is, issued_is, agree-like}
+use Rattle.events.proofs.View.{own_is, issued_is, agree_like}
 use Rattle.events.proofs.Sim.{Holds}
 
 alike_sym : (p s : ℕ) (a b : Option Entries) → Alike p s a b → Alike p s b a
@@ -87,10 +87,10 @@ agree_back_first L p n k o e q l (Agrees.first w x m g c1 c2 c3 c4) =
 agree_back_second : (L : Limits) (p : ℕ) (n : Node) (k : ℕ) (o : Option ℕ) → dims n ≡ p
     → awaited n.nodes k n.number ≡ o
     → k < p → Agrees p (field_limit L) (view p n) (p + k) o → agrees L n 2 k ≡ true
-agree_back_second L p n k o e q l Agrees.alone = second-step L n k (λ a. clash (sym (ap is_none q) ∙ a))
+agree_back_second L p n k o e q l Agrees.alone = second_step L n k (λ a. clash (sym (ap is_none q) ∙ a))
 agree_back_second L p n k o e q l (Agrees.first w x m g c1 c2 c3 c4) = absurd (omega arith)
 agree_back_second L p n k o e q l (Agrees.second w x m g c3 c5 c6) =
-    second-step L n k (λ a.
+    second_step L n k (λ a.
     record {
       stored = s.0;
       within = omega (arith, own2, val sent_all, c3);
@@ -118,8 +118,8 @@ module _ {L : Limits} {P : ℕ} (setting : Setting L P) where
 
   module _ (B : Ledger) (r : Reached (tree setting) (field_limit L) B) (a c : ℕ) (h : a < P) (n : Node)
       (o : Holds setting a c n (state_of B a)) where
-    dims-is : dims n ≡ p
-    dims-is = ap dimension o.nodes
+    dims_is : dims n ≡ p
+    dims_is = ap dimension o.nodes
 
     awaits : (k : ℕ) → awaited n.nodes k n.number ≡ (tree setting).awaited k a
     awaits k = rw (o.nodes, o.number) (awaited_is setting k a)
@@ -129,15 +129,15 @@ module _ {L : Limits} {P : ℕ} (setting : Setting L P) where
         → Agrees (dimension P) (field_limit L) (state_of B a) k ((tree setting).awaited (dim_of (dimension P) k) a)
         → agrees L n 1 k ≡ true
     agrees_first k l g =
-        agree_back_first L p n k ((tree setting).awaited k a) dims-is (awaits k) l
-        (agree-like p (state_of B a) (view p n) (like_sym p (view p n) (state_of B a) o.like) (field_limit L) k
+        agree_back_first L p n k ((tree setting).awaited k a) dims_is (awaits k) l
+        (agree_like p (state_of B a) (view p n) (like_sym p (view p n) (state_of B a) o.like) (field_limit L) k
         ((tree setting).awaited k a) (omega arith)
         (subst (λ d. Agrees p (field_limit L) (state_of B a) k ((tree setting).awaited d a)) (dim_first p k l) g))
 
-    pub agrees-second : (k : ℕ) → k < dimension P → Agrees (dimension P) (field_limit L) (state_of B a) (dimension P + k)
+    pub agrees_second : (k : ℕ) → k < dimension P → Agrees (dimension P) (field_limit L) (state_of B a) (dimension P + k)
         ((tree setting).awaited (dim_of (dimension P) (dimension P + k)) a) → agrees L n 2 k ≡ true
-    agrees-second k l g =
-        agree_back_second L p n k ((tree setting).awaited k a) dims-is (awaits k) l
-        (agree-like p (state_of B a) (view p n) (like_sym p (view p n) (state_of B a) o.like) (field_limit L) (p + k)
+    agrees_second k l g =
+        agree_back_second L p n k ((tree setting).awaited k a) dims_is (awaits k) l
+        (agree_like p (state_of B a) (view p n) (like_sym p (view p n) (state_of B a) o.like) (field_limit L) (p + k)
         ((tree setting).awaited k a) (omega arith)
         (subst (λ d. Agrees p (field_limit L) (state_of B a) (p + k) ((tree setting).awaited d a)) (dim_second p k) g))

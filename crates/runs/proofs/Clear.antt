@@ -16,7 +16,7 @@ use Rattle.node.specs.State.{valid}
 use Rattle.node.specs.Answers.{Given, Outcome, done, dropped, refused}
 use Rattle.node.specs.Calls.{take, frame_in, by_timing}
 use Rattle.node.specs.declared.Node.{Node}
-use Rattle.node.proofs.Ways.{Comes, away, frame-comes, timing_now, timing_early, timing_late, frame_of as fieldsIn}
+use Rattle.node.proofs.Ways.{Comes, away, frame_comes, timing_now, timing_early, timing_late, frame_of as fieldsIn}
 
 seven : (x : ℕ) → refused 7 ≡ refused x → x ≡ 7
 seven x e = cc
@@ -51,7 +51,7 @@ frame_clear L n bs c x df e = by df
         → (by_timing n (fieldsIn L n bs) t).answer ≡ refused x
     is t q =
         ap (λ t. (by_timing n (fieldsIn L n bs) t).answer) (sym q)
-        ∙ ap (λ (g : Given Outcome). g.answer) (sym (frame-comes L n bs c)) ∙ e
+        ∙ ap (λ (g : Given Outcome). g.answer) (sym (frame_comes L n bs c)) ∙ e
 
     by : (away L n bs ≡ 0) ⊎ ((away L n bs ≡ 1) ⊎ (away L n bs ≡ 255)) → x ≡ 7
     by (inl d) = not_refused x (is Now (timing_now (fieldsIn L n bs).phase n.phase d))

@@ -13,24 +13,24 @@ use Rattle.node.specs.Sums.{dims}
 use Rattle.node.specs.Answers.{Given, Barrier, sent}
 use Rattle.node.specs.Barrier.{frame_due, length_due, lent_after, barrier, barrier_bytes}
 use Rattle.node.specs.declared.Node.{Node}
-use Rattle.node.proofs.Valid.{valid-known}
-use Rattle.node.proofs.Ways.{CallWay, call-way}
+use Rattle.node.proofs.Valid.{valid_known}
+use Rattle.node.proofs.Ways.{CallWay, call_way}
 use Rattle.node.proofs.Bound.{due_length}
-use Rattle.events.specs.Board.{Board, calls, gave, posted, after_call, callEvent, step}
+use Rattle.events.specs.Board.{Board, calls, gave, posted, after_call, call_event, step}
 use Rattle.runs.specs.LinkBytes.{LinkBytes}
 
 module _ (L : Limits) (n : Node) (to : List ℕ) (len : ℕ) where
   -- the length answered is that of the frame
-  sent-length : (room : ℕ) {q : Given Barrier} → CallWay L n room q → q.answer ≡ sent to len
+  sent_length : (room : ℕ) {q : Given Barrier} → CallWay L n room q → q.answer ≡ sent to len
       → length (frame_bytes (dims n) (frame_due n)) ≡ len
-  sent-length room (CallWay.sends first rest v b f e l) s =
-      let z : length_due n ≡ len = cc in due_length n (valid-known L n v).pass ∙ z
-  sent-length room (CallWay.refused x c) s = let z : ◌≡◌ {A = ℕ} 0 1 = cc in absurd (omega arith)
-  sent-length room (CallWay.waits v b d p g) s = let z : ◌≡◌ {A = ℕ} 0 1 = cc in absurd (omega arith)
-  sent-length room (CallWay.next v b d g p) s = let z : ◌≡◌ {A = ℕ} 0 1 = cc in absurd (omega arith)
-  sent-length room (CallWay.second v b d p g l f) s = let z : ◌≡◌ {A = ℕ} 0 1 = cc in absurd (omega arith)
-  sent-length room (CallWay.leaves v b d p g l f) s = let z : ◌≡◌ {A = ℕ} 0 1 = cc in absurd (omega arith)
-  sent-length room (CallWay.single v b d) s = let z : ◌≡◌ {A = ℕ} 0 1 = cc in absurd (omega arith)
+  sent_length room (CallWay.sends first rest v b f e l) s =
+      let z : length_due n ≡ len = cc in due_length n (valid_known L n v).pass ∙ z
+  sent_length room (CallWay.refused x c) s = let z : ◌≡◌ {A = ℕ} 0 1 = cc in absurd (omega arith)
+  sent_length room (CallWay.waits v b d p g) s = let z : ◌≡◌ {A = ℕ} 0 1 = cc in absurd (omega arith)
+  sent_length room (CallWay.next v b d g p) s = let z : ◌≡◌ {A = ℕ} 0 1 = cc in absurd (omega arith)
+  sent_length room (CallWay.second v b d p g l f) s = let z : ◌≡◌ {A = ℕ} 0 1 = cc in absurd (omega arith)
+  sent_length room (CallWay.leaves v b d p g l f) s = let z : ◌≡◌ {A = ℕ} 0 1 = cc in absurd (omega arith)
+  sent_length room (CallWay.single v b d) s = let z : ◌≡◌ {A = ℕ} 0 1 = cc in absurd (omega arith)
 
   written : (buf : List ℕ) → (barrier L n (length buf)).answer ≡ sent to len
       → take len (barrier_bytes L n buf) ≡ frame_bytes (dims n) (frame_due n)
@@ -38,7 +38,7 @@ module _ (L : Limits) (n : Node) (to : List ℕ) (len : ℕ) where
   written buf s =
       let bytes : List ℕ = frame_bytes (dims n) (frame_due n) in
       ap (λ q. take len (lent_after n buf q)) s
-      ∙ ap (λ k. take k (bytes ++ drop len buf)) (sym (sent-length (length buf) (call-way L n (length buf)) s))
+      ∙ ap (λ k. take k (bytes ++ drop len buf)) (sym (sent_length (length buf) (call_way L n (length buf)) s))
       ∙ take-append_seam bytes (drop len buf)
 
 go_out_lem : (L : Limits) (P : ℕ) (w : Board) (a : ℕ) (buf to : List ℕ) (len : ℕ) → a < P
@@ -48,7 +48,7 @@ go_out_lem : (L : Limits) (P : ℕ) (w : Board) (a : ℕ) (buf to : List ℕ) (l
 unfolding step
 go_out_lem L P w a buf to len h s =
     let n : Node = w.nodes a in
-    ap (λ (x : Board). x.items) (choose_yes (callEvent L P w a (length buf)) w (lt-ltb a P h))
+    ap (λ (x : Board). x.items) (choose_yes (call_event L P w a (length buf)) w (lt-ltb a P h))
     ∙ ap (λ q. (after_call (gave w a (barrier L n (length buf)).node) a n q).items) s
     ∙ ap (λ bytes. w.items ++ posted a bytes (w.count a) to) (sym (written L n to len buf s))
 

@@ -2,7 +2,6 @@
 use mathlib.Core.Path.{◌≡◌, refl, sym, ap, ◌∙◌, subst}
 use mathlib.Core.Logic.{◌≢◌, ◌⊎◌, inl, inr}
 use mathlib.Core.Bool.{Bool, true, false}
-use mathlib.Core.Option.{none}
 use mathlib.Core.List.{List, [], ◌∷◌, Memᴰ}
 use Prim.Native.Nat.{ℕ, zero, suc, ◌+◌, ◌-◌, ◌*◌, ◌≤◌, ◌<◌}
 use native.Mathlib.Decide.{ℕ_discrete}
@@ -16,7 +15,6 @@ use Rattle.frame.specs.Frame.{frame_length}
 use Rattle.node.specs.Sums.{dims}
 use Rattle.node.specs.Agree.{agrees}
 use Rattle.node.specs.State.{valid}
-use Rattle.node.specs.Change.{at}
 use Rattle.node.specs.Answers.{Given, Barrier}
 use Rattle.node.specs.Barrier.{length_due, receivers_due, leaving, moving, looking, barrier}
 use Rattle.node.specs.declared.Node.{Node}
@@ -27,15 +25,15 @@ use Rattle.cycle.proofs.Lists.{All}
 use Rattle.cycle.proofs.OnePhase.{Parcel, dim_of, Unheard, Agrees}
 use Rattle.cycle.proofs.AtRest.{least}
 use Rattle.cycle.proofs.Ledger.{Dated, Ledger, of_phase}
-use Rattle.cycle.proofs.Reached.{no-board-sticks}
+use Rattle.cycle.proofs.Reached.{no_board_sticks}
 use Rattle.cycle.proofs.Events.{state_of}
 use Rattle.events.proofs.Setting.{Setting, tree}
-use Rattle.node.proofs.Ways.{NoneDue, call-sends, call-looks}
-use Rattle.events.proofs.Pairs.{pair-all, placed, mate}
+use Rattle.node.proofs.Ways.{NoneDue, call_sends_lem, call_looks}
+use Rattle.events.proofs.Pairs.{pair_all, placed, mate}
 use Rattle.events.proofs.Sim.{Carried, Sim}
 use Rattle.node.proofs.Valid.{step_first, step_second}
-use Rattle.events.proofs.Caller.{mute-of}
-use Rattle.runs.proofs.Agreeing.{agrees_first, agrees-second}
+use Rattle.events.proofs.Caller.{mute_of}
+use Rattle.runs.proofs.Agreeing.{agrees_first, agrees_second}
 use Rattle.runs.proofs.Calm.{Calm, calm_run}
 
 -- ---- looking for one
@@ -120,8 +118,8 @@ phase_all n G (m ∷ ms) h = go (ℕ_discrete m.phase n) (phase_all n G ms h.1)
 module _ (L : Limits) (P : ℕ) where
   -- ---- a node that would go on
 
-  look-goes : (n : Node) → agrees L n n.pass n.dim ≡ true → Goes L P (looking L n).answer
-  look-goes n g =
+  look_goes : (n : Node) → agrees L n n.pass n.dim ≡ true → Goes L P (looking L n).answer
+  look_goes n g =
       cases Going (eqb (dims n) 0) (leaving n) _ (λ e. Goes.leaving)
       (λ e. subst Going (sym (choose_yes (moving n) _ g))
       (cases Going (ltb (suc n.dim) (dims n)) _ _ (λ f. Goes.moving)
@@ -131,17 +129,17 @@ module _ (L : Limits) (P : ℕ) where
       Going y = Goes L P y.answer
 
   -- a frame is due
-  send-goes : (n : Node) (len : ℕ) → valid L n ≡ true → n.busy ≡ false → Due n → length_due n ≤ len
+  send_goes : (n : Node) (len : ℕ) → valid L n ≡ true → n.busy ≡ false → Due n → length_due n ≤ len
       → Goes L P (barrier L n len).answer
-  send-goes n len v b (due first rest f e) l =
-      subst (λ (y : Given Barrier). Goes L P y.answer) (sym (call-sends L n len first rest v b f e l))
+  send_goes n len v b (due first rest f e) l =
+      subst (λ (y : Given Barrier). Goes L P y.answer) (sym (call_sends_lem L n len first rest v b f e l))
       (Goes.sending _ _)
 
   -- none is due, and the step agrees
-  move-goes : (n : Node) (len : ℕ) → valid L n ≡ true → n.busy ≡ false → NoneDue L n
+  move_goes : (n : Node) (len : ℕ) → valid L n ≡ true → n.busy ≡ false → NoneDue L n
       → agrees L n n.pass n.dim ≡ true → Goes L P (barrier L n len).answer
-  move-goes n len v b d g =
-      subst (λ (y : Given Barrier). Goes L P y.answer) (sym (call-looks L n len v b d)) (look-goes n g)
+  move_goes n len v b d g =
+      subst (λ (y : Given Barrier). Goes L P y.answer) (sym (call_looks L n len v b d)) (look_goes n g)
 
   longest : (p pass k : ℕ) → (pass ≡ 1) ⊎ (pass ≡ 2) → frame_length p pass k ≤ frame_length p 1 0
   unfolding frame_length
@@ -163,9 +161,9 @@ module _ {L : Limits} {P : ℕ} (setting : Setting L P) where
     ok : (a : ℕ) → a < P → valid L (w.nodes a) ≡ true
     ok a h = s.standing.accepted a h
 
-    to-lt : (m : Item) → Memᴰ m w.items → m.to < P
-    to-lt m k =
-        (mate (Carried setting) m w.items ledger.items (placed m w.items k) sim.items).related.to-lt
+    to_lt : (m : Item) → Memᴰ m w.items → m.to < P
+    to_lt m k =
+        (mate (Carried setting) m w.items ledger.items (placed m w.items k) sim.items).related.to_lt
 
     -- a node of the oldest phase
     u : ℕ
@@ -192,20 +190,20 @@ module _ {L : Limits} {P : ℕ} (setting : Setting L P) where
     abbrev Sending : ℕ → Type 0
     Sending a = (w.count a ≡ w.count u) × Due (w.nodes a)
 
-    idle-of : NoneBelow P Working → (a : ℕ) → a < P → w.count a ≡ w.count u → (w.nodes a).busy ≡ false
-    idle-of f a h e = sim.busy a h ∙ false_is (w.busy a) (λ q. f a h (e, q))
+    idle_of : NoneBelow P Working → (a : ℕ) → a < P → w.count a ≡ w.count u → (w.nodes a).busy ≡ false
+    idle_of f a h e = sim.busy a h ∙ false_is (w.busy a) (λ q. f a h (e, q))
 
-    mute-now : NoneBelow P Sending → (a : ℕ) → a < P → w.count a ≡ w.count u → NoneDue L (w.nodes a)
-    mute-now f a h e = none_due L (w.nodes a) (λ q. f a h (e, q))
+    mute_now : NoneBelow P Sending → (a : ℕ) → a < P → w.count a ≡ w.count u → NoneDue L (w.nodes a)
+    mute_now f a h e = none_due L (w.nodes a) (λ q. f a h (e, q))
 
     stuck : NoneBelow P Working → All (λ m. Coming m → ⊥) w.items → NoneBelow P Sending
         → (a : ℕ) × ((a < P) × ((w.count a ≡ w.count u)
         × (agrees L (w.nodes a) (w.nodes a).pass (w.nodes a).dim ≡ true)))
     stuck f1 f2 f3 =
-        let r = no-board-sticks s.standing.played.reached u hu
+        let r = no_board_sticks s.standing.played.reached u hu
         (s.calm (ledger.phase u))
         (λ y h. omega (arith, old y h, sim.counts u, sim.counts y)) rest under nobody in
-        (r.0, (r.1.0, (back r.0 r.1.1.0, agrees-of r.0 r.1.0 r.1.1.0 r.1.1.1)))
+        (r.0, (r.1.0, (back r.0 r.1.1.0, agrees_of r.0 r.1.0 r.1.1.0 r.1.1.1)))
       where
         back : (a : ℕ) → ledger.phase a ≡ ledger.phase u → w.count a ≡ w.count u
         back a e = sim.counts a ∙ e ∙ sym (sim.counts u)
@@ -214,7 +212,7 @@ module _ {L : Limits} {P : ℕ} (setting : Setting L P) where
             → ((ledger.pages (ledger.phase u)).nodes a).busy ≡ false
         rest a h e =
             subst (λ n. ((ledger.pages n).nodes a).busy ≡ false) e
-            (sym (sim.node a h).like.busy ∙ idle-of f1 a h (back a e))
+            (sym (sim.node a h).like.busy ∙ idle_of f1 a h (back a e))
 
         nobody : (a : ℕ) → a < P → ledger.phase a ≡ ledger.phase u
             → (((ledger.pages (ledger.phase u)).nodes a).flag ≡ false) ⊎ Unheard (tree setting) a
@@ -222,14 +220,14 @@ module _ {L : Limits} {P : ℕ} (setting : Setting L P) where
         nobody a h e =
             subst (λ n. (((ledger.pages n).nodes a).flag ≡ false) ⊎ Unheard (tree setting) a
             ((ledger.pages n).nodes a).step) e
-            (mute-of s.standing.played a h (mute-now f3 a h (back a e)))
+            (mute_of s.standing.played a h (mute_now f3 a h (back a e)))
 
         under : All (λ t. (t.to < P) × (ledger.phase u < ledger.phase t.to))
             (of_phase (ledger.phase u) ledger.items)
         under =
             phase_all (ledger.phase u)
             (λ t. (t.to < P) × (ledger.phase u < ledger.phase t.to)) ledger.items
-            (pair-all (Carried setting) (λ m. Coming m → ⊥)
+            (pair_all (Carried setting) (λ m. Coming m → ⊥)
             (λ m. m.phase ≡ ledger.phase u
             → (m.item.to < P) × (ledger.phase u < ledger.phase m.item.to))
             (λ m t c f e. one m t c f e) w.items ledger.items sim.items f2)
@@ -237,18 +235,18 @@ module _ {L : Limits} {P : ℕ} (setting : Setting L P) where
             one : (m : Item) (t : Dated) → Carried setting m t → (Coming m → ⊥) → t.phase ≡ ledger.phase u
                 → (t.item.to < P) × (ledger.phase u < ledger.phase t.item.to)
             one m t c f e =
-                let d : m.to < P = c.to-lt in
+                let d : m.to < P = c.to_lt in
                 let z : w.count m.to ≡ ledger.phase t.item.to = sim.counts m.to
                 ∙ ap ledger.phase c.to in
                 let ne : w.count m.to ≢ w.count u = λ y. f (c.phase ∙ e ∙ sym (sim.counts u), y) in
                 (omega (arith, c.to), omega (arith, old m.to d, sim.counts u, z, ne))
 
-        agrees-of : (a : ℕ) → a < P → ledger.phase a ≡ ledger.phase u
+        agrees_of : (a : ℕ) → a < P → ledger.phase a ≡ ledger.phase u
             → Agrees p (field_limit L) ((ledger.pages (ledger.phase u)).nodes a)
             ((ledger.pages (ledger.phase u)).nodes a).step
             ((tree setting).awaited (dim_of p ((ledger.pages (ledger.phase u)).nodes a).step) a)
             → agrees L (w.nodes a) (w.nodes a).pass (w.nodes a).dim ≡ true
-        agrees-of a h e g =
+        agrees_of a h e g =
             by (sim.node a h).pass (subst (λ n. Agrees p (field_limit L) ((ledger.pages n).nodes a)
             ((ledger.pages n).nodes a).step
             ((tree setting).awaited (dim_of p ((ledger.pages n).nodes a).step) a)) (sym e) g)
@@ -258,24 +256,24 @@ module _ {L : Limits} {P : ℕ} (setting : Setting L P) where
                 ((tree setting).awaited (dim_of p (state_of ledger a).step) a)
                 → agrees L (w.nodes a) (w.nodes a).pass (w.nodes a).dim ≡ true
             by (inl q) g =
-                let at-is : (state_of ledger a).step ≡ (w.nodes a).dim = sym (sim.node a h).like.step
+                let at_is : (state_of ledger a).step ≡ (w.nodes a).dim = sym (sim.node a h).like.step
                 ∙ step_first p (w.nodes a).pass (w.nodes a).dim q in
                 subst (λ x. agrees L (w.nodes a) x (w.nodes a).dim ≡ true) (sym q)
                 (agrees_first setting ledger s.standing.played.reached a (w.count a) h (w.nodes a)
                 (sim.node a h) (w.nodes a).dim (sim.node a h).low
                 (subst (λ t. Agrees p (field_limit L) (state_of ledger a) t
-                ((tree setting).awaited (dim_of p t) a)) at-is g))
+                ((tree setting).awaited (dim_of p t) a)) at_is g))
             by (inr q) g =
-                let at-is : (state_of ledger a).step ≡ p + (w.nodes a).dim = sym (sim.node a h).like.step
+                let at_is : (state_of ledger a).step ≡ p + (w.nodes a).dim = sym (sim.node a h).like.step
                 ∙ step_second p (w.nodes a).pass (w.nodes a).dim q in
                 subst (λ x. agrees L (w.nodes a) x (w.nodes a).dim ≡ true) (sym q)
-                (agrees-second setting ledger s.standing.played.reached a (w.count a) h (w.nodes a)
+                (agrees_second setting ledger s.standing.played.reached a (w.count a) h (w.nodes a)
                 (sim.node a h) (w.nodes a).dim (sim.node a h).low
                 (subst (λ t. Agrees p (field_limit L) (state_of ledger a) t
-                ((tree setting).awaited (dim_of p t) a)) at-is g))
+                ((tree setting).awaited (dim_of p t) a)) at_is g))
 
-    lives-now : Lives L P w
-    lives-now =
+    lives_now : Lives L P w
+    lives_now =
         go (search_below Working
         (λ a. both_dec (ℕ_discrete (w.count a) (w.count u)) (true_dec (w.busy a))) P)
         (search_list Coming
@@ -283,9 +281,9 @@ module _ {L : Limits} {P : ℕ} (setting : Setting L P) where
         (search_below Sending
         (λ a. both_dec (ℕ_discrete (w.count a) (w.count u)) (due? (w.nodes a))) P)
       where
-        frame-le : (a : ℕ) → a < P → (len : ℕ) → frame_length (dimension P) 1 0 ≤ len
+        frame_le : (a : ℕ) → a < P → (len : ℕ) → frame_length (dimension P) 1 0 ≤ len
             → frame_length (dims (w.nodes a)) (w.nodes a).pass (w.nodes a).dim ≤ len
-        frame-le a h len l =
+        frame_le a h len l =
             let z : frame_length (dims (w.nodes a)) (w.nodes a).pass (w.nodes a).dim ≡ frame_length p
             (w.nodes a).pass (w.nodes a).dim =
             ap (λ d. frame_length d (w.nodes a).pass (w.nodes a).dim) (ap dimension (sim.node a h).nodes) in
@@ -295,19 +293,19 @@ module _ {L : Limits} {P : ℕ} (setting : Setting L P) where
             ⊎ All (λ m. Coming m → ⊥) w.items → SomeBelow P Sending ⊎ NoneBelow P Sending → Lives L P w
         go (inl r) f2 f3 = Lives.busy r.0 (r.1.0, from_old r.0 r.1.1.0) r.1.1.1
         go (inr f1) (inl r) f3 =
-            Lives.underWay r.0.to (
-              to-lt r.0 r.1.0,
+            Lives.under_way r.0.to (
+              to_lt r.0 r.1.0,
               from_old r.0.to r.1.1.1,
             ) r.0 r.1.0 refl (r.1.1.0 ∙ sym r.1.1.1)
         go (inr f1) (inr f2) (inl r) =
             Lives.goes r.0 (r.1.0, from_old r.0 r.1.1.0)
-            (λ len l. send-goes L P (w.nodes r.0) len (ok r.0 r.1.0)
-            (idle-of f1 r.0 r.1.0 r.1.1.0) r.1.1.1 (frame-le r.0 r.1.0 len l))
+            (λ len l. send_goes L P (w.nodes r.0) len (ok r.0 r.1.0)
+            (idle_of f1 r.0 r.1.0 r.1.1.0) r.1.1.1 (frame_le r.0 r.1.0 len l))
         go (inr f1) (inr f2) (inr f3) =
             let r = stuck f1 f2 f3 in
             Lives.goes r.0 (r.1.0, from_old r.0 r.1.1.0)
-            (λ len l. move-goes L P (w.nodes r.0) len (ok r.0 r.1.0)
-            (idle-of f1 r.0 r.1.0 r.1.1.0) (mute-now f3 r.0 r.1.0 r.1.1.0) r.1.1.1)
+            (λ len l. move_goes L P (w.nodes r.0) len (ok r.0 r.1.0)
+            (idle_of f1 r.0 r.1.0 r.1.1.0) (mute_now f3 r.0 r.1.0 r.1.1.0) r.1.1.1)
 
-  pub every-run-lives : (es : List Event) → NoLoss es → Lives L P (run L P es)
-  every-run-lives es l = lives-now (run L P es) (calm_run setting es l)
+  pub every_run_lives : (es : List Event) → NoLoss es → Lives L P (run L P es)
+  every_run_lives es l = lives_now (run L P es) (calm_run setting es l)

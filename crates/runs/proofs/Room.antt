@@ -51,14 +51,14 @@ taken_room {P} {p} tree limit S b f cap' a c ha hc ne xs ys e =
     let t : sum (λ y. b.taken_between y c) 0 P ≡ sum (λ j. (b.nodes c).tallies (taken_from j)) 0 p =
     subst (λ l. sum (λ y. b.taken_between y c) l P ≡ sum (λ j. (b.nodes c).tallies (taken_from j)) 0 p)
     (tree.low_top c hc) (subst (λ s. sum (λ y. b.taken_between y c) (tree.low p c) s ≡ sum
-    (λ j. (b.nodes c).tallies (taken_from j)) 0 p) (tree.size_top c hc) (f.taken-shells c hc p (omega arith))) in
+    (λ j. (b.nodes c).tallies (taken_from j)) 0 p) (tree.size_top c hc) (f.taken_shells c hc p (omega arith))) in
     omega (
       arith,
       t,
-      (f.nodes-ok c hc).taken-total,
+      (f.nodes_ok c hc).taken_total_lem,
       sum_but_one (λ y. b.taken_between y c) S P a c
-          (λ y h. omega (arith, below y h, f.covers-pairs y c)) ha hc ne (omega (arith, own0, f.covers-pairs c c))
-          (omega (arith, below a ha, f.covers-pairs a c, message-on)),
+          (λ y h. omega (arith, below y h, f.covers_pairs y c)) ha hc ne (omega (arith, own0, f.covers_pairs c c))
+          (omega (arith, below a ha, f.covers_pairs a c, message_on)),
     )
   where
     below : (y : ℕ) → y < P → b.sent_between y c ≤ S
@@ -66,17 +66,17 @@ taken_room {P} {p} tree limit S b f cap' a c ha hc ne xs ys e =
         let t : sum (b.sent_between y) 0 P ≡ sum (λ j. (b.nodes y).tallies (sent_to j)) 0 p =
         subst (λ l. sum (b.sent_between y) l P ≡ sum (λ j. (b.nodes y).tallies (sent_to j)) 0 p) (tree.low_top y h)
         (subst (λ s. sum (b.sent_between y) (tree.low p y) s ≡ sum (λ j. (b.nodes y).tallies (sent_to j)) 0 p)
-        (tree.size_top y h) (f.sent-shells y h p (omega arith))) in
-        omega (arith, t, (f.nodes-ok y h).sent-total, cap' y h, sum_at (b.sent_between y) P c hc)
+        (tree.size_top y h) (f.sent_shells y h p (omega arith))) in
+        omega (arith, t, (f.nodes_ok y h).sent_total_lem, cap' y h, sum_at (b.sent_between y) P c hc)
 
     own0 : b.sent_between c c ≡ 0
     own0 =
         let t : sum (b.sent_between c) c 1 ≡ 0 =
         subst (λ l. sum (b.sent_between c) l 1 ≡ 0) (tree.low_zero c hc)
         (subst (λ s. sum (b.sent_between c) (tree.low 0 c) s ≡ 0) (tree.size_zero c hc)
-        (f.sent-shells c hc 0 zero-le)) in
+        (f.sent_shells c hc 0 zero-le)) in
         let z : b.sent_between c (c + 0) ≡ b.sent_between c c = ap (b.sent_between c) (omega arith) in
         omega arith
 
-    message-on : 1 ≤ messages_on a c b.items
-    message-on = subst (λ l. 1 ≤ messages_on a c l) (sym e) (some_message a c xs ys)
+    message_on : 1 ≤ messages_on a c b.items
+    message_on = subst (λ l. 1 ≤ messages_on a c l) (sym e) (some_message a c xs ys)

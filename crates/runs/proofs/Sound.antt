@@ -24,19 +24,19 @@ use Rattle.node.specs.declared.Node.{Node}
 use Rattle.events.specs.Board.{put, Load, work, frame, Item, Board, Event, sends, idles, calls, delivers, loses}
 use Rattle.events.specs.Board.{start, oldest}
 use Rattle.events.specs.Board.{without, less_one, gave, after_send, after_idle, posted, after_call, off_unless_early}
-use Rattle.events.specs.Board.{after_take, after_frame, delivered, deliveredOldest, step}
+use Rattle.events.specs.Board.{after_take, after_frame, delivered, delivered_oldest, step}
 use Rattle.frame.proofs.RoundTripAccepted.{Read}
 use Rattle.tree.specs.Lookups.{bad_board}
-use Rattle.node.proofs.Ways.{SendWay, send-way, CallWay, call-way}
-use Rattle.node.proofs.ValidOut.{fresh_valid, send-valid, take-valid, idle-valid, frame-valid, barrier-valid}
+use Rattle.node.proofs.Ways.{SendWay, send_way, CallWay, call_way}
+use Rattle.node.proofs.ValidOut.{fresh_valid, send_valid, take_valid, idle_valid, frame_valid, barrier_valid}
 use Rattle.cycle.proofs.Tree.{Meet}
 use Rattle.cycle.proofs.Lists.{All, all_append, all_mid}
 use Rattle.cycle.proofs.Events.{state_of}
 use Rattle.events.proofs.Tools.{put_all}
-use Rattle.events.proofs.Setting.{Setting, tree, receivers-await}
+use Rattle.events.proofs.Setting.{Setting, tree, receivers_await}
 use Rattle.events.proofs.Pairs.{found, Lost, lost}
 use Rattle.events.proofs.Sim.{Holds}
-use Rattle.events.proofs.Emit.{emitted-read}
+use Rattle.events.proofs.Emit.{emitted_read}
 use Rattle.events.proofs.Played.{Played}
 
 abbrev pub FineLoad : Limits → ℕ → Load → Type 0
@@ -96,38 +96,38 @@ module _ {L : Limits} {P : ℕ} (setting : Setting L P) where
     delivery a b m (work kind byte) =
         let r = take L (w.nodes b) kind a byte in
         given b r.node _ (after_take_lem (gave w b r.node) a b m kind r.answer)
-        (λ h. take-valid L (w.nodes b) (ok b h) kind a byte)
+        (λ h. take_valid L (w.nodes b) (ok b h) kind a byte)
     delivery a b m (frame bytes) =
         let r = frame_in L (w.nodes b) bytes in
         given b r.node _ (after_frame_lem (gave w b r.node) a b r.answer)
-        (λ h. frame-valid L (w.nodes b) (ok b h) bytes)
+        (λ h. frame_valid L (w.nodes b) (ok b h) bytes)
 
-    oldest-one : (a b : ℕ) (o : Option Item) → Accepted (deliveredOldest L P w a b o)
-    oldest-one a b none = ok
-    oldest-one a b (some m) = delivery a b m m.load
+    oldest_one : (a b : ℕ) (o : Option Item) → Accepted (delivered_oldest L P w a b o)
+    oldest_one a b none = ok
+    oldest_one a b (some m) = delivery a b m m.load
 
-    pub accepted-step : (e : Event) → Accepted (step L P w e)
+    pub accepted_step : (e : Event) → Accepted (step L P w e)
     unfolding step
-    accepted-step (sends kind a b) =
+    accepted_step (sends kind a b) =
         let r = send L (w.nodes a) b in
         cases Accepted (ltb a P) _ _
         (λ z. given a r.node _ (after_send_lem (gave w a r.node) kind a b r.answer)
-        (λ h. send-valid L (w.nodes a) (ok a h) b)) (λ z. ok)
-    accepted-step (idles a) =
+        (λ h. send_valid L (w.nodes a) (ok a h) b)) (λ z. ok)
+    accepted_step (idles a) =
         let r = idle L (w.nodes a) in
         cases Accepted (ltb a P) _ _
         (λ z. given a r.node _ (after_idle_lem (gave w a r.node) a r.answer)
-        (λ h. idle-valid L (w.nodes a) (ok a h))) (λ z. ok)
-    accepted-step (calls a room) =
+        (λ h. idle_valid L (w.nodes a) (ok a h))) (λ z. ok)
+    accepted_step (calls a room) =
         let r = barrier L (w.nodes a) room in
         cases Accepted (ltb a P) _ _ (λ z.
         given a r.node _ (after_call_lem (gave w a r.node) a (w.nodes a) r.answer)
-        (λ h. barrier-valid L (w.nodes a) (ok a h) setting.fit.room room)) (λ z. ok)
-    accepted-step (delivers a b) = oldest-one a b (oldest a b w.items)
-    accepted-step (loses j) = ok
+        (λ h. barrier_valid L (w.nodes a) (ok a h) setting.fit.room room)) (λ z. ok)
+    accepted_step (delivers a b) = oldest_one a b (oldest a b w.items)
+    accepted_step (loses j) = ok
 
-  pub accepted-start : Accepted (start P)
-  accepted-start a h = fresh_valid L P a 0 board h
+  pub accepted_start : Accepted (start P)
+  accepted_start a h = fresh_valid L P a 0 board h
     where
       board : bad_board L P ≡ false
       board = rw (ne_eqb P 0 (λ q. omega (arith, setting.two)), le-ltb L.nodes P setting.few)
@@ -138,8 +138,8 @@ module _ {L : Limits} {P : ℕ} (setting : Setting L P) where
   AllFine w = All (Fine L P) w.items
 
   -- nobody awaits itself
-  not-self : (k a : ℕ) → k < dimension P → a < P → (tree setting).awaited k a ≡ some a → ⊥
-  not-self k a l h e = go ((tree setting).meet k a a l h e) ((tree setting).self k a h)
+  not_self : (k a : ℕ) → k < dimension P → a < P → (tree setting).awaited k a ≡ some a → ⊥
+  not_self k a l h e = go ((tree setting).meet k a a l h e) ((tree setting).self k a h)
     where
       go : Meet (tree setting).low (tree setting).size k a a
           → ((tree setting).low k a ≤ a) × (a < (tree setting).low k a + (tree setting).size k a) → ⊥
@@ -150,21 +150,21 @@ module _ {L : Limits} {P : ℕ} (setting : Setting L P) where
     hold : (a : ℕ) → a < P → Holds setting a (w.count a) (w.nodes a) (state_of play.ledger a)
     hold a h = play.sim.node a h
 
-    send-fine : (kind : Kind) (a b : ℕ) → a < P → (r : Given Outcome) → SendWay L (w.nodes a) b r
+    send_fine : (kind : Kind) (a b : ℕ) → a < P → (r : Given Outcome) → SendWay L (w.nodes a) b r
         → AllFine (after_send (gave w a r.node) kind a b r.answer)
-    send-fine kind a b h r (SendWay.refused x s) = fine
-    send-fine kind a b h r (SendWay.done v low other busy cap) =
+    send_fine kind a b h r (SendWay.refused x s) = fine
+    send_fine kind a b h r (SendWay.done v low other busy cap) =
         all_append (Fine L P) w.items _ fine (((λ z. other (sym z ∙ sym (hold a h).number)), tt), tt)
 
-    idle-fine : (a : ℕ) (o : Outcome) (n : Node) → AllFine (after_idle (gave w a n) a o)
-    idle-fine a done n = fine
-    idle-fine a dropped n = fine
-    idle-fine a (refused x) n = fine
+    idle_fine : (a : ℕ) (o : Outcome) (n : Node) → AllFine (after_idle (gave w a n) a o)
+    idle_fine a done n = fine
+    idle_fine a dropped n = fine
+    idle_fine a (refused x) n = fine
 
-    call-fine : (a room : ℕ) → a < P → (r : Given Barrier) → CallWay L (w.nodes a) room r
+    call_fine : (a room : ℕ) → a < P → (r : Given Barrier) → CallWay L (w.nodes a) room r
         → AllFine (after_call (gave w a r.node) a (w.nodes a) r.answer)
-    call-fine a room h r (CallWay.refused x s) = fine
-    call-fine a room h r (CallWay.sends first rest v b f e l) =
+    call_fine a room h r (CallWay.refused x s) = fine
+    call_fine a room h r (CallWay.sends first rest v b f e l) =
         all_append (Fine L P) w.items (posted a bytes (w.count a) (receivers_due (w.nodes a))) fine
         (new (receivers_due (w.nodes a)) awaiting)
       where
@@ -172,7 +172,7 @@ module _ {L : Limits} {P : ℕ} (setting : Setting L P) where
         bytes = frame_bytes (dims (w.nodes a)) (frame_due (w.nodes a))
 
         read : Read L P bytes (fields_of (dimension P) bytes)
-        read = emitted-read setting a (w.count a) (w.nodes a) (state_of play.ledger a) (hold a h) v
+        read = emitted_read setting a (w.count a) (w.nodes a) (state_of play.ledger a) (hold a h) v
 
         to_is : receivers_due (w.nodes a) ≡ receivers P (w.nodes a).dim a
         to_is = rw ((hold a h).nodes, (hold a h).number)
@@ -180,68 +180,68 @@ module _ {L : Limits} {P : ℕ} (setting : Setting L P) where
         awaiting : All (λ c. (c < P) × ((tree setting).awaited (w.nodes a).dim c ≡ some a)) (receivers_due (w.nodes a))
         awaiting =
             subst (All (λ c. (c < P) × ((tree setting).awaited (w.nodes a).dim c ≡ some a))) (sym to_is)
-            (receivers-await setting (w.nodes a).dim a h)
+            (receivers_await setting (w.nodes a).dim a h)
 
         new : (l : List ℕ) → All (λ c. (c < P) × ((tree setting).awaited (w.nodes a).dim c ≡ some a)) l
             → All (Fine L P) (posted a bytes (w.count a) l)
         new [] g = tt
         new (c ∷ l) g =
             let other : a ≢ c =
-            λ z. not-self (w.nodes a).dim a (hold a h).low h
+            λ z. not_self (w.nodes a).dim a (hold a h).low h
             (subst (λ c. (tree setting).awaited (w.nodes a).dim c ≡ some a) (sym z) g.0.1) in
             ((other, read), new l g.1)
-    call-fine a room h r (CallWay.waits v b d z g) = fine
-    call-fine a room h r (CallWay.next v b d g l) = fine
-    call-fine a room h r (CallWay.second v b d z g l e) = fine
-    call-fine a room h r (CallWay.leaves v b d z g l e) = fine
-    call-fine a room h r (CallWay.single v b e) = fine
+    call_fine a room h r (CallWay.waits v b d z g) = fine
+    call_fine a room h r (CallWay.next v b d g l) = fine
+    call_fine a room h r (CallWay.second v b d z g l e) = fine
+    call_fine a room h r (CallWay.leaves v b d z g l e) = fine
+    call_fine a room h r (CallWay.single v b e) = fine
 
     -- one item less
-    off-fine : (a b : ℕ) (m : Item) → oldest a b w.items ≡ some m → All (Fine L P) (without a b w.items)
-    off-fine a b m e =
+    off_fine : (a b : ℕ) (m : Item) → oldest a b w.items ≡ some m → All (Fine L P) (without a b w.items)
+    off_fine a b m e =
         let f = found a b w.items m e in
         subst (All (Fine L P)) (sym f.rest)
         (all_mid (Fine L P) f.pre f.post m (subst (All (Fine L P)) f.whole fine)).1
 
     module _ (a b : ℕ) (m : Item) (e : oldest a b w.items ≡ some m) (n : Node) where
-      unless-early : (x : ℕ) → AllFine (off_unless_early (gave w b n) a b x)
-      unless-early x = cases AllFine (eqb x 7) _ _ (λ z. fine) (λ z. off-fine a b m e)
+      unless_early : (x : ℕ) → AllFine (off_unless_early (gave w b n) a b x)
+      unless_early x = cases AllFine (eqb x 7) _ _ (λ z. fine) (λ z. off_fine a b m e)
 
-      take-fine : (kind : Kind) (o : Outcome) → AllFine (after_take (gave w b n) a b m kind o)
-      take-fine kind done = off-fine a b m e
-      take-fine kind dropped = off-fine a b m e
-      take-fine kind (refused x) = unless-early x
+      take_fine : (kind : Kind) (o : Outcome) → AllFine (after_take (gave w b n) a b m kind o)
+      take_fine kind done = off_fine a b m e
+      take_fine kind dropped = off_fine a b m e
+      take_fine kind (refused x) = unless_early x
 
-      frame-fine : (o : Outcome) → AllFine (after_frame (gave w b n) a b o)
-      frame-fine done = off-fine a b m e
-      frame-fine dropped = off-fine a b m e
-      frame-fine (refused x) = unless-early x
+      frame_fine : (o : Outcome) → AllFine (after_frame (gave w b n) a b o)
+      frame_fine done = off_fine a b m e
+      frame_fine dropped = off_fine a b m e
+      frame_fine (refused x) = unless_early x
 
-    deliver-fine : (a b : ℕ) (m : Item) → oldest a b w.items ≡ some m → (l : Load)
+    deliver_fine : (a b : ℕ) (m : Item) → oldest a b w.items ≡ some m → (l : Load)
         → AllFine (delivered L P w a b m l)
-    deliver-fine a b m e (work kind byte) =
-        let r = take L (w.nodes b) kind a byte in take-fine a b m e r.node kind r.answer
-    deliver-fine a b m e (frame bytes) =
-        let r = frame_in L (w.nodes b) bytes in frame-fine a b m e r.node r.answer
+    deliver_fine a b m e (work kind byte) =
+        let r = take L (w.nodes b) kind a byte in take_fine a b m e r.node kind r.answer
+    deliver_fine a b m e (frame bytes) =
+        let r = frame_in L (w.nodes b) bytes in frame_fine a b m e r.node r.answer
 
-    oldest-fine : (a b : ℕ) (o : Option Item) → oldest a b w.items ≡ o → AllFine (deliveredOldest L P w a b o)
-    oldest-fine a b none e = fine
-    oldest-fine a b (some m) e = deliver-fine a b m e m.load
+    oldest_fine : (a b : ℕ) (o : Option Item) → oldest a b w.items ≡ o → AllFine (delivered_oldest L P w a b o)
+    oldest_fine a b none e = fine
+    oldest_fine a b (some m) e = deliver_fine a b m e m.load
 
-    lose-fine : (l : List Item) → Lost w.items l → All (Fine L P) l
-    lose-fine l Lost.nothing = fine
-    lose-fine l (Lost.one pre post m e) = (all_mid (Fine L P) pre post m (subst (All (Fine L P)) e fine)).1
+    lose_fine : (l : List Item) → Lost w.items l → All (Fine L P) l
+    lose_fine l Lost.nothing = fine
+    lose_fine l (Lost.one pre post m e) = (all_mid (Fine L P) pre post m (subst (All (Fine L P)) e fine)).1
 
-    pub fine-step : (e : Event) → AllFine (step L P w e)
+    pub fine_step : (e : Event) → AllFine (step L P w e)
     unfolding step
-    fine-step (sends kind a b) =
+    fine_step (sends kind a b) =
         cases AllFine (ltb a P) _ _
-        (λ z. send-fine kind a b (ltb-true a P z) (send L (w.nodes a) b) (send-way L (w.nodes a) b)) (λ z. fine)
-    fine-step (idles a) =
-        let r = idle L (w.nodes a) in cases AllFine (ltb a P) _ _ (λ z. idle-fine a r.answer r.node) (λ z. fine)
-    fine-step (calls a room) =
+        (λ z. send_fine kind a b (ltb-true a P z) (send L (w.nodes a) b) (send_way L (w.nodes a) b)) (λ z. fine)
+    fine_step (idles a) =
+        let r = idle L (w.nodes a) in cases AllFine (ltb a P) _ _ (λ z. idle_fine a r.answer r.node) (λ z. fine)
+    fine_step (calls a room) =
         cases AllFine (ltb a P) _ _
-        (λ z. call-fine a room (ltb-true a P z) (barrier L (w.nodes a) room) (call-way L (w.nodes a) room))
+        (λ z. call_fine a room (ltb-true a P z) (barrier L (w.nodes a) room) (call_way L (w.nodes a) room))
         (λ z. fine)
-    fine-step (delivers a b) = oldest-fine a b (oldest a b w.items) refl
-    fine-step (loses j) = lose-fine (less_one j w.items) (lost j w.items)
+    fine_step (delivers a b) = oldest_fine a b (oldest a b w.items) refl
+    fine_step (loses j) = lose_fine (less_one j w.items) (lost j w.items)

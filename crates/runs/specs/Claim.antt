@@ -29,23 +29,23 @@ module _ (L : Limits) (P : ℕ) where
 
   pub record Safe (w : Board) : Type 0 where
     -- 1: a send is done at busy nodes only,
-    pub busySend : (a b : ℕ) → a < P → SendDone w a b → w.busy a ≡ true
+    pub busy_send : (a b : ℕ) → a < P → SendDone w a b → w.busy a ≡ true
     -- and a state says busy where the history does
-    pub busyIs : (a : ℕ) → a < P → (w.nodes a).busy ≡ w.busy a
+    pub busy_is : (a : ℕ) → a < P → (w.nodes a).busy ≡ w.busy a
     -- 2: an idle node becomes busy without leaving only by a take of a job of its own phase
     pub wakes : (e : Event) (a : ℕ) → a < P → w.busy a ≡ false → (step L P w e).busy a ≡ true
         → (step L P w e).count a ≡ w.count a → TakeDone w Job a (w.count a) e
     -- 3: a node leaves only where no job or note of its phase is untaken,
-    pub leavesTaken : (a room : ℕ) → a < P → Leaves w a room → (i : ℕ) → w.untaken i ≢ some (w.count a)
+    pub leaves_taken : (a room : ℕ) → a < P → Leaves w a room → (i : ℕ) → w.untaken i ≢ some (w.count a)
     -- no node that is still in it is busy,
-    pub leavesIdle : (a room : ℕ) → a < P → Leaves w a room → (b : ℕ) → b < P → w.count b ≡ w.count a
+    pub leaves_idle : (a room : ℕ) → a < P → Leaves w a room → (b : ℕ) → b < P → w.count b ≡ w.count a
         → w.busy b ≡ false
     -- and no node has yet to reach it
-    pub leavesReached : (a room : ℕ) → a < P → Leaves w a room → (b : ℕ) → b < P → w.count a ≤ w.count b
+    pub leaves_reached : (a room : ℕ) → a < P → Leaves w a room → (b : ℕ) → b < P → w.count a ≤ w.count b
     -- 4: once a node has left a phase, no job or note of it is sent,
-    pub leftSend : (a : ℕ) → a < P → (n : ℕ) → n < w.count a → (b c : ℕ) → b < P → w.count b ≡ n → SendDone w b c → ⊥
+    pub left_send : (a : ℕ) → a < P → (n : ℕ) → n < w.count a → (b c : ℕ) → b < P → w.count b ≡ n → SendDone w b c → ⊥
     -- and none is taken
-    pub leftTake : (a : ℕ) → a < P → (n : ℕ) → n < w.count a → (kind : Kind) (b : ℕ) (e : Event)
+    pub left_take : (a : ℕ) → a < P → (n : ℕ) → n < w.count a → (kind : Kind) (b : ℕ) (e : Event)
         → TakeDone w kind b n e → ⊥
 
   -- a barrier call sends, moves or leaves
@@ -62,7 +62,7 @@ module _ (L : Limits) (P : ℕ) where
   -- call whose buffer is long enough for any frame
   pub data Lives (w : Board) : Type 0 where
     busy : (a : ℕ) → Oldest w a → w.busy a ≡ true → Lives w
-    underWay : (a : ℕ) → Oldest w a → (m : Item) → Memᴰ m w.items → m.to ≡ a → m.phase ≡ w.count a → Lives w
+    under_way : (a : ℕ) → Oldest w a → (m : Item) → Memᴰ m w.items → m.to ≡ a → m.phase ≡ w.count a → Lives w
     goes : (a : ℕ) → Oldest w a
         → ((room : ℕ) → frame_length (dimension P) 1 0 ≤ room → Goes (barrier L (w.nodes a) room).answer) → Lives w
 

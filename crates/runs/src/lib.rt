@@ -1,1 +1,3 @@
 // Whole runs of a board: definitions and theorems; there is no code here.
+
+#![tactic(auto)]

@@ -1,5 +1,7 @@
 // The state test, the sums of a state that passes it and the look at its position, in one walk over the words that the caller
 // lends.
+#![tactic(auto)]
+
 ghost use Rattle.std.specs.Prelude.{◌≡◌, true, ℕ, ◌≤◌, ◌<◌, leb, length};
 ghost use Rattle.base.specs.Limits.{limits_of};
 ghost use Rattle.layout.specs.Places.{second_words, most_words};

@@ -1,4 +1,6 @@
 // Small tests of the scan over the stored frames of a state.
+#![tactic(auto)]
+
 ghost use Rattle.std.specs.Prelude.{◌≡◌, not, ℕ, leb, eqb};
 ghost use Rattle.base.specs.Choice.{choose, both};
 ghost use Rattle.scan_tests.specs.Tests.{may_mark, bound_for, may_confirm, total_tested};

@@ -11,7 +11,7 @@ use Rattle.base.proofs.Laws.{both_true}
 use Rattle.node.specs.Sums.{dims, all_sent, all_taken, tally, own, own_issued}
 use Rattle.node.specs.Agree.{is_alone, no_clause}
 use Rattle.node.specs.State.{valid}
-use Rattle.node.proofs.Valid.{Valid, valid-known}
+use Rattle.node.proofs.Valid.{Valid, valid_known}
 use Rattle.layout.specs.Held.{unpacked, is_ready, is_whole}
 use Rattle.walked.specs.Walk.{confirm_reach}
 use Rattle.scanned.specs.Scan.{passes, clause_here, Scanned}
@@ -56,7 +56,7 @@ module _ (L : Limits) (room : ℕ) (looks : Bool) (ws : List ℕ) (s : Scan) (r 
         whole = w.0;
         ok = ap not q.1;
         valid = q.1;
-        state = valid-known L (unpacked ws) q.1;
+        state = valid_known L (unpacked ws) q.1;
         dims = r.dims t;
         sends = r.sends t;
         takes = r.takes t;

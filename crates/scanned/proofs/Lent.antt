@@ -15,7 +15,7 @@ use Rattle.layout.proofs.Parts.{first_alike, second_alike}
 use Rattle.layout.proofs.Reading.{first_word, second_word, first_in_lem, second_in_lem}
 use Rattle.wire.specs.Wire.{part}
 use Rattle.wire.proofs.Putting.{length_part, part_is}
-use Rattle.head.proofs.Heads.{dims-is}
+use Rattle.head.proofs.Heads.{dims_is}
 
 -- the words of the frames of dimension k on a board of p dimensions
 abbrev pub first_lent : List ℕ → ℕ → ℕ → List ℕ
@@ -42,26 +42,26 @@ module _ (ws : List ℕ) (k : ℕ) (low : k < dims (unpacked ws)) (bound : dims 
   pub near : at_first p k + step_words p k ≤ most_words
   near = first_end p k low bound
 
-  pub first-long : length (first_lent ws p k) ≡ first_words p k
-  first-long = length_part ws (at_first p k) (first_words p k) (omega (arith, inside))
+  pub first_long : length (first_lent ws p k) ≡ first_words p k
+  first_long = length_part ws (at_first p k) (first_words p k) (omega (arith, inside))
 
-  pub second-long : length (second_lent ws p k) ≡ second_words
-  second-long = length_part ws (at_second p k) second_words (omega (arith, inside))
+  pub second_long : length (second_lent ws p k) ≡ second_words
+  second_long = length_part ws (at_second p k) second_words (omega (arith, inside))
 
-  pub first-mark : word (first_lent ws p k) 0 ≡ word ws (at_first p k)
-  first-mark =
+  pub first_mark : word (first_lent ws p k) 0 ≡ word ws (at_first p k)
+  first_mark =
       word_part ws (at_first p k) (first_words p k) 0 (omega (arith, inside)) (omega arith)
       ∙ ap (word ws) (add-zero (at_first p k))
 
-  pub second-mark : word (second_lent ws p k) 0 ≡ word ws (at_second p k)
-  second-mark =
+  pub second_mark : word (second_lent ws p k) 0 ≡ word ws (at_second p k)
+  second_mark =
       word_part ws (at_second p k) second_words 0 (omega (arith, inside)) (omega arith)
       ∙ ap (word ws) (add-zero (at_second p k))
 
-  pub first-is : first_at (unpacked ws) k ≡ first_from (first_lent ws p k) p k 0
-  first-is =
+  pub first_is : first_at (unpacked ws) k ≡ first_from (first_lent ws p k) p k 0
+  first_is =
       first_word ws k (omega arith)
-      ∙ ap (λ d. first_in ws d k) (sym (dims-is ws))
+      ∙ ap (λ d. first_in ws d k) (sym (dims_is ws))
       ∙ first_in_lem ws p k low
       ∙ first_alike ws (first_lent ws p k) p k (at_first p k) 0
       (λ i b.
@@ -71,7 +71,7 @@ module _ (ws : List ℕ) (k : ℕ) (low : k < dims (unpacked ws)) (bound : dims 
   pub second_is : second_at (unpacked ws) k ≡ second_from (second_lent ws p k) 0
   second_is =
       second_word ws k (omega arith)
-      ∙ ap (λ d. second_in ws d k) (sym (dims-is ws))
+      ∙ ap (λ d. second_in ws d k) (sym (dims_is ws))
       ∙ second_in_lem ws p k low
       ∙ second_alike ws (second_lent ws p k) (at_second p k) 0
       (λ i b.
@@ -81,12 +81,12 @@ module _ (ws : List ℕ) (k : ℕ) (low : k < dims (unpacked ws)) (bound : dims 
 -- ---- the slices that the loop makes
 
 module _ (ws : List ℕ) (p k at : ℕ) (place : at ≡ at_first p k) where
-  pub first-slice : part ws at (at + first_words p k - at) ≡ first_lent ws p k
-  first-slice =
+  pub first_slice : part ws at (at + first_words p k - at) ≡ first_lent ws p k
+  first_slice =
       let e : at + first_words p k - at ≡ first_words p k = omega arith in (λ i. part ws (place i) (e i))
 
-  pub second-slice : part ws (at + first_words p k) (at + first_words p k + second_words - (at + first_words p k)) ≡ second_lent ws p k
-  second-slice =
+  pub second_slice : part ws (at + first_words p k) (at + first_words p k + second_words - (at + first_words p k)) ≡ second_lent ws p k
+  second_slice =
       let e : at + first_words p k ≡ at_second p k = omega arith in
       let f : at + first_words p k + second_words - (at + first_words p k) ≡ second_words = omega arith in
       (λ i. part ws (e i) (f i))

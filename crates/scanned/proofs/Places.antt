@@ -67,7 +67,7 @@ pub record Placed (p k at middle n : ℕ) : Type 0 where
   pub wide_end : Fits w64 (middle + second_words)
   pub scaled_at : Fits w64 (at * 4)
   pub scaled_middle : Fits w64 (middle * 4)
-  pub first_from_lem : at ≤ middle
+  pub first_from : at ≤ middle
   pub first_to : middle ≤ n
   pub second_from : middle ≤ middle + second_words
   pub second_to : middle + second_words ≤ n
@@ -76,8 +76,8 @@ pub record Placed (p k at middle n : ℕ) : Type 0 where
 
 module _ (p k at n : ℕ) (low : k < p) (bound : p ≤ width) (small : at + step_words p k ≤ most_words)
     (within : at + step_words p k ≤ n) where
-  by-numbers : Placed p k at (at + first_words p k) n
-  by-numbers =
+  by_numbers : Placed p k at (at + first_words p k) n
+  by_numbers =
       record {
         below = omega arith;
         shells = record { fits = omega arith };
@@ -89,7 +89,7 @@ module _ (p k at n : ℕ) (low : k < p) (bound : p ≤ width) (small : at + step
         wide_end = record { fits = omega arith };
         scaled_at = record { fits = omega arith };
         scaled_middle = record { fits = omega arith };
-        first_from_lem = omega arith;
+        first_from = omega arith;
         first_to = omega arith;
         second_from = omega arith;
         second_to = omega arith;
@@ -102,4 +102,4 @@ module _ (ws : List ℕ) (p k at : ℕ) (same : p ≡ dims (unpacked ws)) (place
   pub placed : Placed p k at (at + first_words p k) (length ws)
   placed =
       let d : k < dims (unpacked ws) = omega arith in
-      by-numbers p k at (length ws) low (omega arith) (omega (arith, near ws k d bound long)) (omega (arith, inside ws k d bound long))
+      by_numbers p k at (length ws) low (omega arith) (omega (arith, near ws k d bound long)) (omega (arith, inside ws k d bound long))

@@ -15,16 +15,16 @@ use Rattle.base.proofs.Laws.{clash, choose_yes}
 use Rattle.node.specs.Sums.{Field, Has, sent_in, taken_in, all_sent, all_taken, number}
 use Rattle.node.specs.Agree.{first_clauses, second_clauses, all_hold}
 use Rattle.node.specs.declared.Stored.{Stored}
-use Rattle.node.proofs.Clauses.{FirstAgrees, first-known, second-known}
+use Rattle.node.proofs.Clauses.{FirstAgrees, first_known, second_known}
 use Rattle.layout.specs.Places.{first_words, second_words, agreed_place, confirmed_place}
 use Rattle.layout.specs.Held.{word, first_from, second_from, sum_of}
 use Rattle.survey.specs.Pieces.{first_test, second_test, awaits_at, first_past, second_past, first_held, second_held}
 use Rattle.survey.specs.declared.Spot.{Spot}
 use Rattle.stored.specs.Held.{low_after, held_test}
-use Rattle.stored.proofs.Frames.{first-held, second-held, first-low, second-low}
+use Rattle.stored.proofs.Frames.{first_held_lem, second_held_lem, first_low, second_low}
 use Rattle.scan_tests.specs.Tests.{may_mark, bound_for, may_confirm}
 use Rattle.adding.specs.Adding.{Framed}
-use Rattle.adding.proofs.Fitting.{fitting-made}
+use Rattle.adding.proofs.Fitting.{fitting_made}
 use Rattle.pass_one.specs.Tried.{first_tried}
 use Rattle.scanned.specs.Pieces.{Summed, first_whole, second_whole}
 
@@ -60,7 +60,7 @@ confirm_by_mark limit ws awaits =
 
 pub first_tried_lem : (L : Limits) (fs sums : List ℕ) (p k : ℕ) → Framed fs sums p k
     → first_tried L fs sums p k ≡ first_clauses L p k (sum_of p sums) (first_from fs p k 0)
-first_tried_lem L fs sums p k s = choose_yes _ _ (fitting-made p k fs sums s)
+first_tried_lem L fs sums p k s = choose_yes _ _ (fitting_made p k fs sums s)
 
 -- ---- a frame that agrees is within the limit
 
@@ -70,22 +70,22 @@ module _ (L : Limits) (fs sums : List ℕ) (p k : ℕ) (s : Framed fs sums p k) 
   x = first_from fs p k 0
 
   -- shell k by clauses 1 and 2, the others by clause 3
-  numbers-low : (f : Field) → Has p k f → number x f ≤ field_limit L
-  numbers-low (sent_in m) h = go (ℕ_discrete m k)
+  numbers_low : (f : Field) → Has p k f → number x f ≤ field_limit L
+  numbers_low (sent_in m) h = go (ℕ_discrete m k)
     where
       go : Dec (m ≡ k) → number x (sent_in m) ≤ field_limit L
       go (yes e) = omega (arith, ap (λ i. number x (sent_in i)) e, a.taken, w.taken)
       go (no e) = let t = a.within (sent_in m) (omega (arith, h.0), h.1) in omega arith
-  numbers-low (taken_in m) h = go (ℕ_discrete m k)
+  numbers_low (taken_in m) h = go (ℕ_discrete m k)
     where
       go : Dec (m ≡ k) → number x (taken_in m) ≤ field_limit L
       go (yes e) = omega (arith, ap (λ i. number x (taken_in i)) e, a.sent, w.sent)
       go (no e) = let t = a.within (taken_in m) (omega (arith, h.0), h.1) in omega arith
-  numbers-low all_sent h = let t = a.within all_sent tt in omega arith
-  numbers-low all_taken h = let t = a.within all_taken tt in omega arith
+  numbers_low all_sent h = let t = a.within all_sent tt in omega arith
+  numbers_low all_taken h = let t = a.within all_taken tt in omega arith
 
   stored : both (ltb (word fs 0) 2) (first_test L true p k x) ≡ true
-  stored = first-low fs p k 0 s.low s.few L (eqb-true _ 1 a.stored) numbers-low
+  stored = first_low fs p k 0 s.low s.few L (eqb-true _ 1 a.stored) numbers_low
 
 -- ---- the test of a step before the position is its clauses
 
@@ -115,48 +115,48 @@ module _ (L : Limits) (spot : Spot) (k : ℕ) (fs sums : List ℕ) (s : Framed f
   abbrev first : Stored
   first = first_from fs p k 0
 
-  pub first-settled : Summed L p k sums → awaits_at spot k ≡ true → first_past spot k ≡ true
+  pub first_settled : Summed L p k sums → awaits_at spot k ≡ true → first_past spot k ≡ true
       → all_hold (first_clauses L p k (sum_of p sums) first) ≡ first_whole L spot k (sum_of p sums) (word fs 0) first
   unfolding first_whole first_held
-  first-settled w e f =
+  first_settled w e f =
       rw (e, f)
       (settled (ltb (word fs 0) 2) (first_test L true p k first) (all_hold (first_clauses L p k (sum_of p sums) first))
-      (λ q. stored L fs sums p k s w (first-known L p k (sum_of p sums) first q)))
+      (λ q. stored L fs sums p k s w (first_known L p k (sum_of p sums) first q)))
 
   -- a step that is not tried: what is stored may be there
-  pub first-open : both (awaits_at spot k) (first_past spot k) ≡ false
+  pub first_open : both (awaits_at spot k) (first_past spot k) ≡ false
       → held_test (field_limit L) fs (awaits_at spot k) 0 (length fs)
       ≡ first_whole L spot k (sum_of p sums) (word fs 0) first
   unfolding first_whole first_held
-  first-open e =
+  first_open e =
       let all : length fs ≡ 0 + first_words p k = omega (arith, s.long) in
       ap (held_test (field_limit L) fs (awaits_at spot k) 0) all
-      ∙ first-held fs p k 0 s.low s.few L (awaits_at spot k)
+      ∙ first_held_lem fs p k 0 s.low s.few L (awaits_at spot k)
       ∙ open_test (ltb (word fs 0) 2) (first_test L (awaits_at spot k) p k first) _
       (untried (awaits_at spot k) (first_past spot k) (all_hold (first_clauses L p k (sum_of p sums) first)) e)
 
 -- ---- pass 2
 
 module _ (L : Limits) (spot : Spot) (k : ℕ) (ss : List ℕ) (issued : ℕ) where
-  pub second-settled : spot.agreed ≤ field_limit L → awaits_at spot k ≡ true → second_past spot k ≡ true
+  pub second_settled : spot.agreed ≤ field_limit L → awaits_at spot k ≡ true → second_past spot k ≡ true
       → all_hold (second_clauses L spot.dims k issued spot.agreed (second_from ss 0))
       ≡ second_whole L spot k issued (word ss 0) (second_from ss 0)
   unfolding second_whole second_held
-  second-settled agreed e f =
+  second_settled agreed e f =
       rw (e, f)
       (settled (ltb (word ss 0) 2) (second_test L true (second_from ss 0))
       (all_hold (second_clauses L spot.dims k issued spot.agreed (second_from ss 0)))
       (λ q.
-      let a = second-known L spot.dims k issued spot.agreed (second_from ss 0) q in
-      second-low L ss 0 true (eqb-true _ 1 a.stored) (omega (arith, a.same)) (omega (arith, a.within))))
+      let a = second_known L spot.dims k issued spot.agreed (second_from ss 0) q in
+      second_low L ss 0 true (eqb-true _ 1 a.stored) (omega (arith, a.same)) (omega (arith, a.within))))
 
-  pub second-open : both (awaits_at spot k) (second_past spot k) ≡ false
+  pub second_open : both (awaits_at spot k) (second_past spot k) ≡ false
       → may_confirm (word ss 0) (word ss (agreed_place 0)) (word ss (confirmed_place 0)) (awaits_at spot k) (field_limit L)
       ≡ second_whole L spot k issued (word ss 0) (second_from ss 0)
   unfolding second_whole second_held
-  second-open e =
+  second_open e =
       confirm_by_mark (field_limit L) ss (awaits_at spot k)
-      ∙ second-held L ss 0 (awaits_at spot k)
+      ∙ second_held_lem L ss 0 (awaits_at spot k)
       ∙ open_test (ltb (word ss 0) 2) (second_test L (awaits_at spot k) (second_from ss 0)) _
       (untried (awaits_at spot k) (second_past spot k)
       (all_hold (second_clauses L spot.dims k issued spot.agreed (second_from ss 0))) e)

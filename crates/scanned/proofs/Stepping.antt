@@ -10,24 +10,24 @@ use lib.ListN.{length}
 use borrow.Author.Tests.{lt-ltb, le-ltb, eq-eqb, ne_eqb}
 use Rattle.base.specs.Choice.{choose, both, either}
 use Rattle.base.specs.Limits.{Limits, field_limit, Fits, width}
-use Rattle.base.proofs.Limits.{field-low}
+use Rattle.base.proofs.Limits.{field_low}
 use Rattle.base.proofs.Laws.{clash, choose_yes, choose_no, both_true}
 use Rattle.node.specs.Sums.{Field, sent_in, taken_in, all_sent, all_taken, number}
 use Rattle.node.specs.Sums.{Has as InFrame}
 use Rattle.node.specs.Agree.{is_within, first_clauses, second_clauses, all_hold, first_failing, no_clause}
 use Rattle.node.specs.declared.Stored.{Stored}
 use Rattle.node.specs.declared.Confirm.{Confirm}
-use Rattle.node.proofs.Clauses.{has_lower, first-known, second-known}
+use Rattle.node.proofs.Clauses.{has_lower, first_known, second_known}
 use Rattle.node.proofs.FirstFailing.{seven}
 use Rattle.layout.specs.Places.{agreed_place, confirmed_place}
 use Rattle.layout.specs.Held.{word, first_from, second_from, sum_of}
 use Rattle.survey.specs.Pieces.{first_test, second_test, awaits_at, first_past, second_past, first_held}
 use Rattle.survey.specs.declared.Spot.{Spot}
-use Rattle.survey.proofs.Stored.{Has, first_none, first-same, second_none, second-same}
+use Rattle.survey.proofs.Stored.{Has, first_none, first_same, second_none, second_same}
 use Rattle.stored.specs.Held.{low_after, held_test}
 use Rattle.scan_tests.specs.Tests.{may_confirm}
 use Rattle.adding.specs.Adding.{Framed}
-use Rattle.adding.proofs.Fitting.{fitting-made}
+use Rattle.adding.proofs.Fitting.{fitting_made}
 use Rattle.pass_one.specs.Tried.{PassedBy}
 use Rattle.look.specs.Look.{Looked}
 use Rattle.look.specs.declared.Look.{Look}
@@ -35,7 +35,7 @@ use Rattle.scanned.specs.Pieces.{past_of, Told, Summed, first_whole, second_whol
 use Rattle.scanned.specs.Pieces.{FirstStep, SecondStep, Confirms, Steps}
 use Rattle.scanned.specs.declared.Walked.{Walked}
 use Rattle.scanned.specs.declared.Past.{Past}
-use Rattle.scanned.proofs.Settled.{first_tried_lem, first-settled, first-open, second-settled, second-open}
+use Rattle.scanned.proofs.Settled.{first_tried_lem, first_settled, first_open, second_settled, second_open}
 
 -- ---- what the walk hands to a step
 
@@ -51,8 +51,8 @@ module _ (s : Spot) (k : ℕ) where
       go true = refl
       go false = sym (lt-ltb k s.dims l)
 
-  pub second-reach : second_past s k ≡ ltb k (choose (eqb s.pass 1) 0 s.dim)
-  second-reach = go (eqb s.pass 1)
+  pub second_reach : second_past s k ≡ ltb k (choose (eqb s.pass 1) 0 s.dim)
+  second_reach = go (eqb s.pass 1)
     where
       go : (t : Bool) → both (not t) (ltb k s.dim) ≡ ltb k (choose t 0 s.dim)
       go true = sym (le-ltb k 0 (omega arith))
@@ -65,22 +65,22 @@ told spot looks k low dim awaits a =
       dims = refl;
       awaited = awaited spot k low ∙ sym a;
       firsts = first_reach spot k low;
-      seconds = second-reach spot k;
-      look = at-look (eqb spot.pass 1) looks;
-      confirm = at-confirm (eqb spot.pass 1) looks;
+      seconds = second_reach spot k;
+      look = at_look (eqb spot.pass 1) looks;
+      confirm = at_confirm (eqb spot.pass 1) looks;
     }
   where
-    at-look : (t u : Bool)
+    at_look : (t u : Bool)
         → choose t spot.dim spot.dims ≤ choose t (choose u spot.dim spot.dims) spot.dims
-    at-look true true = omega arith
-    at-look true false = dim
-    at-look false u = omega arith
+    at_look true true = omega arith
+    at_look true false = dim
+    at_look false u = omega arith
 
-    at-confirm : (t u : Bool)
+    at_confirm : (t u : Bool)
         → choose t 0 spot.dim ≤ choose t spot.dims (choose u spot.dim spot.dims)
-    at-confirm true u = omega arith
-    at-confirm false true = omega arith
-    at-confirm false false = dim
+    at_confirm true u = omega arith
+    at_confirm false true = omega arith
+    at_confirm false false = dim
 
 pub steps_told : (L : Limits) (fs ss sums : List ℕ) (spot : Spot) (past : Past) (k : ℕ) → Steps L fs ss sums spot past k
     → (awaits : Bool) → awaits ≡ not (both (eqb k 0) spot.alone) → Told spot spot.dims k awaits past
@@ -142,16 +142,16 @@ module _ (L : Limits) (fs before : List ℕ) (spot : Spot) (past : Past) (k : �
       let m = both_true (ltb (word fs 0) 2) _ r in
       let z = both_true (first_test L (awaits_at spot k) p k one) _ m.1 in
       zero_none one.present (number one f) (first_none L (awaits_at spot k) p k one z.0 a)
-      (first-same L (awaits_at spot k) p k one z.0 f (has_room_lem p j s.few f h))
+      (first_same L (awaits_at spot k) p k one z.0 f (has_room_lem p j s.few f h))
 
   -- a step that is not tried
-  stored-done : both (awaits_at spot k) (first_past spot k) ≡ false → (r : Walked)
+  stored_done : both (awaits_at spot k) (first_past spot k) ≡ false → (r : Walked)
       → r.ok ≡ held_test (field_limit L) fs (awaits_at spot k) 0 (length fs) → r.issued ≡ w.issued
       → r.clause ≡ choose looked failing w.clause
       → (looked ≡ true → r.clause ≡ no_clause → r.received.0 ≡ sum_of p before all_taken + number one all_taken)
       → (looked ≡ false → r.received ≡ w.received) → FirstDone L fs spot past k w before before r
-  stored-done a r q i c t e =
-      let whole = q ∙ first-open L spot k fs before s a in
+  stored_done a r q i c t e =
+      let whole = q ∙ first_open L spot k fs before s a in
       record {
         ok = whole;
         sums = λ g f h.
@@ -163,13 +163,13 @@ module _ (L : Limits) (fs before : List ℕ) (spot : Spot) (past : Past) (k : �
         kept = e;
       }
 
-  passed-done : Summed L p k before → awaits_at spot k ≡ true → first_past spot k ≡ true → looked ≡ false
+  passed_done : Summed L p k before → awaits_at spot k ≡ true → first_past spot k ≡ true → looked ≡ false
       → (after : List ℕ) (t : Bool) → PassedBy L fs p k before after t
       → FirstDone L fs spot past k w before after
       (record { ok = t; issued = w.issued; clause = w.clause; received = w.received })
-  passed-done sm a c u after t d =
+  passed_done sm a c u after t d =
       record {
-        ok = d.ok ∙ ap all_hold (first_tried_lem L fs before p k s) ∙ first-settled L spot k fs before s sm a c;
+        ok = d.ok ∙ ap all_hold (first_tried_lem L fs before p k s) ∙ first_settled L spot k fs before s sm a c;
         sums = λ r f h.
             d.sums r f (rw c at h) ∙ all_more (sum_of p before f) (number one f) (first_past spot k) c;
         length = d.length;
@@ -186,19 +186,19 @@ module _ (L : Limits) (fs before : List ℕ) (spot : Spot) (past : Past) (k : �
   unfolding first_whole first_held
   sums_within after r d good c low f h = go (awaits_at spot k) refl
     where
-      now-is : sum_of p after f ≡ sum_of p before f + number one f
-      now-is = d.sums good f (rw c h) ∙ sym (all_more _ (number one f) (first_past spot k) c)
+      now_is : sum_of p after f ≡ sum_of p before f + number one f
+      now_is = d.sums good f (rw c h) ∙ sym (all_more _ (number one f) (first_past spot k) c)
 
       go : (u : Bool) → awaits_at spot k ≡ u → sum_of p after f ≤ field_limit L
       go true a =
           let m = both_true (ltb (word fs 0) 2) _ (sym d.ok ∙ good) in
           let z = both_true (first_test L (awaits_at spot k) p k one) _ m.1 in
           let q : all_hold (first_clauses L p k (sum_of p before) one) ≡ true = rw (a, c) at z.1 in
-          omega (arith, now-is, (first-known L p k (sum_of p before) one q).within f h)
+          omega (arith, now_is, (first_known L p k (sum_of p before) one q).within f h)
       go false a =
           omega (
             arith,
-            now-is,
+            now_is,
             none_first a (sym d.ok ∙ good) (suc k) f h,
             low f (has_lower p k (suc k) f (omega arith) h),
           )
@@ -226,74 +226,74 @@ module _ (L : Limits) (fs before : List ℕ) (p k : ℕ) (awaits : Bool) (past :
       let u : looks_at spot past.look k ≡ false =
       no_both (awaits_at spot k) _ (λ v. ne_eqb k past.look (λ q. omega (arith, h.look))) in
       rw e
-      (passed-done L fs before spot past k w (rw h.dims s) (rw h.dims (sm c)) (h.awaited ∙ a) c u after t
+      (passed_done L fs before spot past k w (rw h.dims s) (rw h.dims (sm c)) (h.awaited ∙ a) c u after t
       (rw h.dims d))
 
   module _ (far : past.firsts ≤ k) where
-    open-here : (spot : Spot) → Told spot p k awaits past → both (awaits_at spot k) (first_past spot k) ≡ false
-    open-here spot h = no_both (awaits_at spot k) (first_past spot k) (λ v. h.firsts ∙ le-ltb k past.firsts far)
+    open_here : (spot : Spot) → Told spot p k awaits past → both (awaits_at spot k) (first_past spot k) ≡ false
+    open_here spot h = no_both (awaits_at spot k) (first_past spot k) (λ v. h.firsts ∙ le-ltb k past.firsts far)
 
     module _ (a : awaits ≡ true) (here : k ≡ past.look) where
-      looked-here : (spot : Spot) → Told spot p k awaits past → looks_at spot past.look k ≡ true
-      looked-here spot h = rw (h.awaited, a) (eq-eqb k past.look here)
+      looked_here : (spot : Spot) → Told spot p k awaits past → looks_at spot past.look k ≡ true
+      looked_here spot h = rw (h.awaited, a) (eq-eqb k past.look here)
 
       -- at the position, with a frame
-      pub first-looks : word fs 0 ≡ 1 → (x : Look) → Looked L fs before p k x
+      pub first_looks : word fs 0 ≡ 1 → (x : Look) → Looked L fs before p k x
           → FirstStep L fs p k awaits past w before before
           (record { ok = x.ok; issued = w.issued; clause = x.clause; received = x.received })
-      first-looks e x d spot h sm =
-          let v = looked-here spot h in
+      first_looks e x d spot h sm =
+          let v = looked_here spot h in
           let q : Looked L fs before spot.dims k x = rw h.dims d in
           let f : Framed fs before spot.dims k = rw h.dims s in
-          stored-done L fs before spot past k w f (open-here spot h) _
+          stored_done L fs before spot past k w f (open_here spot h) _
           (q.ok
-          ∙ rw (fitting-made spot.dims k fs before f, e) refl
+          ∙ rw (fitting_made spot.dims k fs before f, e) refl
           ∙ sym (held_stored (field_limit L) fs (awaits_at spot k) (length fs) e (h.awaited ∙ a)))
           refl
           (q.clause ∙ ap first_failing (first_tried_lem L fs before spot.dims k f) ∙ sym (choose_yes _ _ v))
           (λ u. q.total) (λ u. clash (sym v ∙ u))
 
       -- and without
-      pub first-lacks : (word fs 0 ≡ 1 → ⊥) → (t : Bool) → t ≡ held_test (field_limit L) fs awaits 0 (length fs)
+      pub first_lacks : (word fs 0 ≡ 1 → ⊥) → (t : Bool) → t ≡ held_test (field_limit L) fs awaits 0 (length fs)
           → (c : ℕ) → c ≡ 0
           → FirstStep L fs p k awaits past w before before
           (record { ok = t; issued = w.issued; clause = c; received = w.received })
-      first-lacks e t q c z spot h sm =
-          let v = looked-here spot h in
-          stored-done L fs before spot past k w (rw h.dims s) (open-here spot h) _ (rw h.awaited q) refl
+      first_lacks e t q c z spot h sm =
+          let v = looked_here spot h in
+          stored_done L fs before spot past k w (rw h.dims s) (open_here spot h) _ (rw h.awaited q) refl
           (z ∙ sym (choose_yes _ _ v ∙ none_stored L spot.dims k _ _ (ne_eqb _ _ e)))
           (λ u f. absurd (omega (arith, z, f))) (λ u. refl)
 
   -- any other step
-  pub first-stores : (awaits ≡ true → (past.firsts ≤ k) × (k ≡ past.look → ⊥)) → (t : Bool)
+  pub first_stores : (awaits ≡ true → (past.firsts ≤ k) × (k ≡ past.look → ⊥)) → (t : Bool)
       → t ≡ held_test (field_limit L) fs awaits 0 (length fs) → (c : ℕ) → c ≡ w.clause
       → FirstStep L fs p k awaits past w before before
       (record { ok = t; issued = w.issued; clause = c; received = w.received })
-  first-stores far t q c z spot h sm =
+  first_stores far t q c z spot h sm =
       let u : looks_at spot past.look k ≡ false =
       no_both (awaits_at spot k) _ (λ v. ne_eqb k past.look (far (sym h.awaited ∙ v)).1) in
       let a : both (awaits_at spot k) (first_past spot k) ≡ false =
       no_both (awaits_at spot k) (first_past spot k)
       (λ v. h.firsts ∙ le-ltb k past.firsts (far (sym h.awaited ∙ v)).0) in
-      stored-done L fs before spot past k w (rw h.dims s) a _ (rw h.awaited q) refl (z ∙ sym (choose_no _ _ u))
+      stored_done L fs before spot past k w (rw h.dims s) a _ (rw h.awaited q) refl (z ∙ sym (choose_no _ _ u))
       (λ v. clash (sym v ∙ u)) (λ v. refl)
 
 -- ---- pass 2
 
 module _ (L : Limits) (p k issued agreed : ℕ) (x : Confirm) where
   -- no clause fails exactly where all hold
-  second-seven : eqb (first_failing (second_clauses L p k issued agreed x)) no_clause ≡ all_hold (second_clauses L p k issued agreed x)
+  second_seven : eqb (first_failing (second_clauses L p k issued agreed x)) no_clause ≡ all_hold (second_clauses L p k issued agreed x)
   unfolding second_clauses
-  second-seven =
+  second_seven =
       seven x.present true true (is_within L (issued + x.issued.0)) true (eqb x.agreed agreed)
       (choose (eqb (suc k) p) (eqb (issued + x.issued.0) agreed) true)
 
   -- and then the sum is within the limit
   pub second_fits : first_failing (second_clauses L p k issued agreed x) ≡ no_clause → issued + x.issued.0 ≤ field_limit L
-  second_fits e = (second-known L p k issued agreed x (sym second-seven ∙ eq-eqb _ _ e)).within
+  second_fits e = (second_known L p k issued agreed x (sym second_seven ∙ eq-eqb _ _ e)).within
 
-  pub second-low : Fits L → first_failing (second_clauses L p k issued agreed x) ≡ no_clause → issued + x.issued.0 < 4294967296
-  second-low fit e = omega (arith, second_fits e, field-low L fit)
+  pub second_low : Fits L → first_failing (second_clauses L p k issued agreed x) ≡ no_clause → issued + x.issued.0 < 4294967296
+  second_low fit e = omega (arith, second_fits e, field_low L fit)
 
 module _ (L : Limits) (ss : List ℕ) (spot : Spot) (past : Past) (k : ℕ) (w : Walked) where
   abbrev two : Confirm
@@ -305,36 +305,36 @@ module _ (L : Limits) (ss : List ℕ) (spot : Spot) (past : Past) (k : ℕ) (w :
   abbrev faults : ℕ
   faults = first_failing (second_clauses L spot.dims k sum spot.agreed two)
 
-  none-second : awaits_at spot k ≡ false → second_whole L spot k sum (word ss 0) two ≡ true → two.issued.0 ≡ 0
+  none_second : awaits_at spot k ≡ false → second_whole L spot k sum (word ss 0) two ≡ true → two.issued.0 ≡ 0
   unfolding second_whole
-  none-second a r =
+  none_second a r =
       let m = both_true (ltb (word ss 0) 2) _ r in
       let u = both_true (second_test L (awaits_at spot k) two) _ m.1 in
       zero_none two.present two.issued.0 (second_none L (awaits_at spot k) two u.0 a)
-      (second-same L (awaits_at spot k) two u.0)
+      (second_same L (awaits_at spot k) two u.0)
 
-  kept-done : both (awaits_at spot k) (second_past spot k) ≡ false → (t : Bool)
+  kept_done : both (awaits_at spot k) (second_past spot k) ≡ false → (t : Bool)
       → t ≡ may_confirm (word ss 0) (word ss (agreed_place 0)) (word ss (confirmed_place 0)) (awaits_at spot k) (field_limit L) → (c : ℕ)
       → c ≡ choose (looks_at spot past.confirm k) faults w.clause
       → SecondDone L ss spot past k w (record { ok = t; issued = w.issued; clause = c; received = w.received })
-  kept-done a t q c e =
-      let whole = q ∙ second-open L spot k ss sum a in
+  kept_done a t q c e =
+      let whole = q ∙ second_open L spot k ss sum a in
       record {
         ok = whole;
-        more = λ r. no_more _ _ (second_past spot k) (λ d. none-second (nobody _ (second_past spot k) a d) (sym whole ∙ r));
+        more = λ r. no_more _ _ (second_past spot k) (λ d. none_second (nobody _ (second_past spot k) a d) (sym whole ∙ r));
         clause = λ r. e;
         received = refl;
       }
 
-  confirmed-done : spot.agreed ≤ field_limit L → awaits_at spot k ≡ true → second_past spot k ≡ true
+  confirmed_done : spot.agreed ≤ field_limit L → awaits_at spot k ≡ true → second_past spot k ≡ true
       → looks_at spot past.confirm k ≡ false → (r : Walked) → Confirms w (word ss (confirmed_place 0)) faults r
       → SecondDone L ss spot past k w r
-  confirmed-done low a c u r d =
+  confirmed_done low a c u r d =
       record {
         ok =
             d.ok
-            ∙ second-seven L spot.dims k sum spot.agreed two
-            ∙ second-settled L spot k ss sum low a c;
+            ∙ second_seven L spot.dims k sum spot.agreed two
+            ∙ second_settled L spot k ss sum low a c;
         more = λ q. d.issued q ∙ all_more sum (word ss (confirmed_place 0)) (second_past spot k) c;
         clause = λ q. d.clause ∙ sym (choose_no _ _ u);
         received = d.received;
@@ -346,33 +346,33 @@ module _ (L : Limits) (ss : List ℕ) (p k : ℕ) (awaits : Bool) (past : Past) 
   first = first_failing (second_clauses L p k w.issued.0 agreed (second_from ss 0))
 
   -- before the position
-  pub second-confirms : awaits ≡ true → k < past.seconds → (r : Walked) → Confirms w (word ss (confirmed_place 0)) first r
+  pub second_confirms : awaits ≡ true → k < past.seconds → (r : Walked) → Confirms w (word ss (confirmed_place 0)) first r
       → SecondStep L ss p k awaits past w agreed r
-  second-confirms a l r d spot h e low =
+  second_confirms a l r d spot h e low =
       let u : looks_at spot past.confirm k ≡ false =
       no_both (awaits_at spot k) _ (λ v. ne_eqb k past.confirm (λ q. omega (arith, h.confirm))) in
-      confirmed-done L ss spot past k w (rw e low) (h.awaited ∙ a) (h.seconds ∙ lt-ltb k past.seconds l) u r
+      confirmed_done L ss spot past k w (rw e low) (h.awaited ∙ a) (h.seconds ∙ lt-ltb k past.seconds l) u r
       (rw (h.dims, e) d)
 
   -- at the position
-  pub second-looks : past.seconds ≤ k → awaits ≡ true → k ≡ past.confirm → (t : Bool)
+  pub second_looks : past.seconds ≤ k → awaits ≡ true → k ≡ past.confirm → (t : Bool)
       → t ≡ may_confirm (word ss 0) (word ss (agreed_place 0)) (word ss (confirmed_place 0)) awaits (field_limit L) → (c : ℕ) → c ≡ first
       → SecondStep L ss p k awaits past w agreed
       (record { ok = t; issued = w.issued; clause = c; received = w.received })
-  second-looks far a here t q c f spot h e low =
+  second_looks far a here t q c f spot h e low =
       let v : looks_at spot past.confirm k ≡ true = rw (h.awaited, a) (eq-eqb k past.confirm here) in
-      kept-done L ss spot past k w (no_both (awaits_at spot k) (second_past spot k) (λ u. h.seconds ∙ le-ltb k past.seconds far)) t
+      kept_done L ss spot past k w (no_both (awaits_at spot k) (second_past spot k) (λ u. h.seconds ∙ le-ltb k past.seconds far)) t
       (rw h.awaited q) c (rw (h.dims, e) f ∙ sym (choose_yes _ _ v))
 
   -- any other step
-  pub second-stores : (awaits ≡ true → (past.seconds ≤ k) × (k ≡ past.confirm → ⊥)) → (t : Bool)
+  pub second_stores : (awaits ≡ true → (past.seconds ≤ k) × (k ≡ past.confirm → ⊥)) → (t : Bool)
       → t ≡ may_confirm (word ss 0) (word ss (agreed_place 0)) (word ss (confirmed_place 0)) awaits (field_limit L) → (c : ℕ) → c ≡ w.clause
       → SecondStep L ss p k awaits past w agreed
       (record { ok = t; issued = w.issued; clause = c; received = w.received })
-  second-stores far t q c z spot h e low =
+  second_stores far t q c z spot h e low =
       let u : looks_at spot past.confirm k ≡ false =
       no_both (awaits_at spot k) _ (λ v. ne_eqb k past.confirm (far (sym h.awaited ∙ v)).1) in
-      kept-done L ss spot past k w
+      kept_done L ss spot past k w
       (no_both (awaits_at spot k) (second_past spot k)
       (λ v. h.seconds ∙ le-ltb k past.seconds (far (sym h.awaited ∙ v)).0)) t (rw h.awaited q) c
       (z ∙ sym (choose_no _ _ u))

@@ -4,7 +4,7 @@ use Rattle.std.specs.Prelude.{◌≡◌, Bool, true, false, not, List, ℕ, suc,
 use Rattle.base.specs.Choice.{choose, both, either, every}
 use Rattle.base.specs.Limits.{Limits, field_limit}
 use Rattle.node.specs.Sums.{dims, first_at, second_at, Field, Has, sent_in, taken_in, all_taken, number, own, own_issued}
-use Rattle.node.specs.Agree.{is_alone, first_clauses, second_clauses, first_failing, no_clause}
+use Rattle.node.specs.Agree.{is_alone, first_clauses, second_clauses, first_failing}
 use Rattle.node.specs.State.{board_ok, position_ok, tallies_ok}
 use Rattle.node.specs.declared.Stored.{Stored}
 use Rattle.node.specs.declared.Confirm.{Confirm}
@@ -85,7 +85,7 @@ pub record FirstDone (L : Limits) (fs : List ℕ) (spot : Spot) (past : Past) (k
       ≡ choose (looks_at spot past.look k)
       (first_failing (first_clauses L spot.dims k (sum_of spot.dims before) (first_from fs spot.dims k 0)))
       w.clause
-  pub received : r.ok ≡ true → looks_at spot past.look k ≡ true → r.clause ≡ no_clause
+  pub received : r.ok ≡ true → looks_at spot past.look k ≡ true → r.clause ≡ 7
       → r.received.0
       ≡ sum_of spot.dims before all_taken + number (first_from fs spot.dims k 0) all_taken
   pub kept : looks_at spot past.look k ≡ false → r.received ≡ w.received
@@ -113,7 +113,7 @@ SecondStep L ss p k awaits past w agreed r =
 
 -- a step of pass 2 before the position, by the first clause that fails: the frame's total sent is added
 pub record Confirms (w : Walked) (more c : ℕ) (r : Walked) : Type 0 where
-  pub ok : r.ok ≡ eqb c no_clause
+  pub ok : r.ok ≡ eqb c 7
   pub issued : r.ok ≡ true → r.issued.0 ≡ w.issued.0 + more
   pub clause : r.clause ≡ w.clause
   pub received : r.received ≡ w.received
@@ -171,9 +171,9 @@ pub record Carries (L : Limits) (ws start : List ℕ) (looks : Bool) (k at : ℕ
   pub within : (f : Field) → Has (dims (unpacked ws)) (min k (reach (unpacked ws))) f
       → sum_of (dims (unpacked ws)) l f ≤ field_limit L
   pub steps : (j : ℕ) → j < k → step_in L ws j ≡ true
-  pub clause : w.clause ≡ choose (is_seen (unpacked ws) looks k) (clause_here L (unpacked ws)) no_clause
+  pub clause : w.clause ≡ choose (is_seen (unpacked ws) looks k) (clause_here L (unpacked ws)) 7
   pub received : is_seen (unpacked ws) looks k ≡ true → is_alone (unpacked ws) (unpacked ws).dim ≡ false
-      → (unpacked ws).pass ≡ 1 → w.clause ≡ no_clause
+      → (unpacked ws).pass ≡ 1 → w.clause ≡ 7
       → w.received.0 ≡ own (unpacked ws) (suc (unpacked ws).dim) all_taken
 
 -- all steps pass, and then the sums are those that a scan gathers
@@ -185,7 +185,7 @@ pub record WalkedAll (L : Limits) (ws : List ℕ) (looks : Bool) (before after :
   pub clause : r.ok ≡ true → looks ≡ true → (unpacked ws).dim < dims (unpacked ws)
       → r.clause ≡ clause_here L (unpacked ws)
   pub received : r.ok ≡ true → looks ≡ true → (unpacked ws).dim < dims (unpacked ws)
-      → is_alone (unpacked ws) (unpacked ws).dim ≡ false → (unpacked ws).pass ≡ 1 → r.clause ≡ no_clause
+      → is_alone (unpacked ws) (unpacked ws).dim ≡ false → (unpacked ws).pass ≡ 1 → r.clause ≡ 7
       → r.received.0 ≡ own (unpacked ws) (suc (unpacked ws).dim) all_taken
 
 -- ---- The scan

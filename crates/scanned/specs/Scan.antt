@@ -5,7 +5,7 @@ use Rattle.base.specs.Choice.{choose, both}
 use Rattle.base.specs.Limits.{Limits}
 use Rattle.frame.specs.Frame.{sent_number, taken_number}
 use Rattle.node.specs.Sums.{dims, Field, Has, all_sent, all_taken, tally, own, own_issued}
-use Rattle.node.specs.Agree.{is_alone, clauses, first_failing, no_clause}
+use Rattle.node.specs.Agree.{is_alone, clauses, first_failing}
 use Rattle.node.specs.State.{valid}
 use Rattle.node.specs.declared.Node.{Node}
 use Rattle.layout.specs.Held.{unpacked, is_ready, sum_of}
@@ -29,9 +29,9 @@ no_scan =
       received = taken_number 0;
     }
 
--- the first clause of the position's step that fails, `no_clause` where none does; a step at which the node is alone has none
+-- the first clause of the position's step that fails, 7 where none does; a step at which the node is alone has none
 abbrev pub clause_here : Limits → Node → ℕ
-clause_here L n = choose (is_alone n n.dim) no_clause (first_failing (clauses L n n.pass n.dim))
+clause_here L n = choose (is_alone n n.dim) 7 (first_failing (clauses L n n.pass n.dim))
 
 pub record Scanned (L : Limits) (room : ℕ) (looks : Bool) (ws : List ℕ) (r : Scan) : Type 0 where
   pub ok : r.ok ≡ passes L room ws
@@ -43,7 +43,7 @@ pub record Scanned (L : Limits) (room : ℕ) (looks : Bool) (ws : List ℕ) (r :
   pub clause : r.ok ≡ true → looks ≡ true → (unpacked ws).dim < dims (unpacked ws) → r.clause ≡ clause_here L (unpacked ws)
   -- and it agrees in pass 1
   pub received : r.ok ≡ true → looks ≡ true → (unpacked ws).dim < dims (unpacked ws)
-      → is_alone (unpacked ws) (unpacked ws).dim ≡ false → (unpacked ws).pass ≡ 1 → r.clause ≡ no_clause
+      → is_alone (unpacked ws) (unpacked ws).dim ≡ false → (unpacked ws).pass ≡ 1 → r.clause ≡ 7
       → r.received.0 ≡ own (unpacked ws) (suc (unpacked ws).dim) all_taken
   pub dims : r.ok ≡ true → r.dims ≡ dims (unpacked ws)
 

@@ -1,5 +1,7 @@
 // What a scan of a state says and a walk over its stored frames has: the types, the definitions and their laws; the scan of a state
 // that does not pass the test, and which steps a walk tries.
+#![tactic(auto)]
+
 ghost use Rattle.std.specs.Prelude.{◌≡◌};
 ghost use Rattle.scanned.specs.Scan.{no_scan};
 ghost use Rattle.scanned.specs.Pieces.{past_of};
@@ -8,7 +10,7 @@ use frame::{Sent, Taken};
 use survey::Spot;
 
 // What is known of a state. Where it does not pass the test, all else is 0.
-#[derive(Drop)]
+#[derive(Clone, Copy)]
 pub struct Scan {
     pub ok: bool,
     // p
@@ -25,7 +27,7 @@ pub struct Scan {
 }
 
 // What a walk has so far.
-#[derive(Drop)]
+#[derive(Clone, Copy)]
 pub struct Walked {
     // the frames pass the test
     pub ok: bool,
@@ -37,7 +39,7 @@ pub struct Walked {
 }
 
 // Which steps a walk tries.
-#[derive(Drop)]
+#[derive(Clone, Copy)]
 pub struct Past {
     // how many of each pass are before the position
     pub firsts: u32,

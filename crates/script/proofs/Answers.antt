@@ -59,8 +59,8 @@ module _
     unfolding line_of
     after_one = rw (parts_first (length bs) bs a p h (omega arith), ← e)
 
-    pub line-two : length rest ≤ before 32 rest → line_of bs ≡ one_number (take a bs) rest
-    line-two k = after_one ∙ rw (parts_last (length bs - 1) rest k)
+    pub line_two : length rest ≤ before 32 rest → line_of bs ≡ one_number (take a bs) rest
+    line_two k = after_one ∙ rw (parts_last (length bs - 1) rest k)
 
     -- the bytes before the second blank, and after it
     module _ (b : ℕ) (q : b ≡ before 32 rest) (k : b < length rest) (last : List ℕ) (f : last ≡ drop (b + 1) rest) where
@@ -70,11 +70,11 @@ module _
       after_two : line_of bs ≡ by_parts (take a bs ∷ take b rest ∷ parts_within (length bs - 1 - 1) last)
       after_two = after_one ∙ rw (parts_first (length bs - 1) rest b q k fewer, ← f)
 
-      pub line-three : length last ≤ before 32 last → line_of bs ≡ two_numbers (take a bs) (take b rest) last
-      line-three m = after_two ∙ rw (parts_last (length bs - 1 - 1) last m)
+      pub line_three : length last ≤ before 32 last → line_of bs ≡ two_numbers (take a bs) (take b rest) last
+      line_three m = after_two ∙ rw (parts_last (length bs - 1 - 1) last m)
 
-      pub line-four : before 32 last < length last → line_of bs ≡ Bad
-      line-four m =
+      pub line_four : before 32 last < length last → line_of bs ≡ Bad
+      line_four m =
           let o = before 32 last in
           after_two
           ∙ rw (parts_first (length bs - 1 - 1) last o refl m (shorter rest last (length bs - 1) b f fewer))
@@ -83,18 +83,18 @@ module _
 -- ---- Lines by their newlines
 
 module _ (text : List ℕ) (at : ℕ) (rest : List ℕ) (e : rest ≡ drop at text) (n : ℕ) (p : n ≡ before 10 rest) where
-  pub at-newline : n < length rest → line_at text at ≡ record { line = line_of (take n rest); next = at + n + 1 }
+  pub at_newline : n < length rest → line_at text at ≡ record { line = line_of (take n rest); next = at + n + 1 }
   unfolding line_at
-  at-newline h = rw (← e, ← p) (choose_yes _ _ (lt-ltb _ _ h))
+  at_newline h = rw (← e, ← p) (choose_yes _ _ (lt-ltb _ _ h))
 
-  pub at-end : length rest ≤ n → line_at text at ≡ record { line = Bad; next = length text }
+  pub at_end : length rest ≤ n → line_at text at ≡ record { line = Bad; next = length text }
   unfolding line_at
-  at-end h = rw (← e, ← p) (choose_no _ _ (le-ltb _ _ h))
+  at_end h = rw (← e, ← p) (choose_no _ _ (le-ltb _ _ h))
 
 pub at_past : (text : List ℕ) (at : ℕ) → length text ≤ at → line_at text at ≡ record { line = Bad; next = length text }
 at_past text at h =
     let d = length-drop at text in
-    at-end text at (drop at text) refl (before 10 (drop at text)) refl (omega arith)
+    at_end text at (drop at text) refl (before 10 (drop at text)) refl (omega arith)
 
 -- a line ends after it begins
 pub next_on : (text : List ℕ) (at : ℕ) → at < length text → at < (line_at text at).next

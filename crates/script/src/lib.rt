@@ -1,11 +1,13 @@
 // The lines of a rehearsal's script. Any bytes may be handed, and any place in them.
+#![tactic(auto)]
+
 ghost use Rattle.std.specs.Prelude.{◌≡◌, ◌≤◌, length, drop};
 ghost use Rattle.script.specs.Script.{line_of, line_at};
 
 use line_forms::{Line, find};
 
 // A line, and where the next one begins.
-#[derive(Drop)]
+#[derive(Clone, Copy)]
 pub struct Parsed {
     pub line: Line,
     pub next: usize,

@@ -1,4 +1,6 @@
 // How many nodes a script's first line tells, and how many sections its events have. Any line and number may be handed.
+#![tactic(auto)]
+
 ghost use Rattle.std.specs.Prelude.{◌≡◌};
 ghost use Rattle.script_counts.specs.Counts.{sections_for, nodes_by};
 

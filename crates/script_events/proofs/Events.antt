@@ -42,11 +42,11 @@ next_within text at =
     (λ e. omega (arith, ltb-true (at + before 10 (drop at text)) (length text) e)) (λ e. omega arith)
 
 module _ (text : List ℕ) (at : ℕ) (rest : List ℕ) (e : rest ≡ drop at text) (n : ℕ) (p : n ≡ before 10 rest) where
-  pub next-there : n < length rest → at + n + 1 ≡ next_from text at
-  next-there h = rw (← e, ← p, lt-ltb (at + n) (length text) (omega (arith, left text at rest e)))
+  pub next_there : n < length rest → at + n + 1 ≡ next_from text at
+  next_there h = rw (← e, ← p, lt-ltb (at + n) (length text) (omega (arith, left text at rest e)))
 
-  pub next-none : length rest ≤ n → length text ≡ next_from text at
-  next-none h = rw (← e, ← p, le-ltb (at + n) (length text) (omega (arith, left text at rest e)))
+  pub next_none : length rest ≤ n → length text ≡ next_from text at
+  next_none h = rw (← e, ← p, le-ltb (at + n) (length text) (omega (arith, left text at rest e)))
 
 -- where a text says why the play stopped, by where its second line begins
 pub stop_there : (text : List ℕ) (at : ℕ) → at ≡ next_from text 0 → (rest : List ℕ) → rest ≡ drop at text
@@ -109,9 +109,9 @@ module _ (script text : List ℕ) where
           let n = next_on script at z in one_more (suc most) at from z ∙ e (omega arith) ∙ sym (one_more most at from z)
       go e (no z) = no_more (suc (suc most)) at from (omega arith) ∙ sym (no_more (suc most) at from (omega arith))
 
-  pub event-then : (at from : ℕ) → at < length script
+  pub event_then : (at from : ℕ) → at < length script
       → events_from script text (length script) at from ≡ Then (length script) at from
-  event-then at from h =
+  event_then at from h =
       sym (enough (length script) at from (omega arith)) ∙ one_more (length script) at from h
 
   -- one turn: the event of the line at a place is put
@@ -125,7 +125,7 @@ module _ (script text : List ℕ) where
   turn out now now' all end end' at from p answer next h e f g i w =
       let rest = events_from script text (length script) p.next next in
       let d : events_from script text (length script) at from ≡ event_bytes p.line answer ++ rest =
-      rw (e, f, g) (event-then at from h) in
+      rw (e, f, g) (event_then at from h) in
       let t = then now now' (put now' end' rest) (event_bytes p.line answer) rest end end' _ w (refl, refl) in
       (t.0 ∙ sym (ap (put now end) d) ∙ i.0, t.1 ∙ sym (ap (ends now end) d) ∙ i.1)
 

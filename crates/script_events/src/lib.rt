@@ -1,5 +1,7 @@
 // The events of a script that was played, each with the answer that was printed for it. Any script and text may be
 // handed.
+#![tactic(auto)]
+
 ghost use Rattle.std.specs.Prelude.{◌≡◌, ◌+◌, ◌≤◌, length, take, drop};
 ghost use Rattle.line_forms.specs.Forms.{before};
 ghost use Rattle.printing.specs.Put.{put, ends};

@@ -1,4 +1,6 @@
 // The frame of pass 2 put into a buffer, and whether lent words have the sums for one of pass 1.
+#![tactic(auto)]
+
 ghost use Rattle.std.specs.Prelude.{◌≡◌, [], ◌∷◌, length};
 ghost use Rattle.frame.specs.Numbers.{bytes_of};
 ghost use Rattle.second_frame.specs.Putting.{has_sums, put_length, put_bytes};

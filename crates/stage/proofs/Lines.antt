@@ -6,7 +6,7 @@ use native.Mathlib.Omega.{arith}
 use lib.Dec.{ltb}
 use borrow.Author.Tests.{lt-ltb, le-ltb}
 use Rattle.items.specs.declared.Item.{Item}
-use Rattle.stage.specs.Board.{quiet, putOne}
+use Rattle.stage.specs.Board.{quiet, put_one}
 use Rattle.board_states.specs.declared.Stage.{Stage}
 use Rattle.stage.specs.declared.Acted.{Acted}
 
@@ -33,7 +33,7 @@ pub one_put : (st : Stage) (headers : ℕ) (after : Stage) (actor answer : ℕ) 
       next = q.next;
       second = q.second;
     })
-    (putOne st headers after actor answer j)
+    (put_one st headers after actor answer j)
 one_put st headers after actor answer q i j e f =
     λ k. record {
       stage = (e k).stage;

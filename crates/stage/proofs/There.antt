@@ -21,27 +21,27 @@ flipped x y = go (dec_lt y x)
     go (no h) = let l : x ≤ y = omega arith in rw (le-ltb y x l, le-leb x y l)
 
 module _ (st : Stage) (headers : ℕ) (bytes : List ℕ) (at : ℕ) where
-  pub there-not : st.under ≤ at → is_there st headers bytes at ≡ false
-  there-not h = rw (le-ltb at st.under h)
+  pub there_not : st.under ≤ at → is_there st headers bytes at ≡ false
+  there_not h = rw (le-ltb at st.under h)
 
   module _ (len room : ℕ) (e : len ≡ length bytes) (r : room ≡ min 512 (min headers (len / place_size)))
       (h : at < st.under) where
-    same-room : room ≡ room_for headers bytes
-    same-room = r ∙ ap (λ n. min 512 (min headers (n / place_size))) e
+    same_room : room ≡ room_for headers bytes
+    same_room = r ∙ ap (λ n. min 512 (min headers (n / place_size))) e
 
-    pub there-unlent : room < st.under → is_there st headers bytes at ≡ false
-    there-unlent l =
-        let z = same-room in
+    pub there_unlent : room < st.under → is_there st headers bytes at ≡ false
+    there_unlent l =
+        let z = same_room in
         rw (lt-ltb at st.under h, lt-leb st.under (room_for headers bytes) (omega arith))
 
-    pub there-sized : st.under ≤ room → 0 < st.size → is_there st headers bytes at ≡ leb st.size base.nodes
-    there-sized l m =
-        let z = same-room in
+    pub there_sized : st.under ≤ room → 0 < st.size → is_there st headers bytes at ≡ leb st.size base.nodes
+    there_sized l m =
+        let z = same_room in
         rw (lt-ltb at st.under h, le-leb st.under (room_for headers bytes) (omega arith))
         (rw (ne_eqb st.size 0 (λ q. omega arith)) (flipped st.size base.nodes))
 
-    pub there-none : st.under ≤ room → st.size ≤ 0 → is_there st headers bytes at ≡ false
-    there-none l m =
-        let z = same-room in
+    pub there_none : st.under ≤ room → st.size ≤ 0 → is_there st headers bytes at ≡ false
+    there_none l m =
+        let z = same_room in
         rw (lt-ltb at st.under h, le-leb st.under (room_for headers bytes) (omega arith))
         (rw (eq-eqb st.size 0 (omega arith)))

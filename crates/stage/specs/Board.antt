@@ -41,8 +41,8 @@ module _ (st : Stage) (headers : ℕ) where
   quiet after actor answer = still st.under headers after actor answer
 
   -- one header is put after the last
-  abbrev pub putOne : Stage → ℕ → ℕ → Item → Acted
-  putOne after actor answer it =
+  abbrev pub put_one : Stage → ℕ → ℕ → Item → Acted
+  put_one after actor answer it =
       record {
         stage = after;
         actor = actor;

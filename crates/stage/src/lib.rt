@@ -1,4 +1,6 @@
 // What becomes of a board at a line, and whether an item stands at a place. Any board and numbers may be handed.
+#![tactic(auto)]
+
 ghost use Rattle.std.specs.Prelude.{◌≡◌, List, ℕ, length};
 ghost use Rattle.items.specs.Places.{no_item};
 ghost use Rattle.stage.specs.Board.{is_there, still};
@@ -9,7 +11,7 @@ use items::Item;
 // What became of a line. The headers are changed as it says: the one at `gone` goes (none where that is the number of
 // items under way), then `first` is put at `at` and `second` at `next` (nowhere where that is the number of headers
 // lent).
-#[derive(Drop)]
+#[derive(Clone, Copy)]
 pub struct Acted {
     pub stage: Stage,
     pub actor: u32,

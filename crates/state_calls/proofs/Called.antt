@@ -25,6 +25,6 @@ module _ (L : Limits) (e : L ≡ base) (ws : List ℕ) where
   unfolding step_on
   stepped after room o p q = kept_same _ _ _ _ (rw e at q) (rw e at p)
 
-  pub stepped-bytes : (buf then : List ℕ) → then ≡ barrier_buffer L ws buf → then ≡ step_bytes (record { words = ws }) buf
+  pub stepped_bytes_lem : (buf then : List ℕ) → then ≡ barrier_buffer L ws buf → then ≡ step_bytes (record { words = ws }) buf
   unfolding step_bytes
-  stepped-bytes buf then q = rw e at q
+  stepped_bytes_lem buf then q = rw e at q

@@ -1,4 +1,6 @@
 // The calls on a node's state by value: what they answer, and take. Each works in place on a copy of the words.
+#![tactic(auto)]
+
 ghost use Rattle.std.specs.Prelude.{◌≡◌};
 ghost use Rattle.base.specs.Limits.{base};
 ghost use Rattle.node.specs.Calls.{take};
@@ -8,13 +10,13 @@ use base::Kind;
 use node::{Answer, BarrierAnswer};
 use states::State;
 
-#[derive(Drop)]
+#[derive(Clone, Copy)]
 pub struct Reply {
     pub state: State,
     pub answer: Answer,
 }
 
-#[derive(Drop)]
+#[derive(Clone, Copy)]
 pub struct StepReply {
     pub state: State,
     pub answer: BarrierAnswer,

@@ -1,4 +1,6 @@
 // A node's state by value, on boards of up to 16 nodes.
+#![tactic(auto)]
+
 ghost use Rattle.std.specs.Prelude.{◌≡◌, true};
 ghost use Rattle.base.specs.Limits.{base};
 ghost use Rattle.layout.specs.Held.{is_whole, unpacked};
@@ -7,7 +9,7 @@ ghost use Rattle.states.specs.Words.{no_state, fresh_state};
 // The words of a state of a board of 16 nodes.
 pub const WORDS: usize = 60;
 
-#[derive(Drop)]
+#[derive(Clone, Copy)]
 pub struct State {
     pub words: [u32; WORDS],
 }

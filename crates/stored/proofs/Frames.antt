@@ -18,7 +18,7 @@ use Rattle.survey.specs.Pieces.{pair_ok, shell_ok, first_test, second_test}
 use Rattle.layout.specs.Places.{sent_place, taken_place, issued_place, received_place, first_words, second_words, mark_words}
 use Rattle.layout.specs.Places.{agreed_place, confirmed_place}
 use Rattle.layout.specs.Held.{word, first_from, second_from}
-use Rattle.layout.proofs.Reading.{number-sent, number-taken, number-outside}
+use Rattle.layout.proofs.Reading.{number_sent, number_taken, number_outside}
 use Rattle.stored.specs.Held.{held_test}
 
 -- two tests that hold alike
@@ -49,11 +49,11 @@ module _ (ws : List ℕ) (p k at : ℕ) (low : k < p) (few : p ≤ width) where
   place all_sent = issued_place p at k
   place all_taken = received_place p at k
 
-  place-low : (f : Field) → Has p k f → (at < place f) × (place f < at + first_words p k)
-  place-low (sent_in m) h = (omega (arith, h.0, h.1), omega (arith, h.0, h.1))
-  place-low (taken_in m) h = (omega (arith, h.0, h.1), omega (arith, h.0, h.1))
-  place-low all_sent h = (omega arith, omega arith)
-  place-low all_taken h = (omega arith, omega arith)
+  place_low : (f : Field) → Has p k f → (at < place f) × (place f < at + first_words p k)
+  place_low (sent_in m) h = (omega (arith, h.0, h.1), omega (arith, h.0, h.1))
+  place_low (taken_in m) h = (omega (arith, h.0, h.1), omega (arith, h.0, h.1))
+  place_low all_sent h = (omega arith, omega arith)
+  place_low all_taken h = (omega arith, omega arith)
 
   by_field : (Q : ℕ → Type 0) → ((f : Field) → Has p k f → Q (place f)) → (i : ℕ) → at < i → i < at + first_words p k → Q i
   by_field Q h i a b =
@@ -73,13 +73,13 @@ module _ (ws : List ℕ) (p k at : ℕ) (low : k < p) (few : p ≤ width) where
       go (yes c) (yes d) (yes e) = to (received_place p at k) (omega arith) (h all_taken tt)
 
   number_word : (f : Field) → Has p k f → number x f ≡ word ws (place f)
-  number_word (sent_in m) h = number-sent ws p k at m h.0 h.1 (omega (arith, h.1))
-  number_word (taken_in m) h = number-taken ws p k at m h.0 h.1 (omega (arith, h.1))
+  number_word (sent_in m) h = number_sent ws p k at m h.0 h.1 (omega (arith, h.1))
+  number_word (taken_in m) h = number_taken ws p k at m h.0 h.1 (omega (arith, h.1))
   number_word all_sent h = refl
   number_word all_taken h = refl
 
   data Shell (m : ℕ) : Type 0 where
-    in-it : k ≤ m → m < p → Shell m
+    in_it : k ≤ m → m < p → Shell m
     out : has_shell p k m ≡ false → Shell m
 
   shell : (m : ℕ) → Shell m
@@ -87,7 +87,7 @@ module _ (ws : List ℕ) (p k at : ℕ) (low : k < p) (few : p ≤ width) where
     where
       go : Dec (k ≤ m) → Dec (m < p) → Shell m
       go (no a) b = out (rw (lt-leb k m (omega arith)))
-      go (yes a) (yes b) = in-it a b
+      go (yes a) (yes b) = in_it a b
       go (yes a) (no b) = out (rw (le-leb k m a, le-ltb m p (omega arith)))
 
   -- a test of each number that holds of 0
@@ -113,13 +113,13 @@ module _ (ws : List ℕ) (p k at : ℕ) (low : k < p) (few : p ≤ width) where
             λ f h.
             ap g (number_word f h)
             ∙ every_at (at + mark_words) (end - (at + mark_words)) (λ i. g (word ws i)) e (place f)
-            (omega (arith, (place-low f h).0)) (omega (arith, (place-low f h).1)) in
+            (omega (arith, (place_low f h).0)) (omega (arith, (place_low f h).1)) in
             both_make (every_make 0 width pair (λ m a b. go m one (shell m))) (both_make (one all_sent tt) (one all_taken tt))
           where
             go : (m : ℕ) → ((f : Field) → Has p k f → g (number x f) ≡ true) → Shell m → pair m ≡ true
-            go m one (in-it c d) = both_make (one (sent_in m) (c, d)) (one (taken_in m) (c, d))
+            go m one (in_it c d) = both_make (one (sent_in m) (c, d)) (one (taken_in m) (c, d))
             go m one (out c) =
-                let z = number-outside ws p k at m c in
+                let z = number_outside ws p k at m c in
                 both_make (ap g z.0 ∙ zero_ok) (ap g z.1 ∙ zero_ok)
 
         from : both (every 0 width pair) totals ≡ true → run ≡ true
@@ -150,18 +150,18 @@ module _ (ws : List ℕ) (p k at : ℕ) (low : k < p) (few : p ≤ width) where
     within n = leb n (field_limit L)
 
     -- with a frame there, a shell that it does not have is 0, which is low
-    shell-is : (m : ℕ) → eqb (word ws at) 1 ≡ true → shell_ok L p k x m ≡ pair within low_zero m
+    shell_is : (m : ℕ) → eqb (word ws at) 1 ≡ true → shell_ok L p k x m ≡ pair within low_zero m
     unfolding shell_ok
-    shell-is m e = go (shell m)
+    shell_is m e = go (shell m)
       where
         go : Shell m
             → pair_ok L (both (eqb (word ws at) 1) (has_shell p k m)) (number x (sent_in m)) (number x (taken_in m))
             ≡ both (leb (number x (sent_in m)) (field_limit L)) (leb (number x (taken_in m)) (field_limit L))
-        go (in-it c d) =
+        go (in_it c d) =
             let t : both (eqb (word ws at) 1) (has_shell p k m) ≡ true =
             both_make e (both_make (le-leb k m c) (lt-ltb m p d)) in
             ap (λ t. pair_ok L t (number x (sent_in m)) (number x (taken_in m))) t
-        go (out c) = let z = number-outside ws p k at m c in rw (z.0, z.1, e, c, low_zero)
+        go (out c) = let z = number_outside ws p k at m c in rw (z.0, z.1, e, c, low_zero)
 
     none : (awaits : Bool) → word ws at ≡ 0 → run (λ n. leb n 0) refl ≡ first_test L awaits p k x
     unfolding first_test shell_ok
@@ -179,17 +179,17 @@ module _ (ws : List ℕ) (p k at : ℕ) (low : k < p) (few : p ≤ width) where
     some true e =
         let here : eqb (word ws at) 1 ≡ true = rw e in
         let shells : every 0 width (shell_ok L p k x) ≡ every 0 width (pair within low_zero) =
-        every_same 0 width (shell_ok L p k x) (pair within low_zero) (λ m a b. shell-is m here) in
+        every_same 0 width (shell_ok L p k x) (pair within low_zero) (λ m a b. shell_is m here) in
         let sums : pair_ok L (eqb (word ws at) 1) (number x all_sent) (number x all_taken) ≡ totals within low_zero =
         ap (λ t. pair_ok L t (number x all_sent) (number x all_taken)) here in
         run_is within low_zero ∙ (λ i. both (sym shells i) (sym sums i))
     some false e = let here : eqb (word ws at) 1 ≡ true = rw e in rw here
 
-    pub first-held : (awaits : Bool)
+    pub first_held_lem : (awaits : Bool)
         → held_test (field_limit L) ws awaits at (at + first_words p k)
         ≡ both (ltb (word ws at) 2) (first_test L awaits p k x)
     unfolding held_test
-    first-held awaits = go (ℕ_discrete (word ws at) 0) (ℕ_discrete (word ws at) 1)
+    first_held_lem awaits = go (ℕ_discrete (word ws at) 0) (ℕ_discrete (word ws at) 1)
       where
         go : Dec (word ws at ≡ 0) → Dec (word ws at ≡ 1)
             → choose (eqb (word ws at) 0) (run (λ n. leb n 0) refl)
@@ -210,9 +210,9 @@ module _ (ws : List ℕ) (p k at : ℕ) (low : k < p) (few : p ≤ width) where
             ∙ ap (λ t. both t (first_test L awaits p k x)) (sym (le-ltb (word ws at) 2 (omega arith)))
 
     -- a frame that is awaited, with numbers within the limit
-    pub first-low : word ws at ≡ 1 → ((f : Field) → Has p k f → number x f ≤ field_limit L)
+    pub first_low : word ws at ≡ 1 → ((f : Field) → Has p k f → number x f ≤ field_limit L)
         → both (ltb (word ws at) 2) (first_test L true p k x) ≡ true
-    first-low e low-number =
+    first_low e low-number =
         both_make (lt-ltb (word ws at) 2 (omega arith))
         (sym (some true e)
         ∙ every_make (at + mark_words) (end within low_zero - (at + mark_words)) (λ i. within (word ws i))
@@ -229,41 +229,41 @@ pairing true false = refl
 pairing true true = refl
 
 module _ (L : Limits) (ws : List ℕ) (at : ℕ) (awaits : Bool) where
-  abbrev zero-pair : Bool
-  zero-pair = both (leb (word ws (agreed_place at)) 0) (both (leb (word ws (confirmed_place at)) 0) true)
+  abbrev zero_pair : Bool
+  zero_pair = both (leb (word ws (agreed_place at)) 0) (both (leb (word ws (confirmed_place at)) 0) true)
 
-  abbrev low-pair : Bool
-  low-pair = both (leb (word ws (agreed_place at)) (field_limit L)) (both (leb (word ws (confirmed_place at)) (field_limit L)) true)
+  abbrev low_pair : Bool
+  low_pair = both (leb (word ws (agreed_place at)) (field_limit L)) (both (leb (word ws (confirmed_place at)) (field_limit L)) true)
 
   abbrev test : Bool
   test =
       both (either awaits (not (eqb (word ws at) 1)))
       (pair_ok L (eqb (word ws at) 1) (word ws (agreed_place at)) (word ws (confirmed_place at)))
 
-  by-mark : Dec (word ws at ≡ 0) → Dec (word ws at ≡ 1)
-      → choose (eqb (word ws at) 0) zero-pair (both (eqb (word ws at) 1) (both awaits low-pair))
+  by_mark : Dec (word ws at ≡ 0) → Dec (word ws at ≡ 1)
+      → choose (eqb (word ws at) 0) zero_pair (both (eqb (word ws at) 1) (both awaits low_pair))
       ≡ both (ltb (word ws at) 2) test
-  by-mark (yes e) d =
+  by_mark (yes e) d =
       rw (e, either_open awaits, low_is (word ws (agreed_place at)), low_is (word ws (confirmed_place at)))
       (pairing (eqb (word ws (agreed_place at)) 0) (eqb (word ws (confirmed_place at)) 0))
-  by-mark (no e) (yes d) = rw d (by awaits)
+  by_mark (no e) (yes d) = rw d (by awaits)
     where
       by : (t : Bool)
-          → both t low-pair ≡ both (either t false) (pair_ok L true (word ws (agreed_place at)) (word ws (confirmed_place at)))
+          → both t low_pair ≡ both (either t false) (pair_ok L true (word ws (agreed_place at)) (word ws (confirmed_place at)))
       by true = pairing (leb (word ws (agreed_place at)) (field_limit L)) (leb (word ws (confirmed_place at)) (field_limit L))
       by false = refl
-  by-mark (no e) (no d) = rw (ne_eqb _ 0 e, ne_eqb _ 1 d, le-ltb (word ws at) 2 (omega arith))
+  by_mark (no e) (no d) = rw (ne_eqb _ 0 e, ne_eqb _ 1 d, le-ltb (word ws at) 2 (omega arith))
 
-  pub second-held : held_test (field_limit L) ws awaits at (at + second_words)
+  pub second_held_lem : held_test (field_limit L) ws awaits at (at + second_words)
       ≡ both (ltb (word ws at) 2) (second_test L awaits (second_from ws at))
   unfolding held_test second_test
-  second-held =
+  second_held_lem =
       let two : at + second_words - (at + mark_words) ≡ second_words - mark_words = omega arith in
       let next : suc (at + mark_words) ≡ confirmed_place at = omega arith in
-      rw (two, next) (by-mark (ℕ_discrete (word ws at) 0) (ℕ_discrete (word ws at) 1))
+      rw (two, next) (by_mark (ℕ_discrete (word ws at) 0) (ℕ_discrete (word ws at) 1))
 
   -- a frame that is awaited, with numbers within the limit
-  pub second-low : word ws at ≡ 1 → word ws (agreed_place at) ≤ field_limit L → word ws (confirmed_place at) ≤ field_limit L
+  pub second_low : word ws at ≡ 1 → word ws (agreed_place at) ≤ field_limit L → word ws (confirmed_place at) ≤ field_limit L
       → both (ltb (word ws at) 2) (second_test L true (second_from ws at)) ≡ true
   unfolding second_test
-  second-low e a b = rw (e, le-leb _ _ a, le-leb _ _ b)
+  second_low e a b = rw (e, le-leb _ _ a, le-leb _ _ b)

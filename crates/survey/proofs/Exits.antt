@@ -26,24 +26,24 @@ module _ (L : Limits) (n : Node) (p : ℕ) (good : bad_board L n.nodes ≡ false
   abbrev head : Bool
   head = head_test p n.nodes n.number n.pass n.dim n.busy n.flag
 
-  position-is : position ≡ position_ok n
+  position_is : position ≡ position_ok n
   unfolding position_ok
-  position-is = rw e
+  position_is = rw e
 
-  pub bad-head : head ≡ false → valid L n ≡ false
+  pub bad_head : head ≡ false → valid L n ≡ false
   unfolding board_ok busy_ok
-  bad-head f =
+  bad_head f =
       invalid L n
       (λ w.
       let q = both_true (not (bad_board L n.nodes)) (ltb n.number n.nodes) w.board in
-      not_both (both_make q.1 (both_make (position-is ∙ w.position) w.busy)) f)
+      not_both (both_make q.1 (both_make (position_is ∙ w.position) w.busy)) f)
 
-  pub good-head : head ≡ true → (board_ok L n ≡ true) × (position_ok n ≡ true) × (busy_ok n ≡ true)
+  pub good_head : head ≡ true → (board_ok L n ≡ true) × (position_ok n ≡ true) × (busy_ok n ≡ true)
   unfolding board_ok busy_ok
-  good-head f =
+  good_head f =
       let q = both_true (ltb n.number n.nodes) (both position busy) f in
       let r = both_true position busy q.1 in
-      (both_make (ap not good) q.0, sym position-is ∙ r.0, r.1)
+      (both_make (ap not good) q.0, sym position_is ∙ r.0, r.1)
 
 -- ---- T
 
@@ -51,15 +51,15 @@ module _ (L : Limits) (n : Node) (received : ℕ) (e : received ≡ own n (dims 
   abbrev agreed : Bool
   agreed = total_test L n.pass n.agreed received
 
-  total-is : agreed ≡ total_ok L n
+  total_is : agreed ≡ total_ok L n
   unfolding total_ok
-  total-is = ap (total_test L n.pass n.agreed) e
+  total_is = ap (total_test L n.pass n.agreed) e
 
-  pub bad-total : agreed ≡ false → valid L n ≡ false
-  bad-total f = invalid L n (λ v. not_both (total-is ∙ v.total) f)
+  pub bad_total : agreed ≡ false → valid L n ≡ false
+  bad_total f = invalid L n (λ v. not_both (total_is ∙ v.total) f)
 
-  pub good-total : agreed ≡ true → total_ok L n ≡ true
-  good-total f = sym total-is ∙ f
+  pub good_total : agreed ≡ true → total_ok L n ≡ true
+  good_total f = sym total_is ∙ f
 
 module _ (L : Limits) (fit : Fits L) (n : Node) (board : board_ok L n ≡ true)
     (steps : (k : ℕ) → k < width → step_at L n k ≡ true) where

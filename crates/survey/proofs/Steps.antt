@@ -15,7 +15,7 @@ use Rattle.tree.specs.Tree.{dimension, Place, alone, hermit, neighbour, messenge
 use Rattle.tree.specs.Lookups.{bad_board, place_lookup}
 use Rattle.tree.proofs.Dimension.{smallest}
 use Rattle.tree.proofs.Lookups.{board_good}
-use Rattle.tree.proofs.Halves.{alone-lowest}
+use Rattle.tree.proofs.Halves.{alone_lowest}
 use Rattle.node.specs.Sums.{dims, Field, sent_in, taken_in, all_sent, all_taken, number}
 use Rattle.node.specs.declared.Stored.{Stored}
 use Rattle.node.specs.Agree.{is_none, is_alone, is_within, first_clauses, agrees}
@@ -38,26 +38,26 @@ lone_place (neighbour b) = refl
 lone_place (messenger b h) = refl
 
 module _ (L : Limits) (P a : ℕ) (good : bad_board L P ≡ false) (on : a < P) where
-  some-dimension : 0 < dimension P → 2 ≤ P
-  some-dimension h = go (dec_le P 1)
+  some_dimension : 0 < dimension P → 2 ≤ P
+  some_dimension h = go (dec_le P 1)
     where
       go : Dec (P ≤ 1) → 2 ≤ P
       go (yes l) = absurd (omega (arith, smallest P 0 l))
       go (no l) = omega arith
 
-  lone-first : 0 < dimension P → lone L P a ≡ is_none (awaited P 0 a)
+  lone_first : 0 < dimension P → lone L P a ≡ is_none (awaited P 0 a)
   unfolding lone place_lookup awaited
-  lone-first h = rw (good, lt-leb P a on, lt-leb (dimension P) 0 h) (lone_place (place P 0 a))
+  lone_first h = rw (good, lt-leb P a on, lt-leb (dimension P) 0 h) (lone_place (place P 0 a))
 
-  alone-by : (k : ℕ) → k < dimension P → both (eqb k 0) (lone L P a) ≡ is_none (awaited P k a)
-  alone-by k l = go (ℕ_discrete k 0)
+  alone_by : (k : ℕ) → k < dimension P → both (eqb k 0) (lone L P a) ≡ is_none (awaited P k a)
+  alone_by k l = go (ℕ_discrete k 0)
     where
       some_one : (w : Option ℕ) → awaited P k a ≡ w → (k ≡ 0 → ⊥) → false ≡ is_none w
-      some_one none e n = absurd (n (alone-lowest P k a l on (some-dimension (omega arith)) e))
+      some_one none e n = absurd (n (alone_lowest P k a l on (some_dimension (omega arith)) e))
       some_one (some w) e n = refl
 
       go : Dec (k ≡ 0) → both (eqb k 0) (lone L P a) ≡ is_none (awaited P k a)
-      go (yes e) = rw (eq-eqb k 0 e) (lone-first (omega arith) ∙ ap (λ j. is_none (awaited P j a)) (sym e))
+      go (yes e) = rw (eq-eqb k 0 e) (lone_first (omega arith) ∙ ap (λ j. is_none (awaited P j a)) (sym e))
       go (no e) = rw (ne_eqb k 0 e) (some_one (awaited P k a) refl e)
 
 pub awaits_same : (L : Limits) (n : Node) (k : ℕ) → board_ok L n ≡ true → awaits_at (spot_of L n) k ≡ awaits_frame n k
@@ -72,7 +72,7 @@ awaits_same L n k ok = go (dec_le (dims n) k)
         let q = both_true (not (bad_board L n.nodes)) (ltb n.number n.nodes) ok in
         rw (lt-ltb k (dims n) (omega arith))
         (ap not
-        (alone-by L n.nodes n.number (not-true _ q.0) (ltb-true _ _ q.1) k (omega arith)))
+        (alone_by L n.nodes n.number (not-true _ q.0) (ltb-true _ _ q.1) k (omega arith)))
 
 -- ---- the clauses read the sums that a frame of the dimension has
 
@@ -82,15 +82,15 @@ module _ (L : Limits) (p k : ℕ) (f g : Field → ℕ) (x : Stored) (l : k < p)
   within own m =
       both (is_within L (own (sent_in m) + number x (sent_in m))) (is_within L (own (taken_in m) + number x (taken_in m)))
 
-  shells-same : every (suc k) (p - suc k) (within f) ≡ every (suc k) (p - suc k) (within g)
-  shells-same =
+  shells_same : every (suc k) (p - suc k) (within f) ≡ every (suc k) (p - suc k) (within g)
+  shells_same =
       every_same (suc k) (p - suc k) (within f) (within g)
       (λ m a b. rw (same (sent_in m) (omega arith, omega arith), same (taken_in m) (omega arith, omega arith)))
 
-  pub clauses-same : first_clauses L p k f x ≡ first_clauses L p k g x
+  pub clauses_same : first_clauses L p k f x ≡ first_clauses L p k g x
   unfolding first_clauses
-  clauses-same =
-      rw (same (sent_in k) (omega arith, l), same (taken_in k) (omega arith, l), same all_sent tt, same all_taken tt, shells-same)
+  clauses_same =
+      rw (same (sent_in k) (omega arith, l), same (taken_in k) (omega arith, l), same all_sent tt, same all_taken tt, shells_same)
 
 -- ---- the board and the position
 
@@ -139,9 +139,9 @@ module _ (L : Limits) (n : Node) where
           (both_true (every 0 (dims n) (agrees L n 1)) (every 0 n.dim (agrees L n 2)) e).0 k (omega arith)
           (omega arith)
 
-  pub passed-second : (k : ℕ) → passed_ok L n ≡ true → second_past (spot_of L n) k ≡ true → agrees L n 2 k ≡ true
+  pub passed_second : (k : ℕ) → passed_ok L n ≡ true → second_past (spot_of L n) k ≡ true → agrees L n 2 k ≡ true
   unfolding passed_ok
-  passed-second k ok = go (eqb n.pass 1) ok
+  passed_second k ok = go (eqb n.pass 1) ok
     where
       go : (t : Bool)
           → choose t (every 0 n.dim (agrees L n 1))
@@ -154,11 +154,11 @@ module _ (L : Limits) (n : Node) where
           (both_true (every 0 (dims n) (agrees L n 1)) (every 0 n.dim (agrees L n 2)) e).1 k (omega arith)
           (omega (arith, ltb-true k n.dim h))
 
-  pub all-passed : position_ok n ≡ true
+  pub all_passed : position_ok n ≡ true
       → ((k : ℕ) → k < dims n → first_past (spot_of L n) k ≡ true → agrees L n 1 k ≡ true)
       → ((k : ℕ) → k < dims n → second_past (spot_of L n) k ≡ true → agrees L n 2 k ≡ true) → passed_ok L n ≡ true
   unfolding passed_ok
-  all-passed position = go (eqb n.pass 1)
+  all_passed position = go (eqb n.pass 1)
     where
       go : (t : Bool) → ((k : ℕ) → k < dims n → either (not t) (ltb k n.dim) ≡ true → agrees L n 1 k ≡ true)
           → ((k : ℕ) → k < dims n → both (not t) (ltb k n.dim) ≡ true → agrees L n 2 k ≡ true)

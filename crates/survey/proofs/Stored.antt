@@ -75,11 +75,11 @@ module _ (L : Limits) (awaits : Bool) (p k : ℕ) (x : Stored) (ok : first_test 
   kept all_sent l = record { has = x.present; gone = λ e. e; fine = all.0 }
   kept all_taken l = record { has = x.present; gone = λ e. e; fine = all.1 }
 
-  pub first-low : (f : Field) → Has f → number x f ≤ field_limit L
-  first-low f h = kept_low (kept f h)
+  pub first_low : (f : Field) → Has f → number x f ≤ field_limit L
+  first_low f h = kept_low (kept f h)
 
-  pub first-same : (f : Field) → Has f → choose x.present (number x f) 0 ≡ number x f
-  first-same f h = kept_same x.present (kept f h)
+  pub first_same : (f : Field) → Has f → choose x.present (number x f) 0 ≡ number x f
+  first_same f h = kept_same x.present (kept f h)
 
   pub first_none : awaits ≡ false → x.present ≡ false
   first_none e = none_held awaits x.present tests.0 e
@@ -98,8 +98,8 @@ module _ (L : Limits) (awaits : Bool) (y : Confirm) (ok : second_test L awaits y
       let q = both_true (either awaits (not y.present)) (pair_ok L y.present y.agreed y.issued.0) ok in
       none_held awaits y.present q.0 e
 
-  pub second-low : y.issued.0 ≤ field_limit L
-  second-low = kept_low issued
+  pub second_low : y.issued.0 ≤ field_limit L
+  second_low = kept_low issued
 
-  pub second-same : choose y.present y.issued.0 0 ≡ y.issued.0
-  second-same = kept_same y.present issued
+  pub second_same : choose y.present y.issued.0 0 ≡ y.issued.0
+  second_same = kept_same y.present issued

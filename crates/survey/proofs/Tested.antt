@@ -17,7 +17,7 @@ use Rattle.survey.specs.Pieces.{shell_ok, first_test, second_test, awaits_at, fi
 use Rattle.survey.specs.Pieces.{step_test}
 use Rattle.survey.proofs.Valid.{Whole}
 use Rattle.survey.proofs.Sums.{first_test_lem, second_test_lem}
-use Rattle.survey.proofs.Steps.{spot_of, awaits_same, few, passed_first, passed-second, all-passed}
+use Rattle.survey.proofs.Steps.{spot_of, awaits_same, few, passed_first, passed_second, all_passed}
 
 -- a test that is made only where another holds
 either_make : (s t : Bool) → (s ≡ true → t ≡ true) → either (not s) t ≡ true
@@ -58,12 +58,12 @@ module _ (L : Limits) (n : Node) (board : board_ok L n ≡ true) (k : ℕ) where
       let q = both_true (ltb k (dims n)) (not (is_alone n k)) e in
       (ltb-true _ _ q.0, not-true _ q.1)
 
-  agrees-is : (pass : ℕ) → is_alone n k ≡ false → agrees L n pass k ≡ all_hold (clauses L n pass k)
+  agrees_is : (pass : ℕ) → is_alone n k ≡ false → agrees L n pass k ≡ all_hold (clauses L n pass k)
   unfolding agrees
-  agrees-is pass e = choose_no _ _ e
+  agrees_is pass e = choose_no _ _ e
 
-  pub whole-step : k < width → Whole L n → step_at L n k ≡ true
-  whole-step l w =
+  pub whole_step : k < width → Whole L n → step_at L n k ≡ true
+  whole_step l w =
       step_is
       ∙ both_make (every_at 0 width (first_ok L n) w.first k (omega arith) (omega arith))
       (both_make (every_at 0 width (second_ok L n) w.second k (omega arith) (omega arith))
@@ -72,9 +72,9 @@ module _ (L : Limits) (n : Node) (board : board_ok L n ≡ true) (k : ℕ) where
       let a = awaited e in
       both_make
       (either_make (first_past (spot_of L n) k) (all_hold (clauses L n 1 k))
-      (λ f. sym (agrees-is 1 a.1) ∙ passed_first L n k a.0 w.passed f))
+      (λ f. sym (agrees_is 1 a.1) ∙ passed_first L n k a.0 w.passed f))
       (either_make (second_past (spot_of L n) k) (all_hold (clauses L n 2 k))
-      (λ f. sym (agrees-is 2 a.1) ∙ passed-second L n k w.passed f)))))
+      (λ f. sym (agrees_is 2 a.1) ∙ passed_second L n k w.passed f)))))
 
   module _ (e : step_at L n k ≡ true) where
     parts : (first_ok L n k ≡ true) × (second_ok L n k ≡ true) × (held ≡ true)
@@ -90,8 +90,8 @@ module _ (L : Limits) (n : Node) (board : board_ok L n ≡ true) (k : ℕ) where
     step_second = parts.1
 
     -- where the step is not alone, both passes are as they must be
-    both-held : k < dims n → is_alone n k ≡ false → (first ≡ true) × (second ≡ true)
-    both-held l f =
+    both_held : k < dims n → is_alone n k ≡ false → (first ≡ true) × (second ≡ true)
+    both_held l f =
         both_true first second
         (either_use (awaits_frame n k) (both first second) parts.2 (both_make (lt-ltb k (dims n) l) (ap not f)))
 
@@ -104,13 +104,13 @@ module _ (L : Limits) (n : Node) (board : board_ok L n ≡ true) (k : ℕ) where
         go true f = refl
         go false f = h f
 
-    step-agrees-first : k < dims n → first_past (spot_of L n) k ≡ true → agrees L n 1 k ≡ true
-    step-agrees-first l p =
-        agreed 1 (λ f. either_use (first_past (spot_of L n) k) (all_hold (clauses L n 1 k)) (both-held l f).0 p)
+    step_agrees_first : k < dims n → first_past (spot_of L n) k ≡ true → agrees L n 1 k ≡ true
+    step_agrees_first l p =
+        agreed 1 (λ f. either_use (first_past (spot_of L n) k) (all_hold (clauses L n 1 k)) (both_held l f).0 p)
 
-    step-agrees-second : k < dims n → second_past (spot_of L n) k ≡ true → agrees L n 2 k ≡ true
-    step-agrees-second l p =
-        agreed 2 (λ f. either_use (second_past (spot_of L n) k) (all_hold (clauses L n 2 k)) (both-held l f).1 p)
+    step_agrees_second : k < dims n → second_past (spot_of L n) k ≡ true → agrees L n 2 k ≡ true
+    step_agrees_second l p =
+        agreed 2 (λ f. either_use (second_past (spot_of L n) k) (all_hold (clauses L n 2 k)) (both_held l f).1 p)
 
 pub steps_whole : (L : Limits) → Fits L → (n : Node) → board_ok L n ≡ true → position_ok n ≡ true → tallies_ok L n ≡ true
     → total_ok L n ≡ true → busy_ok n ≡ true → ((k : ℕ) → k < width → step_at L n k ≡ true) → Whole L n
@@ -124,7 +124,7 @@ steps_whole L fit n board position tallies total busy steps =
       first = every_make 0 width (first_ok L n) (λ k a b. step_first L n board k (steps k (omega arith)));
       second = every_make 0 width (second_ok L n) (λ k a b. step_second L n board k (steps k (omega arith)));
       passed =
-          all-passed L n position (λ k l p. step-agrees-first L n board k (steps k (low k l)) l p)
-          (λ k l p. step-agrees-second L n board k (steps k (low k l)) l p);
+          all_passed L n position (λ k l p. step_agrees_first L n board k (steps k (low k l)) l p)
+          (λ k l p. step_agrees_second L n board k (steps k (low k l)) l p);
       busy = busy;
     }

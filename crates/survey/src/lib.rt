@@ -2,7 +2,9 @@
 // stands in the crates above.
 
 // What the test of a step needs to know of the node.
-#[derive(Drop)]
+#![tactic(auto)]
+
+#[derive(Clone, Copy)]
 pub struct Spot {
     pub dims: u32,
     // the node awaits nobody in dimension 0

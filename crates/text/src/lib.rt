@@ -1,5 +1,7 @@
 // What a rehearsal prints, but for the lines of events, put into a lent buffer. Any place may be handed; what has no room is left
 // out, and each function answers where its text ends.
+#![tactic(auto)]
+
 ghost use Rattle.std.specs.Prelude.{◌≡◌};
 ghost use Rattle.printing.specs.Put.{put, ends};
 ghost use Rattle.text.specs.Text.{header, stop_text};

@@ -12,7 +12,7 @@ use Rattle.base.proofs.Laws.{clash, choose_yes, choose_no}
 use Rattle.tree.specs.Tree.{dimension, part, run_below, run_of, awaited, inside, distance_below, distance, InShell}
 use Rattle.tree.specs.declared.Run.{Run}
 use Rattle.tree.proofs.Runs.{In, below_step, run_zero, run_top, run_has, run_same, run_grows}
-use Rattle.tree.proofs.Halves.{joined-other, joined-apart, joined-has, joined, awaited-below, alone-keeps}
+use Rattle.tree.proofs.Halves.{joined_other, joined_apart, joined_has, joined, awaited_below, alone_keeps}
 
 pub inside_yes : (r : Run) (b : ℕ) → In r b → inside r b ≡ true
 inside_yes r b h = rw (le-leb r.low b h.0, le-leb b r.high h.1)
@@ -41,9 +41,9 @@ inside_in r b e = go (dec_in r b)
     go (no i) = clash (sym e ∙ inside_no r b i)
 
 module _ (P a b k : ℕ) where
-  pub below-together : In (run_of P k a) b → distance_below P a b (suc k) ≡ distance_below P a b k
+  pub below_together : In (run_of P k a) b → distance_below P a b (suc k) ≡ distance_below P a b k
   unfolding distance_below
-  below-together h = choose_yes (distance_below P a b k) k (inside_yes (run_of P k a) b h)
+  below_together h = choose_yes (distance_below P a b k) k (inside_yes (run_of P k a) b h)
 
   pub below_apart : (In (run_of P k a) b → ⊥) → distance_below P a b (suc k) ≡ k
   unfolding distance_below
@@ -52,12 +52,12 @@ module _ (P a b k : ℕ) where
 -- one turn of the walk down from the root: from dimension k to k - 1
 module _ (P a b p k : ℕ) (r s : Run) (e : p ≡ dimension P) (pos : 0 < k) (top : k ≤ p) (was : r ≡ run_below P (p - k) a)
     (now : s ≡ part r a) where
-  pub walk-run : s ≡ run_below P (p - (k - 1)) a
-  walk-run = let z : p - (k - 1) ≡ p - k + 1 = omega arith in rw (z, below_step) (cc)
+  pub walk_run : s ≡ run_below P (p - (k - 1)) a
+  walk_run = let z : p - (k - 1) ≡ p - k + 1 = omega arith in rw (z, below_step) (cc)
 
   walked : run_of P (k - 1) a ≡ s
   unfolding run_of
-  walked = rw (← e) (sym walk-run)
+  walked = rw (← e) (sym walk_run)
 
   split : distance_below P a b k ≡ choose (inside s b) (distance_below P a b (k - 1)) (k - 1)
   unfolding distance_below
@@ -65,11 +65,11 @@ module _ (P a b p k : ℕ) (r s : Run) (e : p ≡ dimension P) (pos : 0 < k) (to
       let again : k ≡ suc (k - 1) = omega arith in
       ap (distance_below P a b) again ∙ ap (λ r. choose (inside r b) (distance_below P a b (k - 1)) (k - 1)) walked
 
-  pub walk-together : inside s b ≡ true → distance_below P a b (k - 1) ≡ distance_below P a b k
-  walk-together h = sym (split ∙ choose_yes (distance_below P a b (k - 1)) (k - 1) h)
+  pub walk_together : inside s b ≡ true → distance_below P a b (k - 1) ≡ distance_below P a b k
+  walk_together h = sym (split ∙ choose_yes (distance_below P a b (k - 1)) (k - 1) h)
 
-  pub walk-apart : inside s b ≡ false → k - 1 ≡ distance_below P a b k
-  walk-apart h = sym (split ∙ choose_no (distance_below P a b (k - 1)) (k - 1) h)
+  pub walk_apart : inside s b ≡ false → k - 1 ≡ distance_below P a b k
+  walk_apart h = sym (split ∙ choose_no (distance_below P a b (k - 1)) (k - 1) h)
 
 -- ---- What the distance says of runs
 
@@ -88,13 +88,13 @@ module _ (P a b : ℕ) (ha : a < P) (ne : a ≢ b) where
   Apart : ℕ → ℕ → Type 0
   Apart n k = (In (run_of P k a) b → distance_below P a b n < k) × (distance_below P a b n < k → In (run_of P k a) b)
 
-  not-zero : In (run_of P 0 a) b → ⊥
-  not-zero i = let e = run_zero P a ha in let j : In (record { low = a; high = a }) b = rw e at i in ne (omega arith)
+  not_zero : In (run_of P 0 a) b → ⊥
+  not_zero i = let e = run_zero P a ha in let j : In (record { low = a; high = a }) b = rw e at i in ne (omega arith)
 
   -- b is in the runs of a above the distance, and in none up to it
   apart : (n : ℕ) → n ≤ dimension P → In (run_of P n a) b → (k : ℕ) → k ≤ n → Apart n k
   unfolding Apart
-  apart zero l i k m = absurd (not-zero i)
+  apart zero l i k m = absurd (not_zero i)
   apart (suc n) l i k m = go (apart n (omega arith)) (dec_in (run_of P n a) b) (dec_le k n)
     where
       top : Dec (k ≤ n) → (k ≤ n → ⊥) → In (run_of P k a) b
@@ -104,10 +104,10 @@ module _ (P a b : ℕ) (ha : a < P) (ne : a ≢ b) where
       go : (In (run_of P n a) b → (k : ℕ) → k ≤ n → Apart n k) → Dec (In (run_of P n a) b) → Dec (k ≤ n)
           → (In (run_of P k a) b → distance_below P a b (suc n) < k)
           × (distance_below P a b (suc n) < k → In (run_of P k a) b)
-      go ih (yes j) (yes q) = rw (below-together P a b n j) (ih j k q)
+      go ih (yes j) (yes q) = rw (below_together P a b n j) (ih j k q)
       go ih (yes j) (no q) =
           let s = (ih j n (omega arith)).0 j in
-          let e = below-together P a b n j in
+          let e = below_together P a b n j in
           ((λ x. omega arith), (λ x. top (dec_le k n) q))
       go ih (no j) (yes q) =
           let e = below_apart P a b n j in
@@ -127,8 +127,8 @@ module _ (P a b : ℕ) (ha : a < P) (ne : a ≢ b) where
     unfolding Apart distance
     nearer k l i = (apart (dimension P) (omega arith) in_top k l).1 i
 
-    pub distance-below : distance P a b < dimension P
-    distance-below = near (dimension P) (omega arith) in_top
+    pub distance_below_lem : distance P a b < dimension P
+    distance_below_lem = near (dimension P) (omega arith) in_top
 
 -- ---- Shells
 
@@ -149,41 +149,41 @@ module _ (P a b : ℕ) (ha : a < P) (hb : b < P) (ne : a ≢ b) where
 -- the distance is symmetric
 pub distance_symmetric : (P a b : ℕ) → a < P → b < P → a ≢ b → distance P a b ≡ distance P b a
 distance_symmetric P a b ha hb ne =
-    let x = distance-below P a b ha ne hb in
-    let y = distance-below P b a hb (λ q. ne (sym q)) ha in
+    let x = distance_below_lem P a b ha ne hb in
+    let y = distance_below_lem P b a hb (λ q. ne (sym q)) ha in
     let u = other_way P a b ha hb ne (suc (distance P a b)) x (omega arith) in
     let v = other_way P b a hb ha (λ q. ne (sym q)) (suc (distance P b a)) y (omega arith) in
     omega arith
 
 module _ (P k a : ℕ) (l : k < dimension P) (ha : a < P) where
   -- shell k of a node is the run of the node that it awaits in k
-  pub shell-awaited : (w b : ℕ) → awaited P k a ≡ some w → InShell P k a b → In (run_of P k w) b
-  shell-awaited w b q s =
+  pub shell_awaited : (w b : ℕ) → awaited P k a ≡ some w → InShell P k a b → In (run_of P k w) b
+  shell_awaited w b q s =
       let d = s.2 in
       let up = nearer P a b ha s.1 s.0 (suc k) l (omega arith) in
-      joined-other b (joined P k a l ha w q) up (λ i. far k (omega arith)
+      joined_other b (joined P k a l ha w q) up (λ i. far k (omega arith)
       (near P a b ha s.1 s.0 k (omega arith) i))
     where
       far : (k : ℕ) → k ≤ distance P a b → distance P a b < k → ⊥
       far k e f = omega arith
 
-  pub awaited-shell : (w b : ℕ) → awaited P k a ≡ some w → In (run_of P k w) b → InShell P k a b
-  awaited-shell w b q i =
-      let hw = awaited-below P k a l ha w q in
+  pub awaited_shell : (w b : ℕ) → awaited P k a ≡ some w → In (run_of P k w) b → InShell P k a b
+  awaited_shell w b q i =
+      let hw = awaited_below P k a l ha w q in
       let hb = (run_same P k w b hw i).0 in
       let own = run_has P k a ha in
       let j = joined P k a l ha w q in
-      let out : In (run_of P k a) b → ⊥ = λ o. joined-apart b j o i in
+      let out : In (run_of P k a) b → ⊥ = λ o. joined_apart b j o i in
       let ne : a ≢ b = λ e. out (subst (λ b. In (run_of P k a) b) e own) in
-      let d = near P a b ha ne hb (suc k) l (joined-has a b j own i) in
+      let d = near P a b ha ne hb (suc k) l (joined_has a b j own i) in
       (hb, ne, exactly (distance P a b) k d (λ f. out (nearer P a b ha ne hb k (omega arith) f)))
 
   -- a node that is alone in k has nobody at distance k
-  pub alone-shell : (b : ℕ) → awaited P k a ≡ none → InShell P k a b → ⊥
-  alone-shell b q s =
+  pub alone_shell : (b : ℕ) → awaited P k a ≡ none → InShell P k a b → ⊥
+  alone_shell b q s =
       let d = s.2 in
       let up = nearer P a b ha s.1 s.0 (suc k) l (omega arith) in
-      let n = near P a b ha s.1 s.0 k (omega arith) (rw (alone-keeps P k a l ha q) at up) in
+      let n = near P a b ha s.1 s.0 k (omega arith) (rw (alone_keeps P k a l ha q) at up) in
       omega arith
 
 shell_moves : (P k m a y b : ℕ) → a < P → k ≤ m → m < dimension P → In (run_of P k a) y

@@ -1,5 +1,7 @@
 // Who talks to whom on a board: the dimension of a board, and what the lookups of places and distances answer.
 // Any number may be handed; what is not allowed is refused with its number (rule R3).
+#![tactic(auto)]
+
 ghost use Rattle.std.specs.Prelude.{◌≡◌};
 ghost use Rattle.base.specs.Limits.{base, limits_of};
 ghost use Rattle.tree.specs.Lookups.{dimension_lookup, found_answer};
@@ -7,14 +9,14 @@ ghost use Rattle.tree.specs.Lookups.{dimension_lookup, found_answer};
 use base::Bounds;
 
 // A number, or the number of a refusal.
-#[derive(Drop)]
+#[derive(Clone, Copy)]
 pub enum Found {
     Is(u32),
     Refused(u8),
 }
 
 // The place of a node in a dimension.
-#[derive(Drop)]
+#[derive(Clone, Copy)]
 pub enum Placed {
     // Nobody to send to, nobody to await.
     Alone,
@@ -28,7 +30,7 @@ pub enum Placed {
 }
 
 // The nodes low to high.
-#[derive(Drop)]
+#[derive(Clone, Copy)]
 pub struct Run {
     pub low: u32,
     pub high: u32,

@@ -16,9 +16,9 @@ use Rattle.node.specs.Answers.{Given, Barrier, barred, barrier_of}
 use Rattle.node.specs.Barrier.{barrier, barrier_bytes, lent_after, sending, length_due}
 use Rattle.node.specs.declared.Node.{Node}
 use Rattle.node.specs.declared.BarrierAnswer.{BarrierAnswer}
-use Rattle.node.proofs.Valid.{valid-known}
+use Rattle.node.proofs.Valid.{valid_known}
 use Rattle.node.proofs.Bound.{due_length}
-use Rattle.node.proofs.Ways.{CallWay, call-way}
+use Rattle.node.proofs.Ways.{CallWay, call_way}
 use Rattle.layout.specs.Held.{is_whole, unpacked}
 use Rattle.state_calls.specs.On.{Kept, keep, step_on, step_bytes, step_replied}
 use Rattle.states.specs.declared.State.{State}
@@ -27,8 +27,8 @@ use Rattle.under_way.specs.Frames.{place_size, room_for, framed}
 use Rattle.under_way.proofs.Parts.{frame_part, length_framed}
 use Rattle.board_states.specs.States.{state_at, node_at}
 use Rattle.board_states.specs.declared.Stage.{Stage}
-use Rattle.turn_frames.specs.Framing.{called_at, oneFrameBytes, twoFramesBytes}
-use Rattle.turn_call.specs.Calling.{callActed, callActedBytes, callAct, callActBytes}
+use Rattle.turn_frames.specs.Framing.{called_at, one_frame_bytes, two_frames_bytes}
+use Rattle.turn_call.specs.Calling.{call_acted, call_acted_bytes, call_act, call_act_bytes}
 use Rattle.turn_call.specs.Pieces.{is_sent, call_sends, due}
 
 -- a reply whose answer is known
@@ -43,13 +43,13 @@ pub record Sending (n : Node) : Type 0 where
   pub fits : length_due n ≤ place_size
 
 node_sends : (n : Node) → is_sent (barrier base n place_size).answer ≡ true → Sending n
-node_sends n e = go (call-way base n place_size) refl e
+node_sends n e = go (call_way base n place_size) refl e
   where
     go : {g : Given Barrier} → CallWay base n place_size g → barrier base n place_size ≡ g → is_sent g.answer ≡ true
         → Sending n
     go (CallWay.refused x s) q f = clash (sym f)
     go (CallWay.sends first rest v b t r l) q f =
-        record { step = q; count = due_length n (valid-known base n v).pass; fits = l }
+        record { step = q; count = due_length n (valid_known base n v).pass; fits = l }
     go (CallWay.waits v b d s a) q f = clash (sym f)
     go (CallWay.next v b d a l) q f = clash (sym f)
     go (CallWay.second v b d s a l p) q f = clash (sym f)
@@ -96,18 +96,18 @@ module _ (st : Stage) (headers : ℕ) (bytes : List ℕ) (a : ℕ) (sends : call
   abbrev frame : List ℕ
   frame = due (node_at st a)
 
-  pub one-due : oneFrameBytes st headers bytes a
+  pub one_due : one_frame_bytes st headers bytes a
       ≡ choose (ltb st.under (room_for headers bytes)) (framed bytes st.under frame) bytes
-  one-due =
+  one_due =
       where_room _ _ _ _
       (λ t.
       let l = ltb-true st.under (room_for headers bytes) t in
       due_at (state_at st a) bytes st.under sends (omega arith))
 
-  pub two-due : twoFramesBytes st headers bytes a
+  pub two_due : two_frames_bytes st headers bytes a
       ≡ choose (ltb (st.under + 1) (room_for headers bytes))
       (framed (framed bytes st.under frame) (st.under + 1) frame) bytes
-  two-due =
+  two_due =
       where_room _ _ _ _
       (λ t.
       let l = ltb-true (st.under + 1) (room_for headers bytes) t in
@@ -118,10 +118,10 @@ module _ (st : Stage) (headers : ℕ) (bytes : List ℕ) (a : ℕ) (sends : call
 
 pub call_by : (st : Stage) (headers : ℕ) (bytes : List ℕ) (a : ℕ) (r : Kept Barrier)
     → step_on (state_at st a) place_size ≡ r
-    → (callAct st headers bytes a ≡ callActed st headers bytes a r r.answer)
-    × (callActBytes st headers bytes a ≡ callActedBytes st headers bytes a r.answer)
-unfolding callAct callActBytes
+    → (call_act st headers bytes a ≡ call_acted st headers bytes a r r.answer)
+    × (call_act_bytes st headers bytes a ≡ call_acted_bytes st headers bytes a r.answer)
+unfolding call_act call_act_bytes
 call_by st headers bytes a r e = (
-  ap (λ g. callActed st headers bytes a g g.answer) e,
-  ap (λ g. callActedBytes st headers bytes a g.answer) e,
+  ap (λ g. call_acted st headers bytes a g g.answer) e,
+  ap (λ g. call_acted_bytes st headers bytes a g.answer) e,
 )

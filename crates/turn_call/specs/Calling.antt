@@ -13,42 +13,42 @@ use Rattle.board_states.specs.States.{state_at, node_at, changed}
 use Rattle.stage.specs.Board.{frame_item, quiet}
 use Rattle.board_states.specs.declared.Stage.{Stage}
 use Rattle.stage.specs.declared.Acted.{Acted}
-use Rattle.turn_frames.specs.Framing.{oneFrame, twoFrames}
+use Rattle.turn_frames.specs.Framing.{one_frame, two_frames}
 
 module _ (st : Stage) (headers : ℕ) (bytes : List ℕ) where
-  abbrev pub frameActed : ℕ → State → List ℕ → Acted
-  frameActed a after [] = quiet st headers st a 20
-  frameActed a after (b ∷ []) = oneFrame st headers bytes a after (frame_item a b (node_at st a))
-  frameActed a after (b ∷ c ∷ l) =
-      twoFrames st headers bytes a after (frame_item a b (node_at st a)) (frame_item a c (node_at st a))
+  abbrev pub frame_acted : ℕ → State → List ℕ → Acted
+  frame_acted a after [] = quiet st headers st a 20
+  frame_acted a after (b ∷ []) = one_frame st headers bytes a after (frame_item a b (node_at st a))
+  frame_acted a after (b ∷ c ∷ l) =
+      two_frames st headers bytes a after (frame_item a b (node_at st a)) (frame_item a c (node_at st a))
 
-  abbrev pub callActed : ℕ → Kept Barrier → Barrier → Acted
-  callActed a r (sent to length) = frameActed a r.state to
-  callActed a r (waits clause) = quiet st headers (changed st a r.state st.under) a 21
-  callActed a r moved = quiet st headers (changed st a r.state st.under) a 22
-  callActed a r left = quiet st headers (changed st a r.state st.under) a 23
-  callActed a r (barred x) = quiet st headers st a x
+  abbrev pub call_acted : ℕ → Kept Barrier → Barrier → Acted
+  call_acted a r (sent to length) = frame_acted a r.state to
+  call_acted a r (waits clause) = quiet st headers (changed st a r.state st.under) a 21
+  call_acted a r moved = quiet st headers (changed st a r.state st.under) a 22
+  call_acted a r left = quiet st headers (changed st a r.state st.under) a 23
+  call_acted a r (barred x) = quiet st headers st a x
 
-  unfoldable pub callAct : ℕ → Acted
-  callAct a = let r = step_on (state_at st a) place_size in callActed a r r.answer
+  unfoldable pub call_act : ℕ → Acted
+  call_act a = let r = step_on (state_at st a) place_size in call_acted a r r.answer
 
   -- ---- The lent bytes after it
 
-  abbrev pub frameActedBytes : List ℕ → List ℕ → List ℕ
-  frameActedBytes frame [] = bytes
-  frameActedBytes frame (b ∷ []) =
+  abbrev pub frame_acted_bytes : List ℕ → List ℕ → List ℕ
+  frame_acted_bytes frame [] = bytes
+  frame_acted_bytes frame (b ∷ []) =
       choose (ltb st.under (room_for headers bytes)) (framed bytes st.under frame) bytes
-  frameActedBytes frame (b ∷ c ∷ l) =
+  frame_acted_bytes frame (b ∷ c ∷ l) =
       choose (ltb (st.under + 1) (room_for headers bytes))
       (framed (framed bytes st.under frame) (st.under + 1) frame) bytes
 
-  abbrev pub callActedBytes : ℕ → Barrier → List ℕ
-  callActedBytes a (sent to length) =
-      frameActedBytes (frame_bytes (dims (node_at st a)) (frame_due (node_at st a))) to
-  callActedBytes a (waits clause) = bytes
-  callActedBytes a moved = bytes
-  callActedBytes a left = bytes
-  callActedBytes a (barred x) = bytes
+  abbrev pub call_acted_bytes : ℕ → Barrier → List ℕ
+  call_acted_bytes a (sent to length) =
+      frame_acted_bytes (frame_bytes (dims (node_at st a)) (frame_due (node_at st a))) to
+  call_acted_bytes a (waits clause) = bytes
+  call_acted_bytes a moved = bytes
+  call_acted_bytes a left = bytes
+  call_acted_bytes a (barred x) = bytes
 
-  unfoldable pub callActBytes : ℕ → List ℕ
-  callActBytes a = callActedBytes a (step_on (state_at st a) place_size).answer
+  unfoldable pub call_act_bytes : ℕ → List ℕ
+  call_act_bytes a = call_acted_bytes a (step_on (state_at st a) place_size).answer

@@ -11,7 +11,7 @@ use Rattle.states.specs.declared.State.{State}
 use Rattle.under_way.specs.Frames.{place_size}
 use Rattle.board_states.specs.States.{node_at}
 use Rattle.board_states.specs.declared.Stage.{Stage}
-use Rattle.turn_call.specs.Calling.{frameActedBytes}
+use Rattle.turn_call.specs.Calling.{frame_acted_bytes}
 
 -- the barrier call sends
 abbrev pub is_sent : Barrier → Bool
@@ -34,4 +34,4 @@ call_sends s = is_sent (step_on s place_size).answer
 
 -- the lent bytes with its frame at the receivers' places
 abbrev pub frames_in : Stage → ℕ → List ℕ → ℕ → List ℕ → List ℕ
-frames_in st headers bytes a to = frameActedBytes st headers bytes (due (node_at st a)) to
+frames_in st headers bytes a to = frame_acted_bytes st headers bytes (due (node_at st a)) to

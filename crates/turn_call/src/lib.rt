@@ -1,12 +1,14 @@
 // What a line of a barrier call does to a board of up to 16 nodes, and to the bytes that are lent.
 // Any board, numbers and bytes may be handed.
+#![tactic(auto)]
+
 ghost use Rattle.std.specs.Prelude.{◌≡◌, true, false, List, ℕ};
 ghost use Rattle.node.specs.Answers.{barrier_of, barrier_number};
 ghost use Rattle.state_calls.specs.On.{step_replied, step_on};
 ghost use Rattle.under_way.specs.Frames.{place_size};
 ghost use Rattle.board_states.specs.States.{state_at, node_at};
 ghost use Rattle.stage.specs.Board.{frame_item};
-ghost use Rattle.turn_call.specs.Calling.{frameActed, callActed, callAct, callActBytes};
+ghost use Rattle.turn_call.specs.Calling.{frame_acted, call_acted, call_act, call_act_bytes};
 ghost use Rattle.turn_call.specs.Pieces.{is_sent, call_sends, frames_in, to_list};
 
 use board_states::Stage;
@@ -48,7 +50,7 @@ fn frame_act(
     bytes: &mut [u8],
 ) -> Acted
     requires { call_sends (state_at st a) ≡ true }
-    ensures answer { result ≡ frameActed st headers bytes.old a after (to_list to) }
+    ensures answer { result ≡ frame_acted st headers bytes.old a after (to_list to) }
     ensures memory { bytes.new ≡ frames_in st headers bytes.old a (to_list to) }
 {
     let it = frame_item(st, a, to.first);
@@ -78,7 +80,7 @@ fn number_of(answer: BarrierAnswer) -> u32
 // What the call does where it sends no frame. A refusal leaves the board as it was.
 fn quiet_act(st: Stage, a: u32, r: StepReply, headers: usize) -> Acted
     requires { is_sent (barrier_of r.answer) ≡ false }
-    ensures { (bs : List ℕ) → result ≡ callActed st headers bs a (step_replied r) (barrier_of r.answer) }
+    ensures { (bs : List ℕ) → result ≡ call_acted st headers bs a (step_replied r) (barrier_of r.answer) }
 {
     let under = st.under;
     let answer = r.answer;
@@ -92,8 +94,8 @@ fn quiet_act(st: Stage, a: u32, r: StepReply, headers: usize) -> Acted
 
 // What the call does. A frame's bytes are written only where there is a place for each receiver.
 pub fn call_act(st: Stage, a: u32, headers: usize, bytes: &mut [u8]) -> Acted
-    ensures answer { result ≡ callAct st headers bytes.old a }
-    ensures memory { bytes.new ≡ callActBytes st headers bytes.old a }
+    ensures answer { result ≡ call_act st headers bytes.old a }
+    ensures memory { bytes.new ≡ call_act_bytes st headers bytes.old a }
 {
     let r = tried(board_states::state_at(st, a));
     let answer = r.answer;

@@ -17,8 +17,8 @@ use Rattle.stage.specs.declared.Acted.{Acted}
 
 module _ (st : Stage) (headers : ℕ) (bytes : List ℕ) where
   -- the header at a place goes
-  abbrev pub takeOff : Stage → ℕ → ℕ → ℕ → Acted
-  takeOff after actor answer at =
+  abbrev pub take_off : Stage → ℕ → ℕ → ℕ → Acted
+  take_off after actor answer at =
       record {
         stage = after;
         actor = actor;
@@ -31,25 +31,25 @@ module _ (st : Stage) (headers : ℕ) (bytes : List ℕ) where
       }
 
   -- the call at b for an item at a place
-  abbrev pub itemCall : ℕ → ℕ → ℕ → Item → Kept Outcome
-  itemCall a b at it =
+  abbrev pub item_call : ℕ → ℕ → ℕ → Item → Kept Outcome
+  item_call a b at it =
       choose (eqb it.kind (mark Job)) (on_state (λ n. takeCall base n Job a it.phase) (state_at st b))
       (choose (eqb it.kind (mark Note)) (on_state (λ n. takeCall base n Note a it.phase) (state_at st b))
       (on_state (λ n. frame_in base n (frame_held st.size bytes at)) (state_at st b)))
 
-  abbrev pub deliverActed : ℕ → ℕ → Kept Outcome → ℕ → Acted
-  deliverActed b at r answer =
-      choose (eqb answer 7) (quiet st headers st b 7) (takeOff (changed st b r.state (st.under - 1)) b answer at)
+  abbrev pub deliver_acted : ℕ → ℕ → Kept Outcome → ℕ → Acted
+  deliver_acted b at r answer =
+      choose (eqb answer 7) (quiet st headers st b 7) (take_off (changed st b r.state (st.under - 1)) b answer at)
 
-  unfoldable pub deliverAct : ℕ → ℕ → ℕ → Item → Acted
-  deliverAct a b at it =
-      let r = itemCall a b at it in
-      choose (is_there st headers bytes at) (deliverActed b at r (outcome_number r.answer)) (quiet st headers st b 16)
+  unfoldable pub deliver_act : ℕ → ℕ → ℕ → Item → Acted
+  deliver_act a b at it =
+      let r = item_call a b at it in
+      choose (is_there st headers bytes at) (deliver_acted b at r (outcome_number r.answer)) (quiet st headers st b 16)
 
   -- ---- The lent bytes after it
 
-  unfoldable pub deliverActBytes : ℕ → ℕ → ℕ → Item → List ℕ
-  deliverActBytes a b at it =
-      let r = itemCall a b at it in
+  unfoldable pub deliver_act_bytes : ℕ → ℕ → ℕ → Item → List ℕ
+  deliver_act_bytes a b at it =
+      let r = item_call a b at it in
       choose (is_there st headers bytes at)
       (choose (eqb (outcome_number r.answer) 7) bytes (closed bytes st.under at)) bytes

@@ -1,12 +1,14 @@
 // What a line of a delivery does to a board of up to 16 nodes, and to the bytes that are lent.
 // Any board, numbers, item and bytes may be handed.
+#![tactic(auto)]
+
 ghost use Rattle.std.specs.Prelude.{◌≡◌, false, ◌+◌, ◌*◌, ◌≤◌, length};
 ghost use Rattle.base.specs.Limits.{base};
 ghost use Rattle.tree.specs.Lookups.{bad_board};
 ghost use Rattle.node.specs.Calls.{frame_in};
 ghost use Rattle.state_calls.specs.On.{replied, on_state};
 ghost use Rattle.under_way.specs.Frames.{place_size, frame_held};
-ghost use Rattle.turn_deliver.specs.Delivering.{itemCall, deliverAct, deliverActBytes};
+ghost use Rattle.turn_deliver.specs.Delivering.{item_call, deliver_act, deliver_act_bytes};
 
 use base::Kind;
 use board_states::Stage;
@@ -28,7 +30,7 @@ fn frame_call(s: State, size: u32, at: usize, bytes: &[u8]) -> Reply
 // The call at b for an item at a place.
 fn item_call(st: Stage, a: u32, b: u32, at: usize, it: Item, bytes: &[u8]) -> Reply
     requires { (bad_board base st.size ≡ false) × (place_size * at + place_size ≤ length bytes.now) }
-    ensures { replied result ≡ itemCall st 0 bytes.now a b at it }
+    ensures { replied result ≡ item_call st 0 bytes.now a b at it }
 {
     let n = board_states::state_at(st, b);
     if it.kind == 0 {
@@ -50,8 +52,8 @@ pub fn deliver_act(
     headers: usize,
     bytes: &mut [u8],
 ) -> Acted
-    ensures answer { result ≡ deliverAct st headers bytes.old a b at it }
-    ensures memory { bytes.new ≡ deliverActBytes st headers bytes.old a b at it }
+    ensures answer { result ≡ deliver_act st headers bytes.old a b at it }
+    ensures memory { bytes.new ≡ deliver_act_bytes st headers bytes.old a b at it }
 {
     let under = st.under;
     if !stage::is_there(st, headers, bytes.len(), at) {

@@ -7,7 +7,7 @@ use Rattle.states.specs.declared.State.{State}
 use Rattle.items.specs.declared.Item.{Item}
 use Rattle.under_way.specs.Frames.{place_size, room_for}
 use Rattle.board_states.specs.States.{state_at, changed}
-use Rattle.stage.specs.Board.{quiet, putOne}
+use Rattle.stage.specs.Board.{quiet, put_one}
 use Rattle.board_states.specs.declared.Stage.{Stage}
 use Rattle.stage.specs.declared.Acted.{Acted}
 
@@ -32,23 +32,23 @@ module _ (st : Stage) (headers : ℕ) (bytes : List ℕ) where
         second = other;
       }
 
-  abbrev pub oneFrame : ℕ → State → Item → Acted
-  oneFrame a after it =
+  abbrev pub one_frame : ℕ → State → Item → Acted
+  one_frame a after it =
       choose (ltb st.under (room_for headers bytes))
-      (putOne st headers (changed st a after (st.under + 1)) a 20 it) (quiet st headers st a 15)
+      (put_one st headers (changed st a after (st.under + 1)) a 20 it) (quiet st headers st a 15)
 
-  abbrev pub twoFrames : ℕ → State → Item → Item → Acted
-  twoFrames a after it other =
+  abbrev pub two_frames : ℕ → State → Item → Item → Acted
+  two_frames a after it other =
       choose (ltb (st.under + 1) (room_for headers bytes))
       (put_two (changed st a after (st.under + 2)) a 20 it other) (quiet st headers st a 15)
 
   -- ---- The lent bytes after it
 
-  abbrev pub oneFrameBytes : ℕ → List ℕ
-  oneFrameBytes a =
+  abbrev pub one_frame_bytes : ℕ → List ℕ
+  one_frame_bytes a =
       choose (ltb st.under (room_for headers bytes)) (called_at bytes st.under (state_at st a)) bytes
 
-  abbrev pub twoFramesBytes : ℕ → List ℕ
-  twoFramesBytes a =
+  abbrev pub two_frames_bytes : ℕ → List ℕ
+  two_frames_bytes a =
       choose (ltb (st.under + 1) (room_for headers bytes))
       (called_at (called_at bytes st.under (state_at st a)) (st.under + 1) (state_at st a)) bytes

@@ -1,8 +1,10 @@
 // The frame of a barrier call written for one receiver or for two, and the headers of its items.
 // Any board, numbers, items and bytes may be handed.
+#![tactic(auto)]
+
 ghost use Rattle.std.specs.Prelude.{◌≡◌, ◌+◌, ◌*◌, ◌≤◌, length};
 ghost use Rattle.under_way.specs.Frames.{place_size};
-ghost use Rattle.turn_frames.specs.Framing.{called_at, oneFrame, oneFrameBytes, twoFrames, twoFramesBytes};
+ghost use Rattle.turn_frames.specs.Framing.{called_at, one_frame, one_frame_bytes, two_frames, two_frames_bytes};
 
 use board_states::Stage;
 use items::Item;
@@ -28,8 +30,8 @@ pub fn one_frame(
     headers: usize,
     bytes: &mut [u8],
 ) -> Acted
-    ensures answer { result ≡ oneFrame st headers bytes.old a after it }
-    ensures memory { bytes.new ≡ oneFrameBytes st headers bytes.old a }
+    ensures answer { result ≡ one_frame st headers bytes.old a after it }
+    ensures memory { bytes.new ≡ one_frame_bytes st headers bytes.old a }
 {
     let under = st.under;
     if under_way::room_for(headers, bytes.len()) <= under {
@@ -54,8 +56,8 @@ pub fn two_frames(
     headers: usize,
     bytes: &mut [u8],
 ) -> Acted
-    ensures answer { result ≡ twoFrames st headers bytes.old a after it other }
-    ensures memory { bytes.new ≡ twoFramesBytes st headers bytes.old a }
+    ensures answer { result ≡ two_frames st headers bytes.old a after it other }
+    ensures memory { bytes.new ≡ two_frames_bytes st headers bytes.old a }
 {
     let under = st.under;
     let room = under_way::room_for(headers, bytes.len());

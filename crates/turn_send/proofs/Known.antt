@@ -12,8 +12,8 @@ use Rattle.node.specs.Answers.{Given, Outcome, done, refused, outcome_of, outcom
 use Rattle.node.specs.Calls.{send, idle}
 use Rattle.node.specs.declared.Node.{Node}
 use Rattle.node.specs.declared.Answer.{Answer}
-use Rattle.node.proofs.Valid.{valid-known}
-use Rattle.node.proofs.Ways.{SendWay, send-way}
+use Rattle.node.proofs.Valid.{valid_known}
+use Rattle.node.proofs.Ways.{SendWay, send_way}
 use Rattle.layout.specs.Held.{is_whole, unpacked}
 use Rattle.state_calls.specs.On.{Kept, keep, on_state, replied}
 use Rattle.states.specs.declared.State.{State}
@@ -21,7 +21,7 @@ use Rattle.state_calls.specs.declared.Reply.{Reply}
 use Rattle.board_states.specs.States.{state_at, changed}
 use Rattle.stage.specs.Board.{quiet}
 use Rattle.board_states.specs.declared.Stage.{Stage}
-use Rattle.turn_send.specs.Sending.{sendActed, sendAct}
+use Rattle.turn_send.specs.Sending.{send_acted, send_act}
 use Rattle.turn_send.specs.Idling.{idle_act}
 
 -- a reply whose answer is known
@@ -35,11 +35,11 @@ refused_not x q = let z : ◌≡◌ {A = ℕ} 0 1 = cc in absurd (omega arith)
 
 -- who is sent work by a node is a number of its board
 to_board : (n : Node) (b : ℕ) → (send base n b).answer ≡ done → b < base.nodes
-to_board n b e = go (send-way base n b) e
+to_board n b e = go (send_way base n b) e
   where
     go : {g : Given Outcome} → SendWay base n b g → g.answer ≡ done → b < base.nodes
     go (SendWay.refused x s) q = refused_not x q
-    go (SendWay.done v h o w r) q = let p = board_good base n.nodes (valid-known base n v).board in omega arith
+    go (SendWay.done v h o w r) q = let p = board_good base n.nodes (valid_known base n v).board in omega arith
 
 -- who sends is in a state, and so is its board
 pub sender_known : (s m : State) (b : ℕ) → on_state (λ n. send base n b) s ≡ keep m done
@@ -55,8 +55,8 @@ sender_known s m b e =
 
 pub send_by : (st : Stage) (headers : ℕ) (bytes : List ℕ) (kind : Kind) (a b : ℕ) (r : Kept Outcome)
     → on_state (λ n. send base n b) (state_at st a) ≡ r
-    → sendAct st headers bytes kind a b ≡ sendActed st headers bytes kind a b r r.answer
-send_by st headers bytes kind a b r e = ap (λ g. sendActed st headers bytes kind a b g g.answer) e
+    → send_act st headers bytes kind a b ≡ send_acted st headers bytes kind a b r r.answer
+send_by st headers bytes kind a b r e = ap (λ g. send_acted st headers bytes kind a b g g.answer) e
 
 pub idle_by : (st : Stage) (headers a : ℕ) (r : Kept Outcome) → on_state (idle base) (state_at st a) ≡ r
     → idle_act st headers a

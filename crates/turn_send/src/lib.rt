@@ -1,8 +1,10 @@
 // What a line of a message sent and a line of a node gone idle do to a board of up to 16 nodes.
 // Any board and numbers may be handed.
+#![tactic(auto)]
+
 ghost use Rattle.std.specs.Prelude.{◌≡◌, List, ℕ};
 ghost use Rattle.under_way.specs.Frames.{room_for};
-ghost use Rattle.turn_send.specs.Sending.{sendAct};
+ghost use Rattle.turn_send.specs.Sending.{send_act};
 ghost use Rattle.turn_send.specs.Idling.{idle_act};
 
 use base::Kind;
@@ -13,7 +15,7 @@ use stage::Acted;
 
 // A job or a note goes from a to b, where there is room for so many items.
 pub fn send_act(st: Stage, kind: Kind, a: u32, b: u32, headers: usize, room: usize) -> Acted
-    ensures { (bs : List ℕ) → room ≡ room_for headers bs → result ≡ sendAct st headers bs kind a b }
+    ensures { (bs : List ℕ) → room ≡ room_for headers bs → result ≡ send_act st headers bs kind a b }
 {
     let under = st.under;
     let n = board_states::state_at(st, a);

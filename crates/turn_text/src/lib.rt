@@ -1,12 +1,14 @@
 // The line that a rehearsal prints of an event, put into a lent buffer. Any place may be handed; what has no room is left out, and
 // each function answers where its text ends.
+#![tactic(auto)]
+
 ghost use Rattle.std.specs.Prelude.{◌≡◌, [], ◌∷◌, ◌++◌};
 ghost use Rattle.printing.specs.Put.{digits, put, ends};
 ghost use Rattle.text.specs.Text.{bit};
 ghost use Rattle.turn_text.specs.Shown.{shown_text};
 
 // What is printed of a node's state.
-#[derive(Drop)]
+#[derive(Clone, Copy)]
 pub struct Shown {
     pub phase: u32,
     pub pass: u32,

@@ -24,10 +24,10 @@ use Rattle.board_states.specs.States.{state_at}
 use Rattle.stage.specs.Board.{is_there}
 use Rattle.board_states.specs.declared.Stage.{Stage}
 use Rattle.stage.specs.declared.Acted.{Acted}
-use Rattle.turn_call.specs.Calling.{frameActed, callActed, callAct}
-use Rattle.turn_send.specs.Sending.{sendActed}
+use Rattle.turn_call.specs.Calling.{frame_acted, call_acted, call_act}
+use Rattle.turn_send.specs.Sending.{send_acted}
 use Rattle.turn_send.specs.Idling.{idle_act}
-use Rattle.turn_deliver.specs.Delivering.{deliverActed, itemCall, deliverAct}
+use Rattle.turn_deliver.specs.Delivering.{deliver_acted, item_call, deliver_act}
 use Rattle.turns.specs.Acts.{acted, acted_items}
 use Rattle.turns.proofs.Turning.{length_moved}
 
@@ -45,49 +45,49 @@ module _ (st : Stage) (headers : ℕ) (bytes : List ℕ) (h : st.under ≤ room_
   abbrev Stays : Acted → Type 0
   Stays = Keeps st headers bytes
 
-  send-keeps : (kind : Kind) (a b : ℕ) (r : Kept Outcome) (o : Outcome) → Stays (sendActed st headers bytes kind a b r o)
-  send-keeps kind a b r done =
+  send_keeps : (kind : Kind) (a b : ℕ) (r : Kept Outcome) (o : Outcome) → Stays (send_acted st headers bytes kind a b r o)
+  send_keeps kind a b r done =
       cases Stays (ltb st.under (room_for headers bytes)) _ _
       (λ e. record { size = refl; lent = one_more_lem st.under (room_for headers bytes) e })
       (λ e. record { size = refl; lent = h })
-  send-keeps kind a b r dropped = record { size = refl; lent = h }
-  send-keeps kind a b r (refused x) = record { size = refl; lent = h }
+  send_keeps kind a b r dropped = record { size = refl; lent = h }
+  send_keeps kind a b r (refused x) = record { size = refl; lent = h }
 
-  frame-keeps : (a : ℕ) (after : State) (to : List ℕ) → Stays (frameActed st headers bytes a after to)
-  frame-keeps a after [] = record { size = refl; lent = h }
-  frame-keeps a after (b ∷ []) =
+  frame_keeps : (a : ℕ) (after : State) (to : List ℕ) → Stays (frame_acted st headers bytes a after to)
+  frame_keeps a after [] = record { size = refl; lent = h }
+  frame_keeps a after (b ∷ []) =
       cases Stays (ltb st.under (room_for headers bytes)) _ _
       (λ e. record { size = refl; lent = one_more_lem st.under (room_for headers bytes) e })
       (λ e. record { size = refl; lent = h })
-  frame-keeps a after (b ∷ c ∷ l) =
+  frame_keeps a after (b ∷ c ∷ l) =
       cases Stays (ltb (st.under + 1) (room_for headers bytes)) _ _
       (λ e. record { size = refl; lent = two_more st.under (room_for headers bytes) e })
       (λ e. record { size = refl; lent = h })
 
-  call-keeps : (a : ℕ) (r : Kept Barrier) (o : Barrier) → Stays (callActed st headers bytes a r o)
-  call-keeps a r (sent to length) = frame-keeps a r.state to
-  call-keeps a r (waits clause) = record { size = refl; lent = h }
-  call-keeps a r moved = record { size = refl; lent = h }
-  call-keeps a r left = record { size = refl; lent = h }
-  call-keeps a r (barred x) = record { size = refl; lent = h }
+  call_keeps : (a : ℕ) (r : Kept Barrier) (o : Barrier) → Stays (call_acted st headers bytes a r o)
+  call_keeps a r (sent to length) = frame_keeps a r.state to
+  call_keeps a r (waits clause) = record { size = refl; lent = h }
+  call_keeps a r moved = record { size = refl; lent = h }
+  call_keeps a r left = record { size = refl; lent = h }
+  call_keeps a r (barred x) = record { size = refl; lent = h }
 
-  deliver-keeps : (b at : ℕ) (r : Kept Outcome) (answer : ℕ) → Stays (deliverActed st headers bytes b at r answer)
-  deliver-keeps b at r answer =
+  deliver_keeps : (b at : ℕ) (r : Kept Outcome) (answer : ℕ) → Stays (deliver_acted st headers bytes b at r answer)
+  deliver_keeps b at r answer =
       cases Stays (eqb answer 7) _ _ (λ e. record { size = refl; lent = h })
       (λ e. record { size = refl; lent = omega arith })
 
-  pub line-keeps : (line : Line) (at : ℕ) (it : Item) → Keeps st headers bytes (acted st headers bytes line at it)
-  unfolding acted idle_act deliverAct callAct
-  line-keeps (Nodes P) at it = record { size = refl; lent = h }
-  line-keeps (Sends kind a b) at it =
-      let r = on_state (λ n. send base n b) (state_at st a) in send-keeps kind a b r r.answer
-  line-keeps (Delivers a b) at it =
-      let r = itemCall st headers bytes a b at it in
-      cases Stays (is_there st headers bytes at) _ _ (λ e. deliver-keeps b at r (outcome_number r.answer))
+  pub line_keeps : (line : Line) (at : ℕ) (it : Item) → Keeps st headers bytes (acted st headers bytes line at it)
+  unfolding acted idle_act deliver_act call_act
+  line_keeps (Nodes P) at it = record { size = refl; lent = h }
+  line_keeps (Sends kind a b) at it =
+      let r = on_state (λ n. send base n b) (state_at st a) in send_keeps kind a b r r.answer
+  line_keeps (Delivers a b) at it =
+      let r = item_call st headers bytes a b at it in
+      cases Stays (is_there st headers bytes at) _ _ (λ e. deliver_keeps b at r (outcome_number r.answer))
       (λ e. record { size = refl; lent = h })
-  line-keeps (Idles a) at it = record { size = refl; lent = h }
-  line-keeps (Calls a) at it = let r = step_on (state_at st a) place_size in call-keeps a r r.answer
-  line-keeps Bad at it = record { size = refl; lent = h }
+  line_keeps (Idles a) at it = record { size = refl; lent = h }
+  line_keeps (Calls a) at it = let r = step_on (state_at st a) place_size in call_keeps a r r.answer
+  line_keeps Bad at it = record { size = refl; lent = h }
 
 pub headers_kept : (under : ℕ) (r : Acted) (items : List Item) → length (acted_items under r items) ≡ length items
 unfolding acted_items

@@ -43,8 +43,8 @@ crowded st items bytes actor = unchanged st items bytes actor (number Refusal.cr
 module _ (st : Stage) (items : List Item) (bytes : List ℕ) where
   -- ---- s a b and t a b: a sends a job or a note to b
 
-  abbrev pub sentBy : Kind → ℕ → ℕ → Kept Outcome → Outcome → Turn
-  sentBy kind a b r done =
+  abbrev pub sent_by : Kind → ℕ → ℕ → Kept Outcome → Outcome → Turn
+  sent_by kind a b r done =
       choose (ltb st.under (room_for (length items) bytes))
       (record {
         stage = changed st a r.state (st.under + 1);
@@ -54,16 +54,16 @@ module _ (st : Stage) (items : List Item) (bytes : List ℕ) where
         answer = 0;
       })
       (crowded st items bytes a)
-  sentBy kind a b r dropped = unchanged st items bytes a 24
-  sentBy kind a b r (refused x) = unchanged st items bytes a x
+  sent_by kind a b r dropped = unchanged st items bytes a 24
+  sent_by kind a b r (refused x) = unchanged st items bytes a x
 
-  unfoldable pub sendTurn : Kind → ℕ → ℕ → Turn
-  sendTurn kind a b = let r = on_state (λ n. send base n b) (state_at st a) in sentBy kind a b r r.answer
+  unfoldable pub send_turn : Kind → ℕ → ℕ → Turn
+  send_turn kind a b = let r = on_state (λ n. send base n b) (state_at st a) in sent_by kind a b r r.answer
 
   -- ---- i a: idle call
 
-  unfoldable pub idleTurn : ℕ → Turn
-  idleTurn a =
+  unfoldable pub idle_turn : ℕ → Turn
+  idle_turn a =
       let r = on_state (idle base) (state_at st a) in
       record {
         stage = changed st a r.state st.under;
@@ -76,9 +76,9 @@ module _ (st : Stage) (items : List Item) (bytes : List ℕ) where
   -- ---- b a: barrier call, with the bytes of a place
 
   -- the frame goes to one receiver, or to two
-  abbrev pub framedTo : ℕ → State → List ℕ → List ℕ → Turn
-  framedTo a after frame [] = unchanged st items bytes a 20
-  framedTo a after frame (b ∷ []) =
+  abbrev pub framed_to : ℕ → State → List ℕ → List ℕ → Turn
+  framed_to a after frame [] = unchanged st items bytes a 20
+  framed_to a after frame (b ∷ []) =
       choose (ltb st.under (room_for (length items) bytes))
       (record {
         stage = changed st a after (st.under + 1);
@@ -88,7 +88,7 @@ module _ (st : Stage) (items : List Item) (bytes : List ℕ) where
         answer = 20;
       })
       (crowded st items bytes a)
-  framedTo a after frame (b ∷ c ∷ l) =
+  framed_to a after frame (b ∷ c ∷ l) =
       choose (ltb (st.under + 1) (room_for (length items) bytes))
       (record {
         stage = changed st a after (st.under + 2);
@@ -99,16 +99,16 @@ module _ (st : Stage) (items : List Item) (bytes : List ℕ) where
       })
       (crowded st items bytes a)
 
-  abbrev pub calledBy : ℕ → Kept Barrier → Barrier → Turn
-  calledBy a r (sent to length) =
-      framedTo a r.state (frame_bytes (dims (node_at st a)) (frame_due (node_at st a))) to
-  calledBy a r (waits clause) = unchanged (changed st a r.state st.under) items bytes a 21
-  calledBy a r moved = unchanged (changed st a r.state st.under) items bytes a 22
-  calledBy a r left = unchanged (changed st a r.state st.under) items bytes a 23
-  calledBy a r (barred x) = unchanged st items bytes a x
+  abbrev pub called_by : ℕ → Kept Barrier → Barrier → Turn
+  called_by a r (sent to length) =
+      framed_to a r.state (frame_bytes (dims (node_at st a)) (frame_due (node_at st a))) to
+  called_by a r (waits clause) = unchanged (changed st a r.state st.under) items bytes a 21
+  called_by a r moved = unchanged (changed st a r.state st.under) items bytes a 22
+  called_by a r left = unchanged (changed st a r.state st.under) items bytes a 23
+  called_by a r (barred x) = unchanged st items bytes a x
 
-  unfoldable pub callTurn : ℕ → Turn
-  callTurn a = let r = step_on (state_at st a) place_size in calledBy a r r.answer
+  unfoldable pub call_turn : ℕ → Turn
+  call_turn a = let r = step_on (state_at st a) place_size in called_by a r r.answer
 
   -- ---- d a b: the oldest item from a reaches b (rule S8)
 
@@ -121,8 +121,8 @@ module _ (st : Stage) (items : List Item) (bytes : List ℕ) where
       (on_state (λ n. frame_in base n (frame_held st.size bytes at)) (state_at st b)))
 
   -- an early item stays; any other leaves the list
-  abbrev pub deliveredAt : ℕ → ℕ → Kept Outcome → ℕ → Turn
-  deliveredAt b at r answer =
+  abbrev pub delivered_at : ℕ → ℕ → Kept Outcome → ℕ → Turn
+  delivered_at b at r answer =
       choose (eqb answer 7) (unchanged st items bytes b 7)
       (record {
         stage = changed st b r.state (st.under - 1);
@@ -133,19 +133,19 @@ module _ (st : Stage) (items : List Item) (bytes : List ℕ) where
       })
 
   -- nothing on the link is 16
-  unfoldable pub deliverTurn : ℕ → ℕ → Turn
-  deliverTurn a b =
+  unfoldable pub deliver_turn : ℕ → ℕ → Turn
+  deliver_turn a b =
       let at = oldest_at items st.under a b in
       let r = called a b at in
       choose (eqb at st.under) (unchanged st items bytes b (number Refusal.nothing))
-      (deliveredAt b at r (outcome_number r.answer))
+      (delivered_at b at r (outcome_number r.answer))
 
   -- ---- The event of a line; a line that is none changes nothing, and is answered 17
 
   abbrev pub turn_of : Line → Turn
   turn_of (Nodes P) = unchanged st items bytes 0 (number Refusal.script)
-  turn_of (Sends kind a b) = sendTurn kind a b
-  turn_of (Delivers a b) = deliverTurn a b
-  turn_of (Idles a) = idleTurn a
-  turn_of (Calls a) = callTurn a
+  turn_of (Sends kind a b) = send_turn kind a b
+  turn_of (Delivers a b) = deliver_turn a b
+  turn_of (Idles a) = idle_turn a
+  turn_of (Calls a) = call_turn a
   turn_of Bad = unchanged st items bytes 0 (number Refusal.script)

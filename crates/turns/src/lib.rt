@@ -1,7 +1,9 @@
 // What a line of a script does to a board of up to 16 nodes, and to the bytes and headers that are lent.
 // Any board, line, numbers and bytes may be handed.
+#![tactic(auto)]
+
 ghost use Rattle.std.specs.Prelude.{◌≡◌};
-ghost use Rattle.turns.specs.Acts.{acted, actedBytes};
+ghost use Rattle.turns.specs.Acts.{acted, acted_bytes};
 
 use board_states::Stage;
 use items::Item;
@@ -11,7 +13,7 @@ use stage::Acted;
 // What a line does. `at` and `it` are the place of the oldest item of a delivery's link, and that item.
 pub fn act(st: Stage, line: Line, at: usize, it: Item, headers: usize, bytes: &mut [u8]) -> Acted
     ensures answer { result ≡ acted st headers bytes.old line at it }
-    ensures memory { bytes.new ≡ actedBytes st headers bytes.old line at it }
+    ensures memory { bytes.new ≡ acted_bytes st headers bytes.old line at it }
 {
     let under = st.under;
     match line {

@@ -79,24 +79,24 @@ module _ (s : List ℕ) (start i : ℕ) (h : start ≤ i) (l : i + place_size �
   unfolding moving
   parted = sym (append_assoc (take start s) moved (drop i s))
 
-  pub length-moving : length (moving s start i) ≡ length s
-  length-moving =
+  pub length_moving : length (moving s start i) ≡ length s
+  length_moving =
       ap length parted
       ∙ length-append front (drop i s)
       ∙ omega (arith, length_front, length-drop i s)
 
   -- what is still to be moved stands where it stood
-  still-there : get_or (moving s start i) (i + place_size) 0 ≡ get_or s (i + place_size) 0
-  still-there =
+  still_there : get_or (moving s start i) (i + place_size) 0 ≡ get_or s (i + place_size) 0
+  still_there =
       rw parted
       (ap (λ j. get_or (front ++ drop i s) (j + place_size) 0) (sym length_front)
       ∙ get_or-append-add front (drop i s) place_size 0
       ∙ get_or-drop i s place_size 0)
 
-  pub one-moved : i + place_size < length s
+  pub one_moved : i + place_size < length s
       → set (moving s start i) i (get_or (moving s start i) (i + place_size) 0) ≡ moving s start (i + 1)
   unfolding moving
-  one-moved m =
+  one_moved m =
       let d = length-drop (start + place_size) s in
       let x = get_or s (i + place_size) 0 in
       let e : start + place_size + (i - start) ≡ i + place_size = omega arith in
@@ -106,7 +106,7 @@ module _ (s : List ℕ) (start i : ℕ) (h : start ≤ i) (l : i + place_size �
       (take-suc (drop (start + place_size) s) (i - start) 0 (omega arith)
       ∙ ap (λ y. moved ++ (y ∷ []))
       (get_or-drop (start + place_size) s (i - start) 0 ∙ ap (λ j. get_or s j 0) e)) in
-      ap (set (moving s start i) i) still-there
+      ap (set (moving s start i) i) still_there
       ∙ ap (λ r. set r i x) (parted ∙ ap (λ r. front ++ r) (drop-cons s i 0 (omega arith)))
       ∙ set_at front (get_or s i 0) (drop (suc i) s) x i length_front
       ∙ append_assoc (take start s) moved (x ∷ drop (suc i) s)

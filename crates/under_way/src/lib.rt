@@ -1,5 +1,7 @@
 // The lent bytes of the items under way, a place for each.
 // Any numbers and bytes may be handed.
+#![tactic(auto)]
+
 ghost use Rattle.std.specs.Prelude.{◌≡◌, false, ◌*◌, ◌/◌, min, ◌≤◌, ◌<◌, ltb, leb, length};
 ghost use Rattle.base.specs.Choice.{choose, both};
 ghost use Rattle.base.specs.Limits.{base, width};

@@ -1,4 +1,6 @@
 // The calls send, idle, frame in and barrier call on a node's state by value: each works in place on a copy of the words.
+#![tactic(auto)]
+
 ghost use Rattle.std.specs.Prelude.{◌≡◌, length};
 ghost use Rattle.base.specs.Limits.{base};
 ghost use Rattle.node.specs.Calls.{send, idle, frame_in};

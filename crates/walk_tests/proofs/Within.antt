@@ -8,11 +8,11 @@ use lib.Dec.{leb}
 use borrow.Author.Tests.{le-leb, lt-leb}
 
 module _ (own more limit : ℕ) where
-  pub own-above : limit < own → false ≡ leb (own + more) limit
-  own-above h = sym (lt-leb (own + more) limit (omega arith))
+  pub own_above : limit < own → false ≡ leb (own + more) limit
+  own_above h = sym (lt-leb (own + more) limit (omega arith))
 
-  pub rest-within : own ≤ limit → leb more (limit - own) ≡ leb (own + more) limit
-  rest-within h = go (dec_le more (limit - own))
+  pub rest_within : own ≤ limit → leb more (limit - own) ≡ leb (own + more) limit
+  rest_within h = go (dec_le more (limit - own))
     where
       go : Dec (more ≤ limit - own) → leb more (limit - own) ≡ leb (own + more) limit
       go (yes d) = rw (le-leb more (limit - own) d, le-leb (own + more) limit (omega arith))

@@ -1,4 +1,6 @@
 // Small tests of a step that the walk over the stored frames of a state tries.
+#![tactic(auto)]
+
 ghost use Rattle.std.specs.Prelude.{◌≡◌, ◌+◌, leb};
 ghost use Rattle.walk_tests.specs.Tests.{first_fits};
 

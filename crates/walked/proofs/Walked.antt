@@ -27,9 +27,9 @@ use Rattle.walked.proofs.Words.{in_order_lem}
 -- ---- the position
 
 module _ (n : Node) (ok : position_ok n ≡ true) where
-  pub dim-low : n.dim ≤ dims n
+  pub dim_low : n.dim ≤ dims n
   unfolding position_ok
-  dim-low = go (eqb (dims n) 0) ok
+  dim_low = go (eqb (dims n) 0) ok
     where
       go : (t : Bool)
           → choose t (both (eqb n.pass 1) (eqb n.dim 0))
@@ -42,11 +42,11 @@ module _ (n : Node) (ok : position_ok n ≡ true) where
           (both_true (either (eqb n.pass 1) (eqb n.pass 2)) (ltb n.dim (dims n)) e).1 in
           omega arith
 
-  pub reach-low : reach n ≤ dims n
-  reach-low = cases (λ r. r ≤ dims n) (eqb n.pass 1) _ _ (λ e. dim-low) (λ e. omega arith)
+  pub reach_low : reach n ≤ dims n
+  reach_low = cases (λ r. r ≤ dims n) (eqb n.pass 1) _ _ (λ e. dim_low) (λ e. omega arith)
 
-  pub confirm-reach-low : confirm_reach n ≤ dims n
-  confirm-reach-low = cases (λ r. r ≤ dims n) (eqb n.pass 1) _ _ (λ e. omega arith) (λ e. dim-low)
+  pub confirm_reach_low : confirm_reach n ≤ dims n
+  confirm_reach_low = cases (λ r. r ≤ dims n) (eqb n.pass 1) _ _ (λ e. omega arith) (λ e. dim_low)
 
 before : (L : Limits) (n : Node)
     → passed_ok L n ≡ both (every 0 (reach n) (agrees L n 1)) (every 0 (confirm_reach n) (agrees L n 2))
@@ -117,9 +117,9 @@ module _ (n m : Node) (k : ℕ) where
         total_same (λ j. first_adds m j (first_at m j) f) (λ j. first_adds n j (first_at n j) f) k (λ j l. rw (r, e j l)),
       )
 
-  issued-same : tally m all_sent ≡ tally n all_sent → confirm_reach m ≡ confirm_reach n
+  issued_same : tally m all_sent ≡ tally n all_sent → confirm_reach m ≡ confirm_reach n
       → ((j : ℕ) → j < k → second_at m j ≡ second_at n j) → (walked m k).issued ≡ (walked n k).issued
-  issued-same t r e =
+  issued_same t r e =
       omega (
         arith,
         issued_total m k,
@@ -144,10 +144,10 @@ one_walk =
       issued = issued_total;
       sums_own = walked_sums;
       issued_own = walked_issued;
-      sums_all = λ n ok f. walked_sums n (dims n) f ∙ ap (λ k. own n k f) (omega (arith, reach-low n ok));
-      issued_all = λ n ok. walked_issued n (dims n) ∙ ap (own_issued n) (omega (arith, confirm-reach-low n ok));
+      sums_all = λ n ok f. walked_sums n (dims n) f ∙ ap (λ k. own n k f) (omega (arith, reach_low n ok));
+      issued_all = λ n ok. walked_issued n (dims n) ∙ ap (own_issued n) (omega (arith, confirm_reach_low n ok));
       sums_unread = λ n m k a f. sums_same n m k f (a.tallies f) a.firsts a.first;
-      issued_unread = λ n m k a. issued-same n m k (a.tallies all_sent) a.seconds a.second;
+      issued_unread = λ n m k a. issued_same n m k (a.tallies all_sent) a.seconds a.second;
       sums_once = λ n j k x a b f.
           counted_once (λ i y. first_adds n i y f) n.first _ j k x (tally n f) _ _ a b
           (omega (arith, sums_total (first_put n j x) k f, tally_kept n (set n.first j x) n.second f))
@@ -157,6 +157,6 @@ one_walk =
           (issued_total n k);
       sums_apart = λ n j k y f.
           sums_same n (second_put n j y) k f (tally_kept n n.first (set n.second j y) f) refl (λ i l. refl);
-      issued_apart = λ n j k x. issued-same n (first_put n j x) k refl refl (λ i l. refl);
+      issued_apart = λ n j k x. issued_same n (first_put n j x) k refl refl (λ i l. refl);
       in_order = in_order_lem;
     }

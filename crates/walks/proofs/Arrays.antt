@@ -3,18 +3,17 @@
 --     array-fits       the machine value of [x; n] is of the array's type
 --     array-in         [x; n] in its cell, as it was written, is n elements side by side
 --     array-room       elements side by side are room for an array
--- ChangesWith      what a callee does with a `&mut [T]` at ys and with i: it leaves some list zs as long as ys, j, and
--- a
---                      result x with φ x zs
--- calls-array      the call rule for it, of a caller that has the elements themselves: they are lent for a lifetime of
---                      the call, and come back at zs
+--     ChangesWith      what a callee does with a `&mut [T]` at ys and with i: it leaves some list zs as long as ys, j,
+--                      and a result x with φ x zs
+--     calls-array      the call rule for it, of a caller that has the elements themselves: they are lent for a lifetime
+--                      of the call, and come back at zs
 use mathlib.Core.Path.{◌≡◌, refl}
 use Prim.Native.Nat.{ℕ, zero, suc}
 use mathlib.Core.List.{List, [], ◌∷◌}
 use lib.ListN.{length, replicate, length-replicate}
 use seplogic.Ra.Ura.{Ura}
-use seplogic.Ra.TreeShare.{full_share}
-use mir.Syntax.{Name, Place, Opd as Operand, Body, seq, call, named, ty_array}
+use base.Fraction.{full_share}
+use mir.Syntax.{Callee, Place, Opd as Operand, Body, seq, call, named, ty_array}
 use mir.Val.{Val, WT, has_ty}
 use lib.Dec.{T as Holds}
 use base.Logic.{ent, sep, id⊢}
@@ -44,7 +43,7 @@ use Rattle.walks.proofs.Calls.{at_list, lands_as}
 
 -- each of n copies is as the one is, and so is the array's machine value
 copies : (R : RattleType) (x : R.Denot) (u : Val) → Is R x (u ∷ []) → (n : ℕ)
-    → shadow (each R.Denot R.own (replicate n x) (replicate n u))
+    → shadow (each R.Denot R.own_val (replicate n x) (replicate n u))
 copies R x u h zero = tt
 copies R x u h (suc n) = (h, copies R x u h n)
 
@@ -57,12 +56,12 @@ array_fits 𝓛 R L n x u h = ((Array-Lawful 𝓛 R L n).typed (replicate n x) (
 module _ {M : Type 1} {𝓤 : Ura M} (𝓛 : Logic 𝓤) (R : RattleType) (n : ℕ) (b o : ℕ) where
   open 𝓛 use {H}
 
-  pub array-in : Single R.mir → Copy 𝓛 R → (x : R.Denot) (u : Val)
+  pub array_in : Single R.mir → Copy 𝓛 R → (x : R.Denot) (u : Val)
       → ent 𝓤 (sep 𝓤 (H.at full_share (ty_array (lone R.mir) n) b o (array_val (replicate n u)))
-      (sem 𝓛 (R.own x (u ∷ [])))) (sem 𝓛 (cells (mem R) (replicate n x) b o))
+      (sem 𝓛 (R.own_val x (u ∷ [])))) (sem 𝓛 (cells (mem R) (replicate n x) b o))
   unfolding part_of
-  array-in one Cp x u =
-      qed 𝓛 (‵ (fat full_share (ty_array (lone R.mir) n) b o (array_val (replicate n u))) ∷ ‵ (R.own x (u ∷ [])) ∷ [])
+  array_in one Cp x u =
+      qed 𝓛 (‵ (fat full_share (ty_array (lone R.mir) n) b o (array_val (replicate n u))) ∷ ‵ (R.own_val x (u ∷ [])) ∷ [])
       ∵
       use1 𝓛 (‵ (cell_at full_share (Array R n).mir (array_val (replicate n u) ∷ []) b o))
       (𝓛.laws.at_raw full_share (ty_array (lone R.mir) n) b o (array_val (replicate n u))) $
@@ -74,10 +73,10 @@ module _ {M : Type 1} {𝓤 : Ura M} (𝓛 : Logic 𝓤) (R : RattleType) (n : �
       (Array-apart 𝓛 R full_share one n (replicate n x) b o) $ fsplit ! $ drop ! $
       use1 𝓛 (‵ (cells (mem R) (replicate n x) b o)) (whole_in 𝓛 R (replicate n x) b o) $ done !
 
-  pub array-room : (zs : List R.Denot) → ent 𝓤 (sem 𝓛 ((Arr (mem R) n).own_at zs b o))
+  pub array_room : (zs : List R.Denot) → ent 𝓤 (sem 𝓛 ((Arr (mem R) n).own_at zs b o))
       (H.room (ty_array (lone R.mir) n) b o)
   unfolding part_of
-  array-room zs =
+  array_room zs =
       qed 𝓛 (‵ ((Arr (mem R) n).own_at zs b o) ∷ []) ∵ fsplit ! $ move ! (1 ∷ []) $
       use1 𝓛 (‵ (row R full_share zs b o)) (whole_out 𝓛 R zs b o) $ move ! (1 ∷ 0 ∷ []) $ fjoin ! $
       use1 𝓛 (‵ (part_at (Array R n) full_share zs b o)) (Array-whole 𝓛 R full_share n zs b o) $
@@ -95,7 +94,7 @@ module _ {M : Type 1} {𝓤 : Ura M} (𝓛 : Logic 𝓤) (run : Fun 𝓤) (Res :
   abbrev pub LeftWith : (Res.Denot → List R.Denot → Type 0) → Lft → Share → GName → Val → Item 𝓤
   LeftWith φ κ q δ w =
       later (some (λ (x : Res.Denot). some (λ (zs : List R.Denot).
-      (‵ (flft κ q) ⊛ (‵ (finally R δ zs) ⊛ (‵ (Res.own x (w ∷ [])) ⊛ j))) ⊛ raw
+      (‵ (flft κ q) ⊛ (‵ (finally R δ zs) ⊛ (‵ (Res.own_val x (w ∷ [])) ⊛ j))) ⊛ raw
       (fact 𝓤 ((length zs ≡ length ys) × φ x zs)))))
 
   pub record ChangesWith (φ : Res.Denot → List R.Denot → Type 0) (vs : List Val) : Type 1 where
@@ -106,17 +105,17 @@ module _ {M : Type 1} {𝓤 : Ura M} (𝓛 : Logic 𝓤) (run : Fun 𝓤) (Res :
 
 module _ {M : Type 1} {𝓤 : Ura M} {𝓛 : Logic 𝓤} {K : Type 0} {Γ : List (Item 𝓤)}
     {E : Env 𝓤 𝓛.H} {C : Calls 𝓤 𝓛.H} {Λ : Loops 𝓤 𝓛.H} {Q : Post 𝓤 𝓛.H} {d : Place} {rest : Body} {Res : RattleType}
-    {vals : Res.Denot → List Val} {f : Name} {xs : List Operand} {vs : List Val} where
+    {vals : Res.Denot → List Val} {f : Callee} {xs : List Operand} {vs : List Val} where
   open 𝓛 use {H}
 
-  pub calls-array : (t : K) (fm : FmC 𝓤 H 𝓛.laws C) (R : RattleType) (b o : ℕ) (ys : List R.Denot)
+  pub calls_array : (t : K) (fm : FmC 𝓤 H 𝓛.laws C) (R : RattleType) (b o : ℕ) (ys : List R.Denot)
       → Room R (length ys) → {i j : Item 𝓤} {φ : Res.Denot → List R.Denot → Type 0}
       → ChangesWith 𝓛 (C f) Res vals R b o ys (slice_val (b, o) (length ys) ∷ []) i j φ vs
       → ((k l : Item 𝓤) → Opds K 𝓛 (k ∷ l ∷ Γ) E xs vs)
       → ((x : Res.Denot) (zs : List R.Denot) → φ x zs → Is Res x (vals x)
       → Seq K 𝓛 (‵ ((Arr (mem R) (length ys)).own_at zs b o) ∷ j ∷ Γ) (lands C Λ E d (only (vals x)) rest Q))
       → Seq K 𝓛 (‵ (cells (mem R) ys b o) ∷ i ∷ Γ) (runs C Λ E (seq (call f xs d) rest) Q)
-  calls-array t fm R b o ys room {i} {j} {φ} ch os k =
+  calls_array t fm R b o ys room {i} {j} {φ} ch os k =
       lft_new t tt (λ ν. move t (1 ∷ []) $
       use1 𝓛 (later (some (λ (δ : GName). ‵ ((MutSlice (named 0) (ν ∷ []) R).own_val (at_list R b o δ ys)
       (slice_val (b, o) (length ys) ∷ [])) ⊛ ‵ (flent (ν ∷ []) (Held R (length ys) b o δ)))))

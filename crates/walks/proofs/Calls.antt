@@ -2,23 +2,22 @@
 -- say nothing of a crate, and assume `Logic`, and that the table of calls is monotone under a frame, as every `Tables`
 -- is.
 --     opened, closed   a `&mut [T]` is opened, and closed at another list of the same length
---     looked, shut     a `&[T]` is looked into, and shut
--- Changes          what a callee does with a `&mut [T]` at ys, at any lifetime: it returns some x, and leaves some list
---                      zs as long as ys, with φ x zs
--- calls-lent       the call rule for it, of a caller that holds the slice at ys beside its lifetime's token, and holds
--- it
---                      at zs after the call: a lifetime is made, the slice is lent again for it, the callee runs, the
---                      lifetime is ended and the slice comes back
+--     looked, shut     a `&[T]` is looked into, and shut, where T is Copy
+--     Changes          what a callee does with a `&mut [T]` at ys, at any lifetime: it returns some x, and leaves some
+--                      list zs as long as ys, with φ x zs
+--     calls-lent       the call rule for it, of a caller that holds the slice at ys beside its lifetime's token, and
+--                      holds it at zs after the call: a lifetime is made, the slice is lent again for it, the callee
+--                      runs, the lifetime is ended and the slice comes back
 --     Reads            what a callee does that takes a `&[T]`
---     calls-read       of a caller that has a `&mut [T]`, which is shared out for the call and comes back as it was
+--     calls-read       of a caller that has a `&mut [T]`, which is shared out for the call and comes back as it was,
+--                      where T is Copy
 --     calls-shared     of a caller that has a `&[T]` itself, and passes a copy
 --     Answers          what a callee does that takes plain values, and calls-plain, its call rule
 --     calls-lent₂      of a callee that takes two `&mut [T]` at once (Changes₂)
 --     changes, looks-at, answers     Changes, Reads and Answers from a contract that the callee meets
 --     takes            what a function has at entry whose first parameter is its one reference
--- loc, fieldv, ptrv, lets, lands-in     a walk's commonest lines: a local's value, a field's, a slice's pointer; a
--- local
---                      that is set, or takes a result
+--     loc, fieldv, ptrv, lets, lands-in     a walk's commonest lines: a local's value, a field's, a slice's pointer; a
+--                      local that is set, or takes a result
 --     ends-local       the local whose cell is entry n is freed, whatever it holds
 -- Operands are read with two entries in front of the rest of the context (with one at calls-plain, four at
 -- calls-lent₂), so they stand at the places where they stood before the rule.
@@ -27,19 +26,20 @@ use Prim.Native.Nat.{ℕ, zero, ◌+◌}
 use mathlib.Core.List.{List, [], ◌∷◌}
 use lib.ListN.{length}
 use seplogic.Ra.Ura.{Ura}
-use seplogic.Ra.TreeShare.{full_share}
+use base.Fraction.{full_share}
 use mathlib.Core.Option.{some as found}
 use prog.Memory.{field_at}
-use mir.Syntax.{Name, Sym, Ty, Tys, ty_struct, ty_ref, Lifetime, Mutability, field, deref, addr_of, Place, place, copy}
+use mir.Syntax.{Callee, Sym, Ty, Tys, ty_struct, ty_ref, Lifetime, Mutability, field, deref, addr_of, Place, place, copy}
 use mir.Syntax.{Opd as Operand, Rv as RValue, Body, seq, assign, call, named}
 use lib.Dec.{T as Holds}
 use mir.Val.{Val, Vals, vstruct, vptr, has_ty, WT}
 use mir.Fields.{get_v}
 use base.Logic.{SProp, ent, sep, id⊢, emp, via, mono_l, mono_r, assoc', emp∗, comm∗}
-use base.Fml.{Lft, GName, Share, Fml, ftrue, feq, fat, froom, fdies, fsep, flft, fdead, fobs, fauth, flent, fobor, fres}
-use base.Fml.{fshr_bor}
+use base.Fml.{Lft, GName, Share, Fml, ftrue, feq, fat, froom, fdies, fsep, flft, fdead, fobs, fauth, flent, fobor}
+use base.Fml.{fhide, Incl, Incl-refl}
+use ghost.Rules.{Toks, span}
 use prog.Wp.{Env, Spot, spot_of, Calls, Loops}
-use types.Logic.{Logic, sem}
+use types.Logic.{Logic, sem, lfts}
 use contract.Monad.{Fun, fact, fact_mono}
 use sound.WpLaws.{FmC, fm→mono_c}
 use types.Kit.{Item, ‵, raw, ◌⊛◌, some, later, given, mean, ⋆, nth, del, put, pull, Post, Goal, prop, Soaks}
@@ -51,14 +51,17 @@ use types.Part.{Part, whole, sub, look_in}
 use types.Tokens.{lft_new, lft_end, lent_back}
 use types.SemTy.{cells, Arr}
 use types.Share.{arr_parts}
-use denote.RattleType.{RattleType}
+use denote.RattleType.{RattleType, RowLaws}
 use denote.Shadow.{pure_l, pure_i}
 use denote.Memory.{mem, shares}
+use denote.Bor.{Bor}
 use denote.Ref.{MutBor}
-use denote.Slice.{slice_val, slice_ty, MutSlice, ShrSlice, heres, Room, finally, shr_slice_at, mut_slice_at, coded_holeys, shr_slice_copy}
+use denote.Copied.{Copied}
+use denote.Opens.{Shut}
+use denote.Slice.{slice_val, slice_ty, MutSlice, ShrSlice, heres, Room, finally, shr_slice_at, mut_slice_at, coded_holeys, shr_slice_copy, elements_shared}
 use denote.Lend.{Held, lends_slice, slice_back, lends_shr_slice}
 use denote.Index.{row, whole_out, whole_in, opens_slice, closes_slice, looks_slice, shuts_slice}
-use denote.Laws.{Is, Tells, Copy, shows}
+use denote.Laws.{Is, Tells, shows}
 use denote.Steps.{only, nothing, heard, facts}
 use denote.Triple.Call.{calls_from}
 use denote.Triple.Statement.{Contract, Triple}
@@ -67,6 +70,10 @@ use denote.Triple.Walked.{says, needs}
 -- a reference to the elements at (b, o), under a name, at a list
 abbrev pub at_list : (R : RattleType) (b o : ℕ) → GName → List R.Denot → MutBor (List R.Denot)
 at_list R b o δ ys = record { ref_ptr = (b, o); ghost_name = δ; now = ys }
+
+-- a shared reference to the elements at (b, o), at a list
+abbrev pub at_shared : (R : RattleType) (b o : ℕ) → List R.Denot → Bor (List R.Denot)
+at_shared R b o ys = record { ref_ptr = (b, o); now = ys }
 
 -- the machine values are the pointer's and the count's, and the elements fit into memory
 abbrev pub Sits : (R : RattleType) (b o : ℕ) → List R.Denot → List Val → Type 0
@@ -122,26 +129,26 @@ module _ (R : RattleType) (κ κ' : Lft) (q : Share) (γ : GName) (b o : ℕ) wh
         fjoin ! $ pure_i ! (mut_slice_at R (at_list R b o γ zs) us) (tt, (tt, tt))
         (p.0 ∙ ap (λ (m : ℕ). slice_val (b, o) m ∷ []) (sym e), subst (Room R) (sym e) p.1) $ fjoin ! $ done !
 
-    abbrev Out : Item 𝓤
-    Out = given (Sits R b o ys us)
-        (some (λ (δ : GName). ‵ ((ShrSlice (named 0) κ' R).own_val (at_list R b o δ ys) us) ⊛ ‵ (SharedOut ys)))
+    abbrev Out : Toks → Item 𝓤
+    Out ts = given (Sits R b o ys us)
+        (‵ ((ShrSlice (named 0) κ' R).own_val (at_shared R b o ys) us) ⊛ (‵ (SharedOut ys) ⊛ raw (lfts 𝓛 ts)))
 
-    shares_out : ent 𝓤 (sep 𝓤 (sem 𝓛 ((MutSlice (named 0) κ R).own_val (at_list R b o γ ys) us)) (A.lft κ q))
-        (mean 𝓛 (later Out))
-    shares_out =
-        qed 𝓛 (‵ ((MutSlice (named 0) κ R).own_val (at_list R b o γ ys) us) ∷ ‵ (flft κ q) ∷ []) ∵
-        updating ! $ fsplit ! $ pure_l ! (shr_slice_at R (at_list R b o γ ys) us)
+    shares_out : Copied 𝓛 R → (ts : Toks) → Incl (span ts) κ'
+        → ent 𝓤 (sep 𝓤 (sem 𝓛 ((MutSlice (named 0) κ R).own_val (at_list R b o γ ys) us))
+        (sep 𝓤 (A.lft κ q) (lfts 𝓛 ts)))
+        (mean 𝓛 (later (Out ts)))
+    shares_out c ts inc =
+        qed 𝓛 (‵ ((MutSlice (named 0) κ R).own_val (at_list R b o γ ys) us) ∷ ‵ (flft κ q) ∷ raw (lfts 𝓛 ts) ∷ []) ∵
+        updating ! $ fsplit ! $ pure_l ! (mut_slice_at R (at_list R b o γ ys) us)
         (λ p. fsplit ! $ opens_slice ! tt R ys b o $
-        feq_i ! ℕ (length ys) (length ys) refl $ fjoin ! $
-        use1 𝓛 (later (some (λ (δ : GName). ‵ ((ShrSlice (named 0) κ' R).own_val (at_list R b o δ ys)
-        (slice_val (b, o) (length ys) ∷ []))
-        ⊛ ‵ (flent κ' ((arr_parts (shares R) (length ys)).part full_share ys b o)))))
-        (lends_shr_slice 𝓛 R (named 0) κ' full_share ys b o p.1) $ await ! tt $ pick ! (λ δ. split ! $
-        rewrite ! 0 (λ (vs : List Val). ‵ ((ShrSlice (named 0) κ' R).own_val (at_list R b o δ ys) vs)) (sym p.0) refl $
-        at_once ! $ check ! p $
-        show ! (λ (δ' : GName). sep 𝓤 (sem 𝓛 ((ShrSlice (named 0) κ' R).own_val (at_list R b o δ' ys) us))
-        (sem 𝓛 (SharedOut ys))) δ $ frame ! $
-        move ! (2 ∷ 3 ∷ []) $ fjoin ! $ move ! (2 ∷ 0 ∷ []) $ fjoin ! $ move ! (1 ∷ 0 ∷ []) $ fjoin ! $ done !))
+        feq_i ! ℕ (length ys) (length ys) refl $ fjoin ! $ move ! (0 ∷ 4 ∷ []) $
+        use2 𝓛 (later ((‵ ((ShrSlice (named 0) κ' R).own_val (at_shared R b o ys) (slice_val (b, o) (length ys) ∷ []))
+        ⊛ ‵ (flent κ' ((arr_parts (shares R) (length ys)).part full_share ys b o))) ⊛ raw (lfts 𝓛 ts)))
+        (lends_shr_slice 𝓛 R (named 0) κ' full_share ys b o p.1 κ' (c.shares full_share κ') ts inc inc) $ await ! tt $
+        split ! $ split ! $
+        rewrite ! 0 (λ (vs : List Val). ‵ ((ShrSlice (named 0) κ' R).own_val (at_shared R b o ys) vs)) (sym p.0) refl $
+        at_once ! $ check ! p $ frame ! $
+        move ! (3 ∷ 4 ∷ []) $ fjoin ! $ move ! (3 ∷ 0 ∷ []) $ fjoin ! $ move ! (1 ∷ 0 ∷ []) $ fjoin ! $ frame ! $ done !)
 
     as_it_was : Sits R b o ys us → ent 𝓤 (sep 𝓤 (A.dead κ') (sem 𝓛 (SharedOut ys)))
         (H.⇛ (sep 𝓤 (sem 𝓛 ((MutSlice (named 0) κ R).own_val (at_list R b o γ ys) us)) (A.lft κ q)))
@@ -173,27 +180,25 @@ module _ {M : Type 1} {𝓤 : Ura M} {𝓛 : Logic 𝓤} {K : Type 0} {Γ : List
       (p.0 ∙ ap (λ (m : ℕ). slice_val (b, o) m ∷ []) (sym e), subst (Room R) (sym e) p.1) $ fjoin t $ s)
 
 -- ---- a `&[T]` is looked into, and shut
-abbrev Looked : {M : Type 1} (𝓤 : Ura M) (R : RattleType) (κ : Lft) (q : Share) (γ : GName) (b o : ℕ) → Share
+abbrev Looked : {M : Type 1} {𝓤 : Ura M} (𝓛 : Logic 𝓤) (R : RattleType) (κ : Lft) (q : Share) (b o : ℕ) → Share
     → List R.Denot → List (Item 𝓤) → List (Item 𝓤)
-Looked 𝓤 R κ q γ b o q' ys Γ =
-    ‵ (row R q' ys b o) ∷ ‵ (fobor κ q ((arr_parts (shares R) (length ys)).part q' ys b o))
-    ∷ ‵ (fshr_bor κ (λ u. (arr_parts (shares R) (length ys)).part u ys b o))
-    ∷ ‵ (fres γ ((coded_holeys R).code (heres R ys))) ∷ Γ
+Looked 𝓛 R κ q b o q' ys Γ =
+    ‵ (row R q' ys b o) ∷ Shut 𝓛 κ q (row R q' ys b o) ∷ ‵ (fhide (elements_shared R ys b o κ)) ∷ Γ
 
 module _ {M : Type 1} {𝓤 : Ura M} {𝓛 : Logic 𝓤} {K : Type 0} {Γ : List (Item 𝓤)}
-    {G : Goal 𝓤 𝓛.H} (t : K) (z : Soaks G) (R : RattleType) (κ : Lft) (q : Share) (γ : GName) (b o : ℕ) (us : List Val)
+    {G : Goal 𝓤 𝓛.H} (t : K) (z : Soaks G) (R : RattleType) (κ : Lft) (q : Share) (b o : ℕ) (us : List Val)
     (ys : List R.Denot) where
-  pub looked : (vals : R.Denot → List Val) → Tells R (Is R) vals → Copy 𝓛 R
-      → ((q' : Share) → Sits R b o ys us → Seq K 𝓛 (Looked 𝓤 R κ q γ b o q' ys Γ) G)
-      → Seq K 𝓛 (‵ ((ShrSlice (named 0) κ R).own_val (at_list R b o γ ys) us) ∷ ‵ (flft κ q) ∷ Γ) G
-  looked vals tl Cp k = fsplit t $ pure_l t (shr_slice_at R (at_list R b o γ ys) us) (λ p. fsplit t $ move t (1 ∷ 2 ∷ []) $
-      looks_slice t z R (Is R) (shows 𝓛 R) vals tl Cp ys b o (λ q'. k q' p))
+  pub looked : Copied 𝓛 R
+      → ((q' : Share) → Sits R b o ys us → Seq K 𝓛 (Looked 𝓛 R κ q b o q' ys Γ) G)
+      → Seq K 𝓛 (‵ ((ShrSlice (named 0) κ R).own_val (at_shared R b o ys) us) ∷ ‵ (flft κ q) ∷ Γ) G
+  looked c k = fsplit t $ pure_l t (shr_slice_at R (at_shared R b o ys) us) (λ p.
+      looks_slice t z R c ys b o (λ q'. k q' p))
 
   pub shut : Sits R b o ys us → (q' : Share)
-      → Step K 𝓛 (‵ ((ShrSlice (named 0) κ R).own_val (at_list R b o γ ys) us) ∷ ‵ (flft κ q) ∷ Γ) G
-      (Looked 𝓤 R κ q γ b o q' ys Γ) G
-  shut p q' = step (λ s. shuts_slice t z R q' ys b o $ move t (2 ∷ 1 ∷ []) $ fjoin t $
-      pure_i t (shr_slice_at R (at_list R b o γ ys) us) (tt, (tt, tt)) p $ fjoin t $ s)
+      → Step K 𝓛 (‵ ((ShrSlice (named 0) κ R).own_val (at_shared R b o ys) us) ∷ ‵ (flft κ q) ∷ Γ) G
+      (Looked 𝓛 R κ q b o q' ys Γ) G
+  shut p q' = step (λ s. shuts_slice t z R q' ys b o $ move t (1 ∷ []) $
+      pure_i t (shr_slice_at R (at_shared R b o ys) us) (tt, (tt, tt)) p $ fjoin t $ s)
 
 -- ---- what a callee does, and the call rules. Res is the type of its result, and vals how a result's machine values
 -- are spelled
@@ -206,7 +211,7 @@ module _ {M : Type 1} {𝓤 : Ura M} (𝓛 : Logic 𝓤) (run : Fun 𝓤) (Res :
     abbrev pub Left : (Res.Denot → List R.Denot → Type 0) → Lft → Share → GName → Val → Item 𝓤
     Left φ κ q δ w = later
         (some (λ (x : Res.Denot). some (λ (zs : List R.Denot).
-        (‵ (flft κ q) ⊛ (‵ (finally R δ zs) ⊛ ‵ (Res.own x (w ∷ [])))) ⊛ raw
+        (‵ (flft κ q) ⊛ (‵ (finally R δ zs) ⊛ ‵ (Res.own_val x (w ∷ [])))) ⊛ raw
         (fact 𝓤 ((length zs ≡ length ys) × φ x zs)))))
 
     pub record Changes (φ : Res.Denot → List R.Denot → Type 0) (vs : List Val) : Type 1 where
@@ -216,16 +221,16 @@ module _ {M : Type 1} {𝓤 : Ura M} (𝓛 : Logic 𝓤) (run : Fun 𝓤) (Res :
           (run vs (λ w. mean 𝓛 (Left φ κ q δ w)))
 
     abbrev pub Seen : (Res.Denot → Type 0) → Lft → Share → Val → Item 𝓤
-    Seen φ κ q w = later (some (λ (x : Res.Denot). (‵ (flft κ q) ⊛ ‵ (Res.own x (w ∷ []))) ⊛ raw (fact 𝓤 (φ x))))
+    Seen φ κ q w = later (some (λ (x : Res.Denot). (‵ (flft κ q) ⊛ ‵ (Res.own_val x (w ∷ []))) ⊛ raw (fact 𝓤 (φ x))))
 
     pub record Reads (φ : Res.Denot → Type 0) (vs : List Val) : Type 1 where
       pub tells : Tells Res (Is Res) vals
-      pub does : (κ : Lft) (q : Share) (δ : GName)
-          → ent 𝓤 (sep 𝓤 (A.lft κ q) (sem 𝓛 ((ShrSlice (named 0) κ R).own_val (at_list R b o δ ys) us)))
+      pub does : (κ : Lft) (q : Share)
+          → ent 𝓤 (sep 𝓤 (A.lft κ q) (sem 𝓛 ((ShrSlice (named 0) κ R).own_val (at_shared R b o ys) us)))
           (run vs (λ w. mean 𝓛 (Seen φ κ q w)))
 
   abbrev pub Told : (Res.Denot → Type 0) → Val → Item 𝓤
-  Told φ w = later (some (λ (x : Res.Denot). ‵ (Res.own x (w ∷ [])) ⊛ raw (fact 𝓤 (φ x))))
+  Told φ w = later (some (λ (x : Res.Denot). ‵ (Res.own_val x (w ∷ [])) ⊛ raw (fact 𝓤 (φ x))))
 
   pub record Answers (φ : Res.Denot → Type 0) (vs : List Val) : Type 1 where
     pub tells : Tells Res (Is Res) vals
@@ -288,7 +293,7 @@ said_is {𝓤 = 𝓤} 𝓛 Z more φ = qed 𝓛 (some (λ (z : Z). ‵ (more z) 
 -- ---- the three from a contract c that the callee meets. x is what c's triple binds outside, at a lifetime and a name
 -- of the call; E is its `ensured`
 module _ {M : Type 1} {𝓤 : Ura M} (𝓛 : Logic 𝓤) (C : Calls 𝓤 𝓛.H)
-    (fm : FmC 𝓤 𝓛.H 𝓛.laws C) (f : Name) (c : Contract 𝓤) (known : Triple 𝓤 (C f) c) (Res : RattleType)
+    (fm : FmC 𝓤 𝓛.H 𝓛.laws C) (f : Callee) (c : Contract 𝓤) (known : Triple 𝓤 (C f) c) (Res : RattleType)
     (vals : Res.Denot → List Val) (tl : Tells Res (Is Res) vals) where
   open 𝓛 use {H, A}
 
@@ -303,7 +308,7 @@ module _ {M : Type 1} {𝓤 : Ura M} (𝓛 : Logic 𝓤) (C : Calls 𝓤 𝓛.H)
     -- what the post of a contract with one lifetime is, before its `ensured` is opened
     abbrev Posts : Lft → Share → GName → Val → Item 𝓤
     Posts κ q δ w = later
-        (some (λ (r : Res.Denot). ((‵ (flft κ q) ⊛ ‵ ftrue) ⊛ ‵ (Res.own r (w ∷ []))) ⊛ raw (E κ δ r)))
+        (some (λ (r : Res.Denot). ((‵ (flft κ q) ⊛ ‵ ftrue) ⊛ ‵ (Res.own_val r (w ∷ []))) ⊛ raw (E κ δ r)))
 
     pub changes : (φ : Res.Denot → List R.Denot → Type 0) →
         ((κ : Lft) (q : Share) (δ : GName)
@@ -337,45 +342,51 @@ module _ {M : Type 1} {𝓤 : Ura M} (𝓛 : Logic 𝓤) (C : Calls 𝓤 𝓛.H)
             pick ! (λ zs. split ! $ move ! (1 ∷ []) $ heard ! ((length zs ≡ length ys) × φ r zs) (λ h.
             move ! (1 ∷ []) $ split ! $ split ! $ move ! (0 ∷ 3 ∷ 2 ∷ []) $ at_once ! $
             show ! (λ (r' : Res.Denot). mean 𝓛
-            (some (λ (zs' : List R.Denot). (‵ (flft κ q) ⊛ (‵ (finally R δ zs') ⊛ ‵ (Res.own r' (w ∷ []))))
+            (some (λ (zs' : List R.Denot). (‵ (flft κ q) ⊛ (‵ (finally R δ zs') ⊛ ‵ (Res.own_val r' (w ∷ []))))
             ⊛ raw (fact 𝓤 ((length zs' ≡ length ys) × φ r' zs'))))) r $
             show ! (λ (zs' : List R.Denot). mean 𝓛
-            ((‵ (flft κ q) ⊛ (‵ (finally R δ zs') ⊛ ‵ (Res.own r (w ∷ [])))) ⊛ raw
+            ((‵ (flft κ q) ⊛ (‵ (finally R δ zs') ⊛ ‵ (Res.own_val r (w ∷ [])))) ⊛ raw
             (fact 𝓤 ((length zs' ≡ length ys) × φ r zs')))) zs $
             says ! h $ keep ! (0 ∷ 1 ∷ 2 ∷ []) $ done !)))
 
-    pub looks-at : (φ : Res.Denot → Type 0) → ((κ : Lft) (q : Share) (δ : GName)
-        → ent 𝓤 (sep 𝓤 (A.lft κ q) (sem 𝓛 ((ShrSlice (named 0) κ R).own_val (at_list R b o δ ys) us)))
-        (c.pre (x κ q δ)))
-        → ((κ : Lft) (q : Share) (δ : GName) (w : Val) → ent 𝓤 (c.post (x κ q δ) w) (mean 𝓛 (Posts κ q δ w)))
-        → ((κ : Lft) (q : Share) (δ : GName) (r : Res.Denot) → ent 𝓤 (E κ δ r) (fact 𝓤 (φ r)))
+  module _ (R : RattleType) (b o : ℕ) (ys : List R.Denot) (us vs : List Val) (x : Lft → Share → c.Ghost)
+      (e : (κ : Lft) (q : Share) → c.args (x κ q) ≡ vs) (E : Lft → Res.Denot → SProp 𝓤) where
+    abbrev Shows : Lft → Share → Val → Item 𝓤
+    Shows κ q w = later
+        (some (λ (r : Res.Denot). ((‵ (flft κ q) ⊛ ‵ ftrue) ⊛ ‵ (Res.own_val r (w ∷ []))) ⊛ raw (E κ r)))
+
+    pub looks_at_lem : (φ : Res.Denot → Type 0) → ((κ : Lft) (q : Share)
+        → ent 𝓤 (sep 𝓤 (A.lft κ q) (sem 𝓛 ((ShrSlice (named 0) κ R).own_val (at_shared R b o ys) us)))
+        (c.pre (x κ q)))
+        → ((κ : Lft) (q : Share) (w : Val) → ent 𝓤 (c.post (x κ q) w) (mean 𝓛 (Shows κ q w)))
+        → ((κ : Lft) (r : Res.Denot) → ent 𝓤 (E κ r) (fact 𝓤 (φ r)))
         → Reads 𝓛 (C f) Res vals R b o ys us φ vs
-    looks-at φ goes posts told =
+    looks_at_lem φ goes posts told =
         record {
           tells = tl;
-          does = λ κ q δ. subst (λ (ws : List Val). ent 𝓤 (Lent κ q δ) (C f ws (Q κ q))) (e κ q δ)
-              (runs_so (x κ q δ) (Lent κ q δ) (Q κ q) (goes κ q δ) (λ w. via 𝓤 (mean 𝓛 (Posts κ q δ w))
-              (posts κ q δ w)
-              (leaves κ q δ w)));
+          does = λ κ q. subst (λ (ws : List Val). ent 𝓤 (Lent κ q) (C f ws (Q κ q))) (e κ q)
+              (runs_so (x κ q) (Lent κ q) (Q κ q) (goes κ q) (λ w. via 𝓤 (mean 𝓛 (Shows κ q w))
+              (posts κ q w)
+              (leaves κ q w)));
         }
       where
-        Lent : Lft → Share → GName → SProp 𝓤
-        Lent κ q δ = sep 𝓤 (A.lft κ q) (sem 𝓛 ((ShrSlice (named 0) κ R).own_val (at_list R b o δ ys) us))
+        Lent : Lft → Share → SProp 𝓤
+        Lent κ q = sep 𝓤 (A.lft κ q) (sem 𝓛 ((ShrSlice (named 0) κ R).own_val (at_shared R b o ys) us))
 
         Q : Lft → Share → Val → SProp 𝓤
         Q κ q w = mean 𝓛 (Seen 𝓛 (C f) Res vals R b o ys us φ κ q w)
 
-        leaves : (κ : Lft) (q : Share) (δ : GName) (w : Val) → ent 𝓤 (mean 𝓛 (Posts κ q δ w)) (Q κ q w)
-        leaves κ q δ w =
-            qed 𝓛 (Posts κ q δ w ∷ []) ∵ updating ! $ await ! tt $
-            pick ! (λ r. split ! $ move ! (1 ∷ []) $ use1 𝓛 (raw (fact 𝓤 (φ r))) (told κ q δ r) $
+        leaves : (κ : Lft) (q : Share) (w : Val) → ent 𝓤 (mean 𝓛 (Shows κ q w)) (Q κ q w)
+        leaves κ q w =
+            qed 𝓛 (Shows κ q w ∷ []) ∵ updating ! $ await ! tt $
+            pick ! (λ r. split ! $ move ! (1 ∷ []) $ use1 𝓛 (raw (fact 𝓤 (φ r))) (told κ r) $
             heard ! (φ r) (λ h. split ! $ split ! $ move ! (0 ∷ 2 ∷ []) $ at_once ! $
-            show ! (λ (r' : Res.Denot). mean 𝓛 ((‵ (flft κ q) ⊛ ‵ (Res.own r' (w ∷ []))) ⊛ raw (fact 𝓤 (φ r'))))
+            show ! (λ (r' : Res.Denot). mean 𝓛 ((‵ (flft κ q) ⊛ ‵ (Res.own_val r' (w ∷ []))) ⊛ raw (fact 𝓤 (φ r'))))
             r $ says ! h $ keep ! (0 ∷ 1 ∷ []) $ done !))
 
   pub answers : (y : c.Ghost) (E : Res.Denot → SProp 𝓤) (φ : Res.Denot → Type 0) → ent 𝓤 (emp 𝓤) (c.pre y)
       → ((w : Val) → ent 𝓤 (c.post y w)
-      (mean 𝓛 (later (some (λ (r : Res.Denot). (‵ ftrue ⊛ ‵ (Res.own r (w ∷ []))) ⊛ raw (E r))))))
+      (mean 𝓛 (later (some (λ (r : Res.Denot). (‵ ftrue ⊛ ‵ (Res.own_val r (w ∷ []))) ⊛ raw (E r))))))
       → ((r : Res.Denot) → ent 𝓤 (E r) (fact 𝓤 (φ r)))
       → Answers 𝓛 (C f) Res vals φ (c.args y)
   answers y E φ goes posts told = record {
@@ -386,14 +397,14 @@ module _ {M : Type 1} {𝓤 : Ura M} (𝓛 : Logic 𝓤) (C : Calls 𝓤 𝓛.H)
   }
     where
       Posted : Val → Item 𝓤
-      Posted w = later (some (λ (r : Res.Denot). (‵ ftrue ⊛ ‵ (Res.own r (w ∷ []))) ⊛ raw (E r)))
+      Posted w = later (some (λ (r : Res.Denot). (‵ ftrue ⊛ ‵ (Res.own_val r (w ∷ []))) ⊛ raw (E r)))
 
       leaves : (w : Val) → ent 𝓤 (mean 𝓛 (Posted w)) (mean 𝓛 (Told 𝓛 (C f) Res vals φ w))
       leaves w =
           qed 𝓛 (Posted w ∷ []) ∵ updating ! $ await ! tt $ pick !
           (λ r. split ! $ move ! (1 ∷ []) $ use1 𝓛 (raw (fact 𝓤 (φ r))) (told r) $
           heard ! (φ r) (λ h. split ! $ drop ! $ at_once ! $
-          show ! (λ (r' : Res.Denot). mean 𝓛 (‵ (Res.own r' (w ∷ [])) ⊛ raw (fact 𝓤 (φ r')))) r $ says ! h $
+          show ! (λ (r' : Res.Denot). mean 𝓛 (‵ (Res.own_val r' (w ∷ [])) ⊛ raw (fact 𝓤 (φ r')))) r $ says ! h $
           done !))
 
 module _ {M : Type 1} {𝓤 : Ura M} {𝓛 : Logic 𝓤} {K : Type 0} {Γ : List (Item 𝓤)}
@@ -401,7 +412,7 @@ module _ {M : Type 1} {𝓤 : Ura M} {𝓛 : Logic 𝓤} {K : Type 0} {Γ : List
   -- the result's machine value is the one that is spelled, and what a result owns is let go
   pub lands_as : K → (Res : RattleType) (vals : Res.Denot → List Val) → Tells Res (Is Res) vals
       → (x : Res.Denot) (w : Val) → (Is Res x (vals x) → Seq K 𝓛 Γ (lands C Λ E d (only (vals x)) rest Q))
-      → Seq K 𝓛 (‵ (Res.own x (w ∷ [])) ∷ Γ) (lands C Λ E d w rest Q)
+      → Seq K 𝓛 (‵ (Res.own_val x (w ∷ [])) ∷ Γ) (lands C Λ E d w rest Q)
   lands_as t Res vals tl x w k = facts t Res (Is Res) (shows 𝓛 Res) x (w ∷ [])
       (λ u. subst (λ (v : Val). Seq K 𝓛 Γ (lands C Λ E d v rest Q)) (sym (ap only (tl x (w ∷ []) u)))
       (k (subst (Is Res x) (tl x (w ∷ []) u) u)))
@@ -431,17 +442,17 @@ module _ {M : Type 1} {𝓤 : Ura M} {𝓛 : Logic 𝓤} {K : Type 0} {Γ : List
     {E : Env 𝓤 𝓛.H} {C : Calls 𝓤 𝓛.H} {Λ : Loops 𝓤 𝓛.H} {Q : Post 𝓤 𝓛.H} {d : Place} {rest : Body} where
   open 𝓛 use {H}
 
-  module _ {Res : RattleType} {vals : Res.Denot → List Val} {f : Name} {xs : List Operand} {vs : List Val} where
+  module _ {Res : RattleType} {vals : Res.Denot → List Val} {f : Callee} {xs : List Operand} {vs : List Val} where
     module _ (t : K) (fm : FmC 𝓤 H 𝓛.laws C) (R : RattleType) (κ : Lft) (q : Share) (γ : GName) (b o : ℕ)
         (us : List Val) (ys : List R.Denot) where
-      pub calls-lent : {φ : Res.Denot → List R.Denot → Type 0} → Changes 𝓛 (C f) Res vals R b o ys us φ vs
+      pub calls_lent : {φ : Res.Denot → List R.Denot → Type 0} → Changes 𝓛 (C f) Res vals R b o ys us φ vs
           → ((i j : Item 𝓤) → Opds K 𝓛 (i ∷ j ∷ Γ) E xs vs)
           → ((x : Res.Denot) (zs : List R.Denot) → length zs ≡ length ys → φ x zs → Is Res x (vals x)
           → Seq K 𝓛 (‵ ((MutSlice (named 0) κ R).own_val (at_list R b o γ zs) us) ∷ ‵ (flft κ q) ∷ Γ)
           (lands C Λ E d (only (vals x)) rest Q))
           → Seq K 𝓛 (‵ ((MutSlice (named 0) κ R).own_val (at_list R b o γ ys) us) ∷ ‵ (flft κ q) ∷ Γ)
           (runs C Λ E (seq (call f xs d) rest) Q)
-      calls-lent {φ} ch os k =
+      calls_lent {φ} ch os k =
           lend t tt R κ q γ b o us ys (λ ν δ p. join t $
           calls_from t fm (‵ (flft (ν ∷ []) full_share) ⊛ ‵ ((MutSlice (named 0) (ν ∷ []) R).own_val (at_list R b o δ ys) us))
           vs (λ w. mean 𝓛 (Left 𝓛 (C f) Res vals R b o ys us φ (ν ∷ []) full_share δ w))
@@ -453,50 +464,55 @@ module _ {M : Type 1} {𝓤 : Ura M} {𝓛 : Logic 𝓤} {K : Type 0} {Γ : List
           move t (1 ∷ 2 ∷ 0 ∷ []) $ lands_as t Res vals ch.tells x w
           (λ u. back t tt R κ q γ b o us ys p ν δ zs e.0 $ k x zs e.0 e.1 u))))))
 
-      pub calls-read : {φ : Res.Denot → Type 0} → Reads 𝓛 (C f) Res vals R b o ys us φ vs
+      pub calls_read : Copied 𝓛 R → {φ : Res.Denot → Type 0} → Reads 𝓛 (C f) Res vals R b o ys us φ vs
           → ((i j : Item 𝓤) → Opds K 𝓛 (i ∷ j ∷ Γ) E xs vs)
           → ((x : Res.Denot) → φ x → Is Res x (vals x) → Seq K 𝓛
           (‵ ((MutSlice (named 0) κ R).own_val (at_list R b o γ ys) us) ∷ ‵ (flft κ q) ∷ Γ)
           (lands C Λ E d (only (vals x)) rest Q))
           → Seq K 𝓛 (‵ ((MutSlice (named 0) κ R).own_val (at_list R b o γ ys) us) ∷ ‵ (flft κ q) ∷ Γ)
           (runs C Λ E (seq (call f xs d) rest) Q)
-      calls-read {φ} ch os k =
-          lft_new t tt (λ ν. move t (1 ∷ 2 ∷ []) $ use2 𝓛 (later (Out R κ (ν ∷ []) q γ b o 𝓛 ys us))
-          (shares_out R κ (ν ∷ []) q γ b o 𝓛 ys us) $ await t tt $ learn t (λ p. pick t (λ δ. split t $
-          move t (2 ∷ 0 ∷ []) $ join t $
-          calls_from t fm (‵ (flft (ν ∷ []) full_share) ⊛ ‵ ((ShrSlice (named 0) (ν ∷ []) R).own_val (at_list R b o δ ys) us))
+      calls_read c {φ} ch os k =
+          lft_new t tt (λ ν. use1 𝓛 (raw (lfts 𝓛 (Tok ν))) (id⊢ 𝓤 _) $ move t (1 ∷ 2 ∷ 0 ∷ []) $
+          use3 𝓛 (later (Out R κ (ν ∷ []) q γ b o 𝓛 ys us (Tok ν)))
+          (shares_out R κ (ν ∷ []) q γ b o 𝓛 ys us c (Tok ν) (Incl-refl (ν ∷ []))) $ await t tt $
+          learn t (λ p. split t $ move t (1 ∷ []) $ split t $ move t (1 ∷ []) $
+          use1 𝓛 (‵ (flft (ν ∷ []) full_share)) (id⊢ 𝓤 _) $ move t (0 ∷ 2 ∷ 1 ∷ []) $ join t $
+          calls_from t fm (‵ (flft (ν ∷ []) full_share) ⊛ ‵ ((ShrSlice (named 0) (ν ∷ []) R).own_val (at_shared R b o ys) us))
           vs (λ w. mean 𝓛 (Seen 𝓛 (C f) Res vals R b o ys us φ (ν ∷ []) full_share w))
-          (ch.does (ν ∷ []) full_share δ) (os _ _) (λ w.
+          (ch.does (ν ∷ []) full_share) (os _ _) (λ w.
           use1 𝓛 (Seen 𝓛 (C f) Res vals R b o ys us φ (ν ∷ []) full_share w) (id⊢ 𝓤 _) $ await t tt $
           pick t (λ x. split t $ move t (1 ∷ []) $ heard t (φ x) (λ e. split t $ lft_end t tt $
           move t (1 ∷ 0 ∷ []) $ lands_as t Res vals ch.tells x w (λ u.
           use2 𝓛 (later (‵ ((MutSlice (named 0) κ R).own_val (at_list R b o γ ys) us) ⊛ ‵ (flft κ q)))
-          (as_it_was R κ (ν ∷ []) q γ b o 𝓛 ys us p) $ await t tt $ split t $ k x e u)))))))
+          (as_it_was R κ (ν ∷ []) q γ b o 𝓛 ys us p) $ await t tt $ split t $ k x e u))))))
+        where
+          Tok : ℕ → Toks
+          Tok ν = (ν ∷ [], full_share) ∷ []
 
       -- of a caller that has a `&[T]` itself: it passes a copy
-      pub calls-shared : {φ : Res.Denot → Type 0} → Reads 𝓛 (C f) Res vals R b o ys us φ vs
+      pub calls_shared : RowLaws R → {φ : Res.Denot → Type 0} → Reads 𝓛 (C f) Res vals R b o ys us φ vs
           → ((i j : Item 𝓤) → Opds K 𝓛 (i ∷ j ∷ Γ) E xs vs)
           → ((x : Res.Denot) → φ x → Is Res x (vals x) → Seq K 𝓛
-          (‵ ((ShrSlice (named 0) κ R).own_val (at_list R b o γ ys) us) ∷ ‵ (flft κ q) ∷ Γ)
+          (‵ ((ShrSlice (named 0) κ R).own_val (at_shared R b o ys) us) ∷ ‵ (flft κ q) ∷ Γ)
           (lands C Λ E d (only (vals x)) rest Q))
-          → Seq K 𝓛 (‵ ((ShrSlice (named 0) κ R).own_val (at_list R b o γ ys) us) ∷ ‵ (flft κ q) ∷ Γ)
+          → Seq K 𝓛 (‵ ((ShrSlice (named 0) κ R).own_val (at_shared R b o ys) us) ∷ ‵ (flft κ q) ∷ Γ)
           (runs C Λ E (seq (call f xs d) rest) Q)
-      calls-shared {φ} ch os k =
-          use1 𝓛 (‵ ((ShrSlice (named 0) κ R).own_val (at_list R b o γ ys) us)
-          ⊛ ‵ ((ShrSlice (named 0) κ R).own_val (at_list R b o γ ys) us))
-          ((shr_slice_copy 𝓛 (named 0) κ R).twice (at_list R b o γ ys) us) $ split t $ move t (2 ∷ 0 ∷ []) $
+      calls_shared L {φ} ch os k =
+          use1 𝓛 (‵ ((ShrSlice (named 0) κ R).own_val (at_shared R b o ys) us)
+          ⊛ ‵ ((ShrSlice (named 0) κ R).own_val (at_shared R b o ys) us))
+          ((shr_slice_copy 𝓛 (named 0) κ R L).twice (at_shared R b o ys) us) $ split t $ move t (2 ∷ 0 ∷ []) $
           join t $
-          calls_from t fm (‵ (flft κ q) ⊛ ‵ ((ShrSlice (named 0) κ R).own_val (at_list R b o γ ys) us)) vs
-          (λ w. mean 𝓛 (Seen 𝓛 (C f) Res vals R b o ys us φ κ q w)) (ch.does κ q γ) (os _ _) (λ w.
+          calls_from t fm (‵ (flft κ q) ⊛ ‵ ((ShrSlice (named 0) κ R).own_val (at_shared R b o ys) us)) vs
+          (λ w. mean 𝓛 (Seen 𝓛 (C f) Res vals R b o ys us φ κ q w)) (ch.does κ q) (os _ _) (λ w.
           use1 𝓛 (Seen 𝓛 (C f) Res vals R b o ys us φ κ q w) (id⊢ 𝓤 _) $ await t tt $
           pick t (λ x. split t $ move t (1 ∷ []) $ heard t (φ x) (λ e. split t $
           move t (1 ∷ 2 ∷ 0 ∷ []) $ lands_as t Res vals ch.tells x w (λ u. k x e u))))
 
-    pub calls-plain : K → FmC 𝓤 H 𝓛.laws C → {φ : Res.Denot → Type 0} → Answers 𝓛 (C f) Res vals φ vs
+    pub calls_plain : K → FmC 𝓤 H 𝓛.laws C → {φ : Res.Denot → Type 0} → Answers 𝓛 (C f) Res vals φ vs
         → ((i : Item 𝓤) → Opds K 𝓛 (i ∷ Γ) E xs vs)
         → ((x : Res.Denot) → φ x → Is Res x (vals x) → Seq K 𝓛 Γ (lands C Λ E d (only (vals x)) rest Q))
         → Seq K 𝓛 Γ (runs C Λ E (seq (call f xs d) rest) Q)
-    calls-plain t fm {φ} ch os k =
+    calls_plain t fm {φ} ch os k =
         use0 𝓛 (raw (emp 𝓤)) (id⊢ 𝓤 _) $ calls_from t fm (raw (emp 𝓤)) vs
         (λ w. mean 𝓛 (Told 𝓛 (C f) Res vals φ w)) ch.does (os _) (λ w.
         use1 𝓛 (Told 𝓛 (C f) Res vals φ w) (id⊢ 𝓤 _) $ await t tt $
@@ -548,12 +564,12 @@ module _ {M : Type 1} {𝓤 : Ura M} {𝓛 : Logic 𝓤} {K : Type 0} {Γ : List
           (runs C Λ E rest Q) Γ (runs C Λ E (seq (assign (place i []) rv) rest) Q)
       lets t r n e wt = assigns t r (from t (stop t)) (init t n e wt)
 
-      pub lands-in : K → (n : ℕ) {i : ℕ} {rest : Body} {v : Val}
+      pub lands_in : K → (n : ℕ) {i : ℕ} {rest : Body} {v : Val}
           → nth 𝓛 n Γ ≡ ‵ (froom (spot_of 𝓤 H E i).0 (spot_of 𝓤 H E i).1 (spot_of 𝓤 H E i).2)
           → Holds (has_ty (spot_of 𝓤 H E i).0 v) × WT v
           → Step K 𝓛 (put 𝓛 n (‵ (fat full_share (spot_of 𝓤 H E i).0 (spot_of 𝓤 H E i).1 (spot_of 𝓤 H E i).2 v)) Γ)
           (runs C Λ E rest Q) Γ (lands C Λ E (place i []) v rest Q)
-      lands-in t n e wt = land t (from t (stop t)) (init t n e wt)
+      lands_in t n e wt = land t (from t (stop t)) (init t n e wt)
 
   -- where a contract has no `requires`
   pub asks_nothing : K → {P : SProp 𝓤} → Step K 𝓛 Γ (prop P) Γ (prop (sep 𝓤 P (emp 𝓤)))
@@ -561,10 +577,10 @@ module _ {M : Type 1} {𝓤 : Ura M} {𝓛 : Logic 𝓤} {K : Type 0} {Γ : List
       step (λ s. record { prf = via 𝓤 P s.prf (via 𝓤 (sep 𝓤 (emp 𝓤) P) (emp∗ 𝓤 P) (comm∗ 𝓤 (emp 𝓤) P)) })
 
   -- a local's cell and its leave to end, which stands behind it
-  pub ends-local : K → (n : ℕ) {τ : Ty} {l : ℕ} {v : Val} {E : Env 𝓤 H} {g : Goal 𝓤 H}
+  pub ends_local : K → (n : ℕ) {τ : Ty} {l : ℕ} {v : Val} {E : Env 𝓤 H} {g : Goal 𝓤 H}
       → nth 𝓛 n Γ ≡ ‵ (fat full_share τ l zero v) → nth 𝓛 n (del 𝓛 n Γ) ≡ ‵ (fdies τ l)
       → Step K 𝓛 (del 𝓛 n (del 𝓛 n Γ)) (frees E g) Γ (frees ((τ, l) ∷ E) g)
-  ends-local t n {τ} {l} {v} e e' = step (λ s. record {
+  ends_local t n {τ} {l} {v} e e' = step (λ s. record {
     prf =
         via 𝓤 (sep 𝓤 (H.at full_share τ l zero v) (⋆ 𝓛 (del 𝓛 n Γ)))
         (subst (λ (j : Item 𝓤). ent 𝓤 (⋆ 𝓛 Γ) (sep 𝓤 (mean 𝓛 j) (⋆ 𝓛 (del 𝓛 n Γ)))) e
@@ -589,7 +605,7 @@ module _ {M : Type 1} {𝓤 : Ura M} (𝓛 : Logic 𝓤) (run : Fun 𝓤) (Res :
       → GName → Val → Item 𝓤
   Left₂ φ κ q δ κ' q' δ' w =
       later (some (λ (x : Res.Denot). some (λ (zs : List R.Denot). some (λ (zs' : List R'.Denot).
-      (((‵ (flft κ q) ⊛ ‵ (finally R δ zs)) ⊛ (‵ (flft κ' q') ⊛ ‵ (finally R' δ' zs'))) ⊛ ‵ (Res.own x (w ∷ []))) ⊛ raw
+      (((‵ (flft κ q) ⊛ ‵ (finally R δ zs)) ⊛ (‵ (flft κ' q') ⊛ ‵ (finally R' δ' zs'))) ⊛ ‵ (Res.own_val x (w ∷ []))) ⊛ raw
       (fact 𝓤 ((length zs ≡ length ys) × ((length zs' ≡ length ys') × φ x zs zs')))))))
 
   abbrev pub Given₂ : Lft → Share → GName → Lft → Share → GName → Item 𝓤
@@ -603,10 +619,10 @@ module _ {M : Type 1} {𝓤 : Ura M} (𝓛 : Logic 𝓤) (run : Fun 𝓤) (Res :
 
 module _ {M : Type 1} {𝓤 : Ura M} {𝓛 : Logic 𝓤} {K : Type 0} {Γ : List (Item 𝓤)}
     {E : Env 𝓤 𝓛.H} {C : Calls 𝓤 𝓛.H} {Λ : Loops 𝓤 𝓛.H} {Q : Post 𝓤 𝓛.H} {d : Place} {rest : Body} {Res : RattleType}
-    {vals : Res.Denot → List Val} {f : Name} {xs : List Operand} {vs : List Val} where
+    {vals : Res.Denot → List Val} {f : Callee} {xs : List Operand} {vs : List Val} where
   open 𝓛 use {H}
 
-  pub calls-lent₂ : (t : K) (fm : FmC 𝓤 H 𝓛.laws C) (R : RattleType) (κ : Lft) (q : Share) (γ : GName) (b o : ℕ)
+  pub calls_lent₂ : (t : K) (fm : FmC 𝓤 H 𝓛.laws C) (R : RattleType) (κ : Lft) (q : Share) (γ : GName) (b o : ℕ)
       (us : List Val) (ys : List R.Denot) (R' : RattleType) (κ' : Lft) (q' : Share) (γ' : GName) (b' o' : ℕ)
       (us' : List Val) (ys' : List R'.Denot)
       {φ : Res.Denot → List R.Denot → List R'.Denot → Type 0}
@@ -620,7 +636,7 @@ module _ {M : Type 1} {𝓤 : Ura M} {𝓛 : Logic 𝓤} {K : Type 0} {Γ : List
       → Seq K 𝓛 (‵ ((MutSlice (named 0) κ R).own_val (at_list R b o γ ys) us) ∷ ‵ (flft κ q)
       ∷ ‵ ((MutSlice (named 0) κ' R').own_val (at_list R' b' o' γ' ys') us') ∷ ‵ (flft κ' q') ∷ Γ)
       (runs C Λ E (seq (call f xs d) rest) Q)
-  calls-lent₂ t fm R κ q γ b o us ys R' κ' q' γ' b' o' us' ys' {φ} ch os k =
+  calls_lent₂ t fm R κ q γ b o us ys R' κ' q' γ' b' o' us' ys' {φ} ch os k =
       lend t tt R κ q γ b o us ys (λ ν δ p. move t (3 ∷ 4 ∷ []) $
       lend t tt R' κ' q' γ' b' o' us' ys' (λ ν' δ' p'. join t $ move t (2 ∷ 3 ∷ []) $ join t $ move t (0 ∷ 1 ∷ []) $
       join t $ nothing t $ move t (1 ∷ 0 ∷ []) $

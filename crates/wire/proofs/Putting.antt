@@ -21,16 +21,16 @@ module _ (buf head : List ℕ) (four : length head ≡ 4) where
   abbrev frame : List ℕ → List ℕ
   frame xs = head ++ bytes_of xs
 
-  pub length-pieces : (xs : List ℕ) → length (frame xs) ≡ 4 + 4 * length xs
-  length-pieces xs = omega (arith, length-append head (bytes_of xs), length_bytes_of xs)
+  pub length_pieces : (xs : List ℕ) → length (frame xs) ≡ 4 + 4 * length xs
+  length_pieces xs = omega (arith, length-append head (bytes_of xs), length_bytes_of xs)
 
   -- the numbers after those that stand there
-  more-put : (xs ys : List ℕ) → 4 + 4 * length xs + 4 * length ys ≤ length buf
+  more_put : (xs ys : List ℕ) → 4 + 4 * length xs + 4 * length ys ≤ length buf
       → put_numbers (pasted buf 0 (frame xs)) (4 + 4 * length xs) ys ≡ pasted buf 0 (frame (xs ++ ys))
-  more-put xs ys h =
+  more_put xs ys h =
       let n : ℕ = 4 + 4 * length xs in
       let z : 0 + n ≡ n = zero-add n in
-      let e = length-pieces xs in
+      let e = length_pieces xs in
       let b = length_bytes_of ys in
       let l = length_pasted buf 0 (frame xs) (omega arith) in
       choose_yes _ _ (le-leb (n + 4 * length ys) (length (pasted buf 0 (frame xs))) (omega arith))
@@ -39,25 +39,25 @@ module _ (buf head : List ℕ) (four : length head ≡ 4) where
       (append_assoc head (bytes_of xs) (bytes_of ys) ∙ ap (λ bs. head ++ bs) (sym (bytes_of_append xs ys)))
 
   -- the bytes after it stay
-  pub whole-put : (xs : List ℕ) → pasted buf 0 (frame xs) ≡ frame xs ++ drop (length (frame xs)) buf
+  pub whole_put : (xs : List ℕ) → pasted buf 0 (frame xs) ≡ frame xs ++ drop (length (frame xs)) buf
   unfolding pasted
-  whole-put xs = ap (λ i. frame xs ++ drop i buf) (zero-add (length (frame xs)))
+  whole_put xs = ap (λ i. frame xs ++ drop i buf) (zero-add (length (frame xs)))
 
-  head-put : 4 ≤ length buf → put_at buf 0 head ≡ pasted buf 0 (frame [])
+  head_put : 4 ≤ length buf → put_at buf 0 head ≡ pasted buf 0 (frame [])
   unfolding bytes_of
-  head-put h =
+  head_put h =
       choose_yes _ _ (le-leb (0 + length head) (length buf) (omega arith)) ∙ ap (pasted buf 0) (sym (append-nil head))
 
   -- ---- the pieces
 
   pub one_put : (xs : List ℕ) → 4 + 4 * length xs ≤ length buf
       → put_numbers (put_at buf 0 head) 4 xs ≡ pasted buf 0 (frame xs)
-  one_put xs h = ap (λ l. put_numbers l 4 xs) (head-put (omega arith)) ∙ more-put [] xs (omega arith)
+  one_put xs h = ap (λ l. put_numbers l 4 xs) (head_put (omega arith)) ∙ more_put [] xs (omega arith)
 
   -- one piece more
-  pub next-put : (l xs ys : List ℕ) (at : ℕ) → l ≡ pasted buf 0 (frame xs) → at ≡ 4 + 4 * length xs
+  pub next_put : (l xs ys : List ℕ) (at : ℕ) → l ≡ pasted buf 0 (frame xs) → at ≡ 4 + 4 * length xs
       → 4 + 4 * length xs + 4 * length ys ≤ length buf → put_numbers l at ys ≡ pasted buf 0 (frame (xs ++ ys))
-  next-put l xs ys at f e h = (λ i. put_numbers (f i) (e i) ys) ∙ more-put xs ys h
+  next_put l xs ys at f e h = (λ i. put_numbers (f i) (e i) ys) ∙ more_put xs ys h
 
 -- ---- parts of words
 

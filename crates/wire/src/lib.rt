@@ -1,4 +1,6 @@
 // Frames put into the bytes that a caller lends, from lent words.
+#![tactic(auto)]
+
 ghost use Rattle.std.specs.Prelude.{◌≡◌, [], ◌∷◌, ◌+◌, ◌≤◌, length};
 ghost use Rattle.frame.specs.Numbers.{four_bytes};
 ghost use Rattle.frame.specs.Parts.{pasted};

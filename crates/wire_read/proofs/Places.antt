@@ -30,20 +30,20 @@ four at n h l =
 
 -- the number that four bytes make
 module _ (a b c d : ℕ) (la : a < 256) (lb : b < 256) where
-  pub two-scaled : Fits w32 (256 * b)
-  two-scaled = record { fits = omega arith }
+  pub two_scaled : Fits w32 (256 * b)
+  two_scaled = record { fits = omega arith }
 
   pub two : Fits w32 (a + 256 * b)
   two = record { fits = omega arith }
 
-  pub three-scaled : c < 256 → Fits w32 (65536 * c)
-  three-scaled lc = record { fits = omega arith }
+  pub three_scaled : c < 256 → Fits w32 (65536 * c)
+  three_scaled lc = record { fits = omega arith }
 
   pub three : c < 256 → Fits w32 (a + 256 * b + 65536 * c)
   three lc = record { fits = omega arith }
 
-  pub all-scaled : d < 256 → Fits w32 (16777216 * d)
-  all-scaled ld = record { fits = omega arith }
+  pub all_scaled : d < 256 → Fits w32 (16777216 * d)
+  all_scaled ld = record { fits = omega arith }
 
   pub all : c < 256 → d < 256 → Fits w32 (a + 256 * b + 65536 * c + 16777216 * d)
   all lc ld = record { fits = omega arith }
@@ -66,8 +66,8 @@ pub record Turn (count at i n : ℕ) : Type 0 where
   pub next : Fits w32 (i + 1)
   pub less : count - (i + 1) < count - i
 
-pub turn_at : (count at i n : ℕ) → i < count → at ≡ 4 + 4 * i → 4 + 4 * count ≤ n → count ≤ most_numbers → Turn count at i n
-turn_at count at i n low e h m =
+pub turn_at_lem : (count at i n : ℕ) → i < count → at ≡ 4 + 4 * i → 4 + 4 * count ≤ n → count ≤ most_numbers → Turn count at i n
+turn_at_lem count at i n low e h m =
     record {
       wide = record { fits = omega arith };
       there = omega arith;

@@ -22,7 +22,7 @@ use Rattle.frame.specs.Frame.{sent_number, taken_number, sent_at, taken_at, firs
 use Rattle.frame.specs.declared.Sent.{Sent}
 use Rattle.frame.specs.declared.Taken.{Taken}
 use Rattle.frame.proofs.Shells.{shell_there, shell_gone}
-use Rattle.frame.proofs.RoundTripChecks.{Numbers, numbers-known, numbers-good, number_low, step_known, shell_known}
+use Rattle.frame.proofs.RoundTripChecks.{Numbers, numbers_known, numbers_good, number_low, step_known, shell_known}
 
 -- a board has at most `width` shells
 pub few : (L : Limits) → Fits L → (P p : ℕ) → bad_board L P ≡ false → p ≡ dimension P → p ≤ width
@@ -36,13 +36,13 @@ same_test false false f g = refl
 
 -- the fields by the pass
 module _ (p : ℕ) (bs : List ℕ) where
-  pub fields-first : get_or bs 0 0 ≡ 1 → fields_of p bs ≡ first_fields p bs
+  pub fields_first : get_or bs 0 0 ≡ 1 → fields_of p bs ≡ first_fields p bs
   unfolding fields_of
-  fields-first e = choose_yes _ _ (eq-eqb _ _ e)
+  fields_first e = choose_yes _ _ (eq-eqb _ _ e)
 
-  pub fields-second : (get_or bs 0 0 ≡ 1 → ⊥) → fields_of p bs ≡ second_fields bs
+  pub fields_second : (get_or bs 0 0 ≡ 1 → ⊥) → fields_of p bs ≡ second_fields bs
   unfolding fields_of
-  fields-second e = choose_no _ _ (ne_eqb _ _ e)
+  fields_second e = choose_no _ _ (ne_eqb _ _ e)
 
 module _ (L : Limits) (p : ℕ) (bs : List ℕ) where
   abbrev k : ℕ
@@ -59,9 +59,9 @@ module _ (L : Limits) (p : ℕ) (bs : List ℕ) where
   taken_is m h = ap (λ (x : Taken). x.0) (list_at width (λ m. taken_number (shell_at p k bs (p - k) m)) m (taken_number 0) h)
 
   -- a tally is as it may be if its number is low where the frame has it
-  shell-ok : (start m : ℕ) → ((i : ℕ) → i < p - k → low (start + i) ≡ true)
+  shell_ok_lem : (start m : ℕ) → ((i : ℕ) → i < p - k → low (start + i) ≡ true)
       → number_ok L (has_shell p k m) (shell_at p k bs start m) ≡ true
-  shell-ok start m h =
+  shell_ok_lem start m h =
       cases (λ t. t ≡ true) (has_shell p k m) _ _
       (λ q.
       let r = shell_known p k m q in
@@ -74,26 +74,26 @@ module _ (L : Limits) (p : ℕ) (bs : List ℕ) where
       abbrev count : ℕ
       count = 2 * (p - k) + 2
 
-      first-low : numbers_ok L p (first_fields p bs) ≡ true → every 0 count low ≡ true
-      first-low e =
+      first_low : numbers_ok L p (first_fields p bs) ≡ true → every 0 count low ≡ true
+      first_low e =
           every_make 0 count low
           (λ i a b.
           le-leb _ _ (go i (omega arith) (dec_lt i (p - k)) (dec_lt i (2 * (p - k))) (ℕ_discrete i (2 * (p - k)))))
         where
           n : Numbers L p (first_fields p bs)
-          n = numbers-known L p (first_fields p bs) e
+          n = numbers_known L p (first_fields p bs) e
 
           has : ℕ → Bool
           has m = both (eqb (get_or bs 0 0) 1) (has_shell p k m)
 
-          is-low : (i x : ℕ) → x ≡ number_at bs i → x ≤ field_limit L → number_at bs i ≤ field_limit L
-          is-low i x q h = omega (arith, q)
+          is_low_lem : (i x : ℕ) → x ≡ number_at bs i → x ≤ field_limit L → number_at bs i ≤ field_limit L
+          is_low_lem i x q h = omega (arith, q)
 
           tally : (start i m x : ℕ) → start + (m - k) ≡ i → k ≤ m → m < p → x ≡ shell_at p k bs start m
               → number_ok L (has m) x ≡ true
               → number_at bs i ≤ field_limit L
           tally start i m x z a b q h =
-              is-low i x (q ∙ shell_there p k bs start m a b ∙ ap (λ j. number_at bs j) z) (number_low L (has m) x h)
+              is_low_lem i x (q ∙ shell_there p k bs start m a b ∙ ap (λ j. number_at bs j) z) (number_low L (has m) x h)
 
           go : (i : ℕ) → i < count → Dec (i < p - k) → Dec (i < 2 * (p - k)) → Dec (i ≡ 2 * (p - k))
               → number_at bs i ≤ field_limit L
@@ -104,17 +104,17 @@ module _ (L : Limits) (p : ℕ) (bs : List ℕ) where
               let m : ℕ = k + (i - (p - k)) in
               tally (p - k) i m _ (omega arith) (omega arith) (omega arith) (taken_is m (omega arith))
               (n.taken m (omega arith))
-          go i b (no a) (no d) (yes f) = is-low i _ (ap (λ j. number_at bs j) (sym f)) n.issued
+          go i b (no a) (no d) (yes f) = is_low_lem i _ (ap (λ j. number_at bs j) (sym f)) n.issued
           go i b (no a) (no d) (no f) =
               let z : 2 * (p - k) + 1 ≡ i = omega arith in
-              is-low i _ (ap (λ j. number_at bs j) z) (number_low L (eqb (get_or bs 0 0) 1) _ n.received)
+              is_low_lem i _ (ap (λ j. number_at bs j) z) (number_low L (eqb (get_or bs 0 0) 1) _ n.received)
 
       first_good : every 0 count low ≡ true → numbers_ok L p (first_fields p bs) ≡ true
       first_good e =
-          numbers-good L p (first_fields p bs)
+          numbers_good L p (first_fields p bs)
           (record {
-            sent = λ m h. rw (eq-eqb _ _ one, sent_is m h) (shell-ok 0 m (λ i l. at (0 + i) (omega arith)));
-            taken = λ m h. rw (eq-eqb _ _ one, taken_is m h) (shell-ok (p - k) m (λ i l. at (p - k + i) (omega arith)));
+            sent = λ m h. rw (eq-eqb _ _ one, sent_is m h) (shell_ok_lem 0 m (λ i l. at (0 + i) (omega arith)));
+            taken = λ m h. rw (eq-eqb _ _ one, taken_is m h) (shell_ok_lem (p - k) m (λ i l. at (p - k + i) (omega arith)));
             issued = leb-true _ _ (at (2 * (p - k)) (omega arith));
             received = rw (eq-eqb _ _ one) (at (2 * (p - k) + 1) (omega arith));
             agreed = rw (ne_eqb (get_or bs 0 0) 2 (λ z. omega arith));
@@ -128,15 +128,15 @@ module _ (L : Limits) (p : ℕ) (bs : List ℕ) where
     other : eqb (get_or bs 0 0) 1 ≡ false
     other = ne_eqb (get_or bs 0 0) 1 (λ z. omega arith)
 
-    second-low : numbers_ok L p (second_fields bs) ≡ true → every 0 2 low ≡ true
-    second-low e =
-        let n = numbers-known L p (second_fields bs) e in
+    second_low : numbers_ok L p (second_fields bs) ≡ true → every 0 2 low ≡ true
+    second_low e =
+        let n = numbers_known L p (second_fields bs) e in
         both_make (le-leb _ _ (number_low L (eqb (get_or bs 0 0) 2) _ n.agreed))
         (both_make (le-leb _ _ n.issued) refl)
 
-    second-good : every 0 2 low ≡ true → numbers_ok L p (second_fields bs) ≡ true
-    second-good e =
-        numbers-good L p (second_fields bs)
+    second_good : every 0 2 low ≡ true → numbers_ok L p (second_fields bs) ≡ true
+    second_good e =
+        numbers_good L p (second_fields bs)
         (record {
           sent = λ m h. rw (other, list_one 0 width (sent_number 0) m);
           taken = λ m h. rw (other, list_one 0 width (taken_number 0) m);
@@ -153,7 +153,7 @@ module _ (L : Limits) (p : ℕ) (bs : List ℕ) where
       go : (get_or bs 0 0 ≡ 1) ⊎ (get_or bs 0 0 ≡ 2) → k < p → numbers_ok L p (fields_of p bs) ≡ every 0 c low
       go (inl one) h =
           let z : c ≡ 2 * (p - k) + 2 = omega (arith, first_length_lem p (get_or bs 0 0) k one) in
-          rw (fields-first p bs one, z) (same_test _ _ (first-low narrow h one) (first_good narrow h one))
+          rw (fields_first p bs one, z) (same_test _ _ (first_low narrow h one) (first_good narrow h one))
       go (inr two) h =
           let z : c ≡ 2 = omega (arith, second_length p (get_or bs 0 0) k (λ e. omega arith)) in
-          rw (fields-second p bs (λ e. omega arith), z) (same_test _ _ (second-low two) (second-good two))
+          rw (fields_second p bs (λ e. omega arith), z) (same_test _ _ (second_low two) (second_good two))

@@ -1,4 +1,6 @@
 // Frames in the bytes that a caller lends: tested there, and their numbers copied into lent words.
+#![tactic(auto)]
+
 ghost use Rattle.std.specs.Prelude.{◌≡◌, ◌+◌, ◌*◌, ◌≤◌, ◌<◌, leb, length};
 ghost use Rattle.base.specs.Choice.{every};
 ghost use Rattle.base.specs.Limits.{limits_of, width};

@@ -23,7 +23,7 @@ use Rattle.script.specs.Script.{parts_within, line_of, line_at}
 use Rattle.items.specs.Places.{no_item, place_from}
 use Rattle.item_changes.specs.Places.{moved}
 use Rattle.under_way.specs.Frames.{closed, framed}
-use Rattle.turns.specs.Events.{sendTurn, idleTurn, callTurn, deliverTurn}
+use Rattle.turns.specs.Events.{send_turn, idle_turn, call_turn, deliver_turn}
 use Rattle.printing.specs.Put.{digits}
 use Rattle.text.specs.Text.{row_text, stop_text}
 use Rattle.rehearsal.specs.Play.{play_from, play}
@@ -72,5 +72,5 @@ unfolding smallest_from dimension part run_below run_of place_in place awaited r
     first_clauses second_clauses agrees board_ok position_ok tallies_ok total_ok first_ok second_ok passed_ok busy_ok valid
     fresh send take idle gotten frame_in frame_due barrier at_first first_in second_in unpacked is_whole first_list
     second_list joined_list packed fresh_on fresh_words fresh_state on_state step_on before parts_within line_of line_at
-    place_from moved closed framed sendTurn idleTurn callTurn deliverTurn digits row_text stop_text play_from play
+    place_from moved closed framed send_turn idle_turn call_turn deliver_turn digits row_text stop_text play_from play
 worked = refl

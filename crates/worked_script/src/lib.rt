@@ -1,1 +1,3 @@
 // The worked script (rule S10) played by computation: proofs only.
+
+#![tactic(auto)]

@@ -1,5 +1,7 @@
 // What the writer of recordings calls: the test of what it is handed, and a number of the table put. Any numbers, events
 // and buffer may be handed.
+#![tactic(auto)]
+
 ghost use Rattle.std.specs.Prelude.{◌≡◌, ◌≤◌, length};
 ghost use Rattle.printing.specs.Put.{put, ends};
 ghost use Rattle.recording.specs.Recording.{made, two_bytes};

@@ -1,5 +1,5 @@
 -- `add_taken`: the sum is within the limit before it is written.
-use borrow.Author.Tests.{leb-true, not-true, not-false}
+use borrow.Author.Tests.{leb-true}
 use mathlib.Core.Path.{refl, sym, ◌∙◌}
 use Prim.Native.Nat.{ℕ, ◌+◌}
 use lib.ListN.{length-set}
@@ -12,28 +12,26 @@ use Rattle.adding.proofs.add_taken.Tie as tie
 abbrev sum : tie.Start → ℕ
 sum s = word s.args.sums.now s.args.to + word s.args.s.now s.args.from
 
-returns : tie.Need-returns
+returns : tie.Need-returns-then-not-taken_fits
 returns c =
-    let f = c.before.taken-fits in
-    record { ok = sym (not-true f.result c.if1.true) ∙ f.ensures; sums = refl }
+    let f = c.taken_fits in
+    record { ok = sym c.if-not-taken_fits.true ∙ f.ensures; sums = refl }
 
-add-sums : tie.Need-overflow-add-sums
+add-sums : tie.Need-overflow_add-sums
 add-sums c =
-    let e = c.before.before in
-    let f = e.before.taken-fits in
-    let s = e.before.before.before.before.before.before in
-    let low = leb-true (sum s) s.args.limit (sym f.ensures ∙ not-false f.result e.if1.false) in
+    let f = c.taken_fits in
+    let s = c.before.before.before.before.before.before.before.before in
+    let low = leb-true (sum s) s.args.limit (sym f.ensures ∙ c.if-not-taken_fits.false) in
     Fits-le low s.ranges.limit
 
-returns-2 : tie.Need-returns-2
-returns-2 c =
-    let e = c.before.before in
-    let f = e.before.taken-fits in
-    record { ok = sym (not-false f.result e.if1.false) ∙ f.ensures; sums = refl }
+returns_2 : tie.Need-returns
+returns_2 c =
+    let f = c.taken_fits in
+    record { ok = sym c.if-not-taken_fits.false ∙ f.ensures; sums = refl }
 
 pub add_taken_spec : {M : Type 1} → statement M
 add_taken_spec =
     tie.close
-    (tie.spec (λ c. scaled_fits c.before.before.ranges.to) (λ c. c.before.before.before.requires.0) (λ c. scaled_fits c.before.before.before.ranges.from)
-    (λ c. c.before.before.before.before.requires.1) (λ c κs. tt) returns add-sums (λ c. scaled_fits c.before.before.before.before.before.before.before.before.ranges.to) (λ c. c.before.before.before.before.before.before.before.before.requires.0)
-    (λ c. let s = c.before.before.before.before.before.before.before.before in length-set s.args.sums.now s.args.to (sum s)) returns-2)
+    (tie.spec (λ c. scaled_fits c.ranges.to) (λ c. c.requires.0) (λ c. scaled_fits c.ranges.from)
+    (λ c. c.requires.1) (λ c κs. tt) returns add-sums (λ c. scaled_fits c.ranges.to) (λ c. c.requires.0)
+    (λ c. let s = c.before.before.before.before.before.before.before.before in length-set s.args.sums.now s.args.to (sum s)) returns_2)

@@ -4,22 +4,22 @@ use mathlib.Core.Path.{refl}
 use Rattle.answers.proofs.answer_barrier.Statement.{statement}
 use Rattle.answers.proofs.answer_barrier.Tie as tie
 
-returns : tie.Need-returns
+returns : tie.Need-returns-in-Nobody
 returns c =
-    let s = c.before.before.before in
-    rw (s.before.before.answer.given.1, c.before.enum_told.given.1) (refl, refl)
+    let s = c in
+    rw (s.in-Sends.is, c.in-Nobody.is) (refl, refl)
 
-returns-2 : tie.Need-returns-2
-returns-2 c =
-    let s = c.before.before.before.before in
-    rw (s.before.before.answer.given.1, c.before.before.extra.given.1) (refl, refl)
+returns_2 : tie.Need-returns-in-Also
+returns_2 c =
+    let s = c in
+    rw (s.in-Sends.is, c.in-Also.is) (refl, refl)
 
-returns-3 : tie.Need-returns-3
-returns-3 c = rw c.before.before.answer2.given.1 (refl, refl)
+returns_3 : tie.Need-returns-in-Waits
+returns_3 c = rw c.in-Waits.is (refl, refl)
 
 pub answer_barrier_spec : {M : Type 1} → statement M
 answer_barrier_spec =
     tie.close
     (tie.spec (λ c. search rules) (λ c. search rules) (λ c. search rules) (λ c. search rules) (λ c. search rules)
     (λ c. search rules) (λ c. search rules) (λ c. search rules) (λ c. search rules) (λ c. search rules)
-    (λ c. search rules) returns returns-2 returns-3 (λ c. search rules) (λ c. search rules) (λ c. search rules))
+    (λ c. search rules) returns returns_2 returns_3 (λ c. search rules) (λ c. search rules) (λ c. search rules))

@@ -6,8 +6,8 @@ use Rattle.barrier_c.proofs.ocb_barrier.Tie as tie
 
 returns : tie.Need-returns
 returns c =
-    let s = c.before.before.before.before.before.before in
-    crossed _ s.before.before.before.of-build.ensures _ _ _ s.step.result _ _ _ _ s.step.ensures c.answer-barrier.ensures
+    let s = c in
+    crossed _ s.of_build.ensures _ _ _ s.step.result _ _ _ _ s.step.ensures c.answer_barrier.ensures
 
 pub ocb_barrier_spec : {M : Type 1} → statement M
 ocb_barrier_spec =

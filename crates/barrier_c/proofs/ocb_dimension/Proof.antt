@@ -4,7 +4,7 @@ use Rattle.barrier_c.proofs.ocb_dimension.Statement.{statement}
 use Rattle.barrier_c.proofs.ocb_dimension.Tie as tie
 
 returns : tie.Need-returns
-returns c = rw (← c.before.before.dimension-of.ensures) c.answer-found.ensures
+returns c = rw (← c.dimension_of.ensures) c.answer_found.ensures
 
 pub ocb_dimension_spec : {M : Type 1} → statement M
 ocb_dimension_spec =

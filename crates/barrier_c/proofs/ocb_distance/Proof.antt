@@ -4,7 +4,7 @@ use Rattle.barrier_c.proofs.ocb_distance.Statement.{statement}
 use Rattle.barrier_c.proofs.ocb_distance.Tie as tie
 
 returns : tie.Need-returns
-returns c = rw (← c.before.before.distance-of.ensures) c.answer-found.ensures
+returns c = rw (← c.distance_of.ensures) c.answer_found.ensures
 
 pub ocb_distance_spec : {M : Type 1} → statement M
 ocb_distance_spec =

@@ -7,10 +7,10 @@ use Rattle.barrier_c.proofs.ocb_fresh.Tie as tie
 
 returns : tie.Need-returns
 returns c =
-    let s = c.before.before.before in
-    let l = s.before.before in
+    let s = c in
+    let l = s in
     let e = s.fresh.ensures in
-    rw (← l.of-build.ensures) (c.number_of_lem.ensures ∙ ap outcome_number e.0, e.1)
+    rw (← l.of_build.ensures) (c.number_of.ensures ∙ ap outcome_number e.0, e.1)
 
 pub ocb_fresh_spec : {M : Type 1} → statement M
 ocb_fresh_spec = tie.close (tie.spec (λ c κs. search rules) (λ c κs. search rules) (λ c κs. search rules) (λ c. search rules) returns)

@@ -7,9 +7,9 @@ use Rattle.barrier_c.proofs.ocb_idle.Tie as tie
 
 returns : tie.Need-returns
 returns c =
-    let s = c.before.before.before in
-    let l = s.before.before in
-    called _ l.of-build.ensures idle _ _ _ _ s.go-idle.ensures c.number_of_lem.ensures
+    let s = c in
+    let l = s in
+    called _ l.of_build.ensures idle _ _ _ _ s.go_idle.ensures c.number_of.ensures
 
 pub ocb_idle_spec : {M : Type 1} → statement M
 ocb_idle_spec = tie.close (tie.spec (λ c κs. search rules) (λ c κs. search rules) (λ c κs. search rules) (λ c. search rules) returns)

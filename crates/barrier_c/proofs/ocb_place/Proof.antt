@@ -4,7 +4,7 @@ use Rattle.barrier_c.proofs.ocb_place.Statement.{statement}
 use Rattle.barrier_c.proofs.ocb_place.Tie as tie
 
 returns : tie.Need-returns
-returns c = rw (← c.before.before.place_of.ensures) c.answer-placed.ensures
+returns c = rw (← c.place_of.ensures) c.answer_placed.ensures
 
 pub ocb_place_spec : {M : Type 1} → statement M
 ocb_place_spec =

@@ -7,16 +7,16 @@ use Rattle.base.proofs.Limits.{mul_low}
 use Rattle.base.proofs.field_limit.Statement.{statement}
 use Rattle.base.proofs.field_limit.Tie as tie
 
-mul-result : tie.Need-overflow-mul-result
+mul-result : tie.Need-overflow_mul-result
 mul-result c =
-    let x = c.before.last.result in
-    let b = c.before.before.args.b in
+    let x = c.last.result in
+    let b = c.args.b in
     omega (arith, mul_low (x + 1) base.nodes b.sends base.sends (search rules) (search rules))
 
 returns : tie.Need-returns
 returns c =
-    let b = c.before.before.args.b in
-    let e : c.before.last.result + 1 ≡ suc (last_of b) = omega (arith, c.before.last.ensures.0) in
+    let b = c.args.b in
+    let e : c.last.result + 1 ≡ suc (last_of b) = omega (arith, c.last.ensures.0) in
     ap (λ n. n * b.sends) e
 
 pub field_limit_spec : {M : Type 1} → statement M

@@ -8,11 +8,11 @@ use Rattle.base.proofs.Laws.{choose_yes, choose_no}
 use Rattle.base.proofs.last.Statement.{statement}
 use Rattle.base.proofs.last.Tie as tie
 
-returns : tie.Need-returns
-returns c = (sym (choose_yes _ _ (lt-ltb _ base.nodes c.if1.true)), omega (arith, c.if1.true))
+returns : tie.Need-returns-then-handed-lt-NODES
+returns c = (sym (choose_yes _ _ (lt-ltb _ base.nodes c.if-handed-lt-NODES.true)), omega (arith, c.if-handed-lt-NODES.true))
 
-returns-2 : tie.Need-returns-2
-returns-2 c = (sym (choose_no _ _ (le-ltb _ base.nodes c.if1.false)), omega arith)
+returns_2 : tie.Need-returns-else-handed-lt-NODES
+returns_2 c = (sym (choose_no _ _ (le-ltb _ base.nodes c.if-handed-lt-NODES.false)), omega arith)
 
 pub last_spec : {M : Type 1} → statement M
-last_spec = tie.close (tie.spec (λ c. search rules) (λ c. search rules) returns returns-2)
+last_spec = tie.close (tie.spec (λ c. search rules) (λ c. search rules) returns returns_2)

@@ -7,16 +7,16 @@ use Rattle.base.proofs.Limits.{mul_low}
 use Rattle.base.proofs.taken_limit.Statement.{statement}
 use Rattle.base.proofs.taken_limit.Tie as tie
 
-mul-result : tie.Need-overflow-mul-result
+mul-result : tie.Need-overflow_mul-result
 mul-result c =
-    let x = c.before.last.result in
-    let b = c.before.before.args.b in
+    let x = c.last.result in
+    let b = c.args.b in
     omega (arith, mul_low x base.nodes b.sends base.sends (search rules) (search rules))
 
 returns : tie.Need-returns
 returns c =
-    let b = c.before.before.args.b in
-    let e : c.before.last.result ≡ suc (last_of b) - 1 = omega (arith, c.before.last.ensures.0) in
+    let b = c.args.b in
+    let e : c.last.result ≡ suc (last_of b) - 1 = omega (arith, c.last.ensures.0) in
     ap (λ n. n * b.sends) e
 
 pub taken_limit_spec : {M : Type 1} → statement M

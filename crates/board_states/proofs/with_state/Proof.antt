@@ -1,17 +1,17 @@
 -- `with_state` sets a state of the array, or none.
 use borrow.Author.Rules.{rules}
 use native.Mathlib.Omega.{arith}
-use mathlib.Core.Path.{◌≡◌, sym, ◌∙◌}
-use lib.ListN.{length, length-map}
+use mathlib.Core.Path.{◌≡◌, sym}
+use lib.ListN.{length}
 use lib.Seq.{set_out}
 use Rattle.board_states.proofs.with_state.Statement.{statement}
 use Rattle.board_states.proofs.with_state.Tie as tie
 
-returns : tie.Need-returns
+returns : tie.Need-returns-then-a-ge16
 returns c =
-    let s = c.before in
+    let s = c in
     let x = s.args in
-    let l : length x.st.states ≡ 16 = sym (length-map x.st.states _) ∙ s.well-formed.0.1.1.0.1.0.1 in
+    let l : length x.st.states ≡ 16 = s.well_formed.0.1.1.0.1.0.1 in
     let e = sym (set_out x.st.states x.a x.s (omega arith)) in
     λ i. record { states = e i; size = x.st.size; under = x.under }
 

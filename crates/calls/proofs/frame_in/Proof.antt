@@ -10,11 +10,11 @@ use Rattle.calls.proofs.frame_in.Tie as tie
 
 returns : tie.Need-returns
 returns c =
-    let s = c.before.before.before in
-    let a = s.before.before.before.before.before in
+    let s = c in
+    let a = s in
     let L = limits_of a.args.b in
-    called L (fits_of a.args.b (omega (arith, a.well-formed.0))) _ (λ n. frame_in L n a.args.bytes.now) _ _
-    s.frame-in.ensures
+    called L (fits_of a.args.b (omega (arith, a.well_formed.0))) _ (λ n. frame_in L n a.args.bytes.now) _ _
+    s.frame_in.ensures
 
 pub frame_in_spec : {M : Type 1} → statement M
 frame_in_spec = tie.close (tie.spec (λ c. search rules) (λ c κs. search rules) (λ c. search rules) returns)

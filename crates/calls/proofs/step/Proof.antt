@@ -8,9 +8,9 @@ use Rattle.calls.proofs.step.Tie as tie
 
 returns : tie.Need-returns
 returns c =
-    let s = c.before.before.before.before.before in
-    let a = s.before.before.before.before.before.before in
-    stepped _ (fits_of a.args.b (omega (arith, a.well-formed.0))) _ a.args.buf.now
+    let s = c in
+    let a = s in
+    stepped _ (fits_of a.args.b (omega (arith, a.well_formed.0))) _ a.args.buf.now
     s.step.result _ _ s.step.ensures
 
 pub step_spec : {M : Type 1} → statement M

@@ -9,14 +9,14 @@ use lib.Dec.{eqb}
 use Rattle.confirming.proofs.is_last.Statement.{statement}
 use Rattle.confirming.proofs.is_last.Tie as tie
 
-returns : tie.Need-returns
-returns c = let a = c.before.args in ap (λ m. eqb m a.p) (add-one a.k)
+returns : tie.Need-returns-then-k-p
+returns c = let a = c.args in ap (λ m. eqb m a.p) (add-one a.k)
 
-returns-2 : tie.Need-returns-2
-returns-2 c =
-    let a = c.before.args in
-    let far = c.if1.false in
+returns_2 : tie.Need-returns-else-k-p
+returns_2 c =
+    let a = c.args in
+    let far = c.if-k-p.false in
     le-ltb a.k a.p (omega (arith, far)) ∙ sym (ne_eqb (suc a.k) a.p (λ e. omega (arith, far, e)))
 
 pub is_last_spec : {M : Type 1} → statement M
-is_last_spec = tie.close (tie.spec (λ c. search rules) returns returns-2)
+is_last_spec = tie.close (tie.spec (λ c. search rules) returns returns_2)

@@ -13,59 +13,59 @@ use Rattle.tree.proofs.Lookups.{board_good, dimension_refused, dimension_found}
 use Rattle.distances.proofs.distance_for.Statement.{statement}
 use Rattle.distances.proofs.distance_for.Tie as tie
 
-returns : tie.Need-returns
+returns : tie.Need-returns-in_default
 unfolding distance_lookup
 returns c =
-    let d = c.before.before.dimension-for in
-    rw (dimension_refused _ _ _ (sym d.ensures ∙ ap found_answer c.enum_told.given.1))
+    let d = c.dimension_for in
+    rw (dimension_refused _ _ _ (sym d.ensures ∙ ap found_answer c.in_default.is))
 
 -- the board is good, and p is its dimension
-known : (c : tie.After-known-told)
-    → let a = c.before.before.before.before.args in
-    (bad_board (limits_of a.limits) a.nodes ≡ false) × (c.before.p.given.0.0 ≡ dimension a.nodes)
+known : (c : tie.In-Is)
+    → let a = c.args in
+    (bad_board (limits_of a.limits) a.nodes ≡ false) × (c.in-Is.p ≡ dimension a.nodes)
 known c =
-    let d = c.before.before.before.dimension-for in
-    dimension_found _ _ _ (sym d.ensures ∙ ap found_answer c.before.p.given.1)
+    let d = c.dimension_for in
+    dimension_found _ _ _ (sym d.ensures ∙ ap found_answer c.in-Is.is)
 
-returns-2 : tie.Need-returns-2
+returns_2 : tie.Need-returns-then-nodes-a
 unfolding distance_lookup
-returns-2 c = rw ((known c.before).0, le-leb _ _ c.if1.true)
+returns_2 c = rw ((known c.before).0, le-leb _ _ c.if-nodes-a.true)
 
-returns-3 : tie.Need-returns-3
+returns_3 : tie.Need-returns-then-nodes-b
 unfolding distance_lookup
-returns-3 c = rw ((known c.before.before).0, lt-leb _ _ c.before.if1.false, le-leb _ _ c.if2.true)
+returns_3 c = rw ((known c.before.before).0, lt-leb _ _ c.if-nodes-a.false, le-leb _ _ c.if-nodes-b.true)
 
-returns-4 : tie.Need-returns-4
+returns-4 : tie.Need-returns-then-a-b
 unfolding distance_lookup
 returns-4 c =
     rw (
       (known c.before.before.before).0,
-      lt-leb _ _ c.before.before.if1.false,
-      lt-leb _ _ c.before.if2.false,
-      eq-eqb _ _ c.if3.true,
+      lt-leb _ _ c.if-nodes-a.false,
+      lt-leb _ _ c.if-nodes-b.false,
+      eq-eqb _ _ c.if-a-b.true,
     )
 
-parted-below-requires : tie.Need-parted-below-requires
+parted-below-requires : tie.Need-parted_below-requires
 parted-below-requires c κs =
     let k = known c.before.before.before in
-    let s = c.before.before.before.before.before.before.before in
+    let s = c in
     let g = board_good (limits_of s.args.limits) _ k.0 in
     (g.0, omega (arith, last_low s.args.limits), k.1)
 
-returns-5 : tie.Need-returns-5
+returns_5 : tie.Need-returns
 unfolding distance_lookup distance
-returns-5 c =
+returns_5 c =
     let k = known c.before.before.before.before in
     rw (
       k.0,
-      lt-leb _ _ c.before.before.before.if1.false,
-      lt-leb _ _ c.before.before.if2.false,
-      ne_eqb _ _ c.before.if3.false,
+      lt-leb _ _ c.if-nodes-a.false,
+      lt-leb _ _ c.if-nodes-b.false,
+      ne_eqb _ _ c.if-a-b.false,
     )
-    (ap found (c.parted-below.ensures ∙ ap (distance_below _ _ _) k.1))
+    (ap found (c.parted_below.ensures ∙ ap (distance_below _ _ _) k.1))
 
 pub distance_for_spec : {M : Type 1} → statement M
 distance_for_spec =
     tie.close
-    (tie.spec (λ c κs. search rules) (λ c. search rules) (λ c. search rules) returns returns-2 returns-3 returns-4
-    parted-below-requires returns-5)
+    (tie.spec (λ c κs. search rules) (λ c. search rules) (λ c. search rules) returns returns_2 returns_3 returns-4
+    parted-below-requires returns_5)

@@ -7,8 +7,8 @@ use Rattle.distances.proofs.distance_of.Tie as tie
 
 returns : tie.Need-returns
 returns c =
-    let a = c.before.before.args in
-    c.distance-for.ensures ∙ ap (λ L. distance_lookup L a.nodes a.a a.b) c.before.of-build.ensures
+    let a = c.args in
+    c.distance_for.ensures ∙ ap (λ L. distance_lookup L a.nodes a.a a.b) c.of_build.ensures
 
 pub distance_of_spec : {M : Type 1} → statement M
 distance_of_spec = tie.close (tie.spec (λ c κs. search rules) (λ c κs. search rules) returns)

@@ -3,11 +3,11 @@ use borrow.Author.Tests.{le-leb, lt-leb}
 use Rattle.distances.proofs.has_node.Statement.{statement}
 use Rattle.distances.proofs.has_node.Tie as tie
 
-returns : tie.Need-returns
-returns c = simp (le-leb _ _ c.before.if1.true)
+returns : tie.Need-returns-then-r-node
+returns c = simp (le-leb _ _ c.if-r-node.true)
 
-returns-2 : tie.Need-returns-2
-returns-2 c = simp (lt-leb _ _ c.if1.false)
+returns_2 : tie.Need-returns-else-r-node
+returns_2 c = simp (lt-leb _ _ c.if-r-node.false)
 
 pub has_node_spec : {M : Type 1} → statement M
-has_node_spec = tie.close (tie.spec returns returns-2)
+has_node_spec = tie.close (tie.spec returns returns_2)

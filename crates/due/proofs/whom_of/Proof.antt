@@ -15,25 +15,23 @@ use Rattle.due.proofs.whom_of.Tie as tie
 told : (c : tie.Start) {q : Placed} {b : ℕ} → c.args.placed ≡ q → Memᴰ b (to_whom (placed_answer q)) → b < base.nodes
 told c {b = b} e m = c.requires b (subst (λ p. Memᴰ b (to_whom (placed_answer p))) (sym e) m)
 
-cast-t6 : tie.Need-overflow-cast-t6
-cast-t6 c = omega (arith, told c.before.before.before c.before.placed.given.1 (Memᴰ.head refl))
+cast-t6 : tie.Need-overflow_cast-result
+cast-t6 c = omega (arith, told c.before c.in-Neighbour.is (Memᴰ.head refl))
 
-cast-t9 : tie.Need-overflow-cast-t9
-cast-t9 c = omega (arith, told c.before.before.before c.before.placed2.given.1 (Memᴰ.head refl))
+cast-t9 : tie.Need-overflow_cast-result-in-Messenger
+cast-t9 c = omega (arith, told c.before c.in-Messenger.is (Memᴰ.head refl))
 
-cast-t10 : tie.Need-overflow-cast-t10
-cast-t10 c =
-    let second = Memᴰ.tail (Memᴰ.head refl) in
-    omega (arith, told c.before.before.before c.before.placed2.given.1 second)
+cast-t10 : tie.Need-overflow_cast-result-in-Messenger-2
+cast-t10 c = omega (arith, told c.before c.in-Messenger.is (Memᴰ.tail (Memᴰ.head refl)))
 
-returns : tie.Need-returns
-returns c = sym (ap (λ p. to_whom (placed_answer p)) c.before.placed.given.1)
+returns : tie.Need-returns-in-Neighbour
+returns c = sym (ap (λ p. to_whom (placed_answer p)) c.in-Neighbour.is)
 
-returns-2 : tie.Need-returns-2
-returns-2 c = sym (ap (λ p. to_whom (placed_answer p)) c.before.placed2.given.1)
+returns_2 : tie.Need-returns-in-Messenger
+returns_2 c = sym (ap (λ p. to_whom (placed_answer p)) c.in-Messenger.is)
 
 pub whom_of_spec : {M : Type 1} → statement M
 whom_of_spec =
     tie.close
     (tie.spec (λ c. search rules) cast-t6 (λ c. search rules) cast-t9 cast-t10 (λ c. search rules) (λ c. search rules)
-    (λ c. search rules) returns returns-2 (λ c. search rules) (λ c. search rules) (λ c. search rules))
+    (λ c. search rules) returns returns_2 (λ c. search rules) (λ c. search rules) (λ c. search rules))

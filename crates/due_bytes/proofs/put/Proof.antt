@@ -43,38 +43,38 @@ module _ (s : tie.Start) where
     g ∙ sym (λ i. choose (can i) (put_bytes (e i) buf) buf),
   )
 
-returns : tie.Need-returns
+returns : tie.Need-returns-then-s
 returns c =
     let s = c.before.before.before.before in
-    let none : fit s ≡ false = ap (λ t. both t (there s)) (lt-leb head_words (length (ws s)) c.if1.true) in
+    let none : fit s ≡ false = ap (λ t. both t (there s)) (lt-leb head_words (length (ws s)) c.if-s.true) in
     put s false _ _ _ none refl refl refl
 
 -- words that have a head
-module _ (e : tie.After-shared-slice-known6) where
-  abbrev headed : tie.Else1
+module _ (e : tie.After-shared_slice_known-6-1) where
+  abbrev headed : tie.Else-s
   headed = e.before.before.before.before
 
   abbrev s : tie.Start
   s = headed.before.before.before.before
 
   can : (t : Bool) → there s ≡ t → fit s ≡ t
-  can t q = λ i. both (le-leb head_words (length (ws s)) headed.if1.left i) (q i)
+  can t q = λ i. both (le-leb head_words (length (ws s)) headed.if-s.false i) (q i)
 
-returns-2 : tie.Need-returns-2
-returns-2 c =
-    let f = c.before.before in
-    let t = f.before.before.before in
-    let e = t.before in
-    let two = ne_eqb (word (ws (s e)) at_pass) 1 t.if2.true in
+returns_2 : tie.Need-returns-then-s-ne1
+returns_2 c =
+    let f = c in
+    let t = f in
+    let e = t.before.before.before.before.before.before in
+    let two = ne_eqb (word (ws (s e)) at_pass) 1 t.if-s-ne1.true in
     put (s e) true _ _ _ (can e true (choose_no _ _ two)) (choose_no _ _ two) f.put_second.ensures.0
     f.put_second.ensures.1
 
-returns-3 : tie.Need-returns-3
-returns-3 c =
-    let f = c.before.before in
-    let t = f.before.before in
-    let e = t.before in
-    let one = eq-eqb (word (ws (s e)) at_pass) 1 t.if2.false in
+returns_3 : tie.Need-returns
+returns_3 c =
+    let f = c in
+    let t = f in
+    let e = t.before.before.before.before.before in
+    let one = eq-eqb (word (ws (s e)) at_pass) 1 t.if-s-ne1.false in
     put (s e) _ _ _ _ (can e _ (choose_yes _ _ one)) (choose_yes _ _ one) f.put_first.ensures.0
     f.put_first.ensures.1
 
@@ -83,4 +83,4 @@ put_spec =
     tie.close
     (tie.spec (λ c. search rules) returns (λ c. search rules) (λ c. search rules) (λ c. search rules) (λ c. search rules)
     (λ c. search rules) (λ c. search rules) (λ c. search rules) (λ c. search rules) (λ c κs. search rules)
-    (λ c. search rules) returns-2 (λ c κs. search rules) (λ c. search rules) returns-3)
+    (λ c. search rules) returns_2 (λ c κs. search rules) (λ c. search rules) returns_3)

@@ -9,11 +9,11 @@ use Rattle.due_frame.proofs.put_sums.Tie as tie
 
 returns : tie.Need-returns
 returns c =
-    let t = c.before.before in
-    let m = t.before.before.before.before.before in
-    let a = m.before.before.before.before.before.args in
-    t.put-numbers2.ensures
-    ∙ ap (λ l. put_numbers l (4 + 4 * (a.p - a.k)) (taken_part a.sums.now a.p a.k)) m.put-numbers.ensures
+    let t = c in
+    let m = t in
+    let a = m.args in
+    t.put_numbers-2.ensures
+    ∙ ap (λ l. put_numbers l (4 + 4 * (a.p - a.k)) (taken_part a.sums.now a.p a.k)) m.put_numbers.ensures
 
 pub put_sums_spec : {M : Type 1} → statement M
 put_sums_spec =

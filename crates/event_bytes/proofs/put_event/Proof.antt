@@ -13,42 +13,42 @@ use Rattle.event_bytes.proofs.put_event.Tie as tie
 known : (line kind : Line) (answer : ℕ) → line ≡ kind → event_bytes kind answer ≡ event_bytes line answer
 known line kind answer e = ap (λ l. event_bytes l answer) (sym e)
 
-returns : tie.Need-returns
+returns : tie.Need-returns-in-Sends
 unfolding event_bytes
 returns c =
-    let p = c.before.before in
-    let l = p.before in
+    let p = c in
+    let l = p in
     said _ _ _ _ _ _
-    (rw l.letter-of.ensures (known _ _ _ l.before.before.before.line.given.1)) p.put_four.ensures
+    (rw l.letter_of.ensures (known _ _ _ l.in-Sends.is)) p.put_four.ensures
 
-returns-2 : tie.Need-returns-2
+returns_2 : tie.Need-returns-in-Delivers
 unfolding event_bytes
-returns-2 c =
-    let p = c.before.before in
-    said _ _ _ _ _ _ (known _ _ _ p.before.before.before.line2.given.1) p.put-four2.ensures
+returns_2 c =
+    let p = c in
+    said _ _ _ _ _ _ (known _ _ _ p.in-Delivers.is) p.put_four-in-Delivers.ensures
 
-returns-3 : tie.Need-returns-3
+returns_3 : tie.Need-returns-in-Idles
 unfolding event_bytes
-returns-3 c =
-    let p = c.before.before in
-    said _ _ _ _ _ _ (known _ _ _ p.before.before.before.line3.given.1) p.put-four3.ensures
+returns_3 c =
+    let p = c in
+    said _ _ _ _ _ _ (known _ _ _ p.in-Idles.is) p.put_four-in-Idles.ensures
 
-returns-4 : tie.Need-returns-4
+returns-4 : tie.Need-returns-in-Calls
 unfolding event_bytes
 returns-4 c =
-    let p = c.before.before in
-    said _ _ _ _ _ _ (known _ _ _ p.before.before.before.line4.given.1) p.put-four4.ensures
+    let p = c in
+    said _ _ _ _ _ _ (known _ _ _ p.in-Calls.is) p.put_four-in-Calls.ensures
 
-returns-5 : tie.Need-returns-5
-returns-5 c =
-    let p = c.before.before in
-    let m = p.before.before.before in
-    said _ _ _ _ _ _ (sym (no_event m.before.before.args.line _ m.match.keys5)) p.put-bytes.ensures
+returns_5 : tie.Need-returns-in_default
+returns_5 c =
+    let m = c.in_default in
+    said _ _ _ _ _ _ (sym (no_event c.args.line _ m.not-Sends m.not-Delivers m.not-Idles m.not-Calls))
+    c.put_bytes.ensures
 
 pub put_event_spec : {M : Type 1} → statement M
 put_event_spec =
     tie.close
     (tie.spec (λ c. search rules) (λ c κs. search rules) (λ c κs. search rules) (λ c. search rules)
     (λ c κs. search rules) (λ c. search rules) (λ c κs. search rules) (λ c. search rules) (λ c κs. search rules)
-    (λ c. search rules) (λ c κs. search rules) (λ c. search rules) returns (λ c. search rules) returns-2
-    (λ c. search rules) returns-3 (λ c. search rules) returns-4 (λ c. search rules) returns-5)
+    (λ c κs. search rules) (λ c. search rules) returns (λ c. search rules) returns_2
+    (λ c. search rules) returns_3 (λ c. search rules) returns-4 (λ c. search rules) returns_5)

@@ -7,13 +7,13 @@ use Rattle.event_bytes.proofs.put_four.Tie as tie
 
 returns : tie.Need-returns
 returns c =
-    let second = c.before.before in
-    let l3 = second.before in
-    let l2 = l3.before in
-    let first = l2.before.before.before.before in
-    let l1 = first.before in
-    said _ _ _ _ _ _ (rw (l1.low.ensures, l2.low2.ensures, l3.low3.ensures))
-    (then _ _ _ (_ ∷ _ ∷ []) (_ ∷ _ ∷ []) _ _ _ first.put_two.ensures second.put-two2.ensures)
+    let second = c in
+    let l3 = second in
+    let l2 = l3 in
+    let first = l2 in
+    let l1 = first in
+    said _ _ _ _ _ _ (rw (l1.low.ensures, l2.low-2.ensures, l3.low-3.ensures))
+    (then _ _ _ (_ ∷ _ ∷ []) (_ ∷ _ ∷ []) _ _ _ first.put_two-next.ensures second.put_two.ensures)
 
 pub put_four_spec : {M : Type 1} → statement M
 put_four_spec =

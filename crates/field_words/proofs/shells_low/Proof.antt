@@ -10,34 +10,34 @@ use Rattle.field_words.specs.Pieces.{shell_low}
 use Rattle.field_words.proofs.shells_low.Statement.{statement}
 use Rattle.field_words.proofs.shells_low.Tie as tie
 
-abbrev invariant-loop : tie.invariant-loop
+abbrev invariant-loop : tie.invariant-loop-m
 invariant-loop limit p fields m₀ m =
     (m ≤ width) × (every 0 width (shell_low limit p fields) ≡ every m (width - m) (shell_low limit p fields))
 
-abbrev decreases-loop : tie.decreases-loop
+abbrev decreases-loop : tie.decreases-loop-m
 decreases-loop limit p fields m₀ m = width - m
 
 -- the test at shell m, and at the shells after it
-turn : (c : tie.After-shell-low invariant-loop decreases-loop)
-    → let l = c.before.before in
-    let x = l.before.args in
+turn : (c : tie.After-shell_low invariant-loop decreases-loop)
+    → let l = c in
+    let x = l.args in
     let f = shell_low x.limit x.p x.fields.now in
-    every 0 width f ≡ both c.shell_low_lem.result (every (l.loop.m + 1) (width - (l.loop.m + 1)) f)
+    every 0 width f ≡ both c.shell_low.result (every (l.loop-m.m + 1) (width - (l.loop-m.m + 1)) f)
 turn c =
-    let l = c.before.before in
-    l.loop.invariant.1 ∙ every_here _ _ _ c.before.loop-test.true ∙ rw c.shell_low_lem.ensures
+    let l = c in
+    l.loop-m.invariant.1 ∙ every_here _ _ _ c.loop-m-test.true ∙ rw c.shell_low.ensures
 
-returns : tie.Need-returns invariant-loop decreases-loop
-returns c = sym (turn c.before ∙ rw (not-true c.before.shell_low_lem.result c.if1.true))
+returns : tie.Need-returns-then-not-shell_low invariant-loop decreases-loop
+returns c = sym (turn c.before ∙ rw c.if-not-shell_low.true)
 
-loop-again : tie.Need-loop-preserved invariant-loop decreases-loop
-loop-again c = (search rules, turn c.before ∙ rw (not-false c.before.shell_low_lem.result c.if1.false))
+loop_again : tie.Need-loop-m-preserved invariant-loop decreases-loop
+loop_again c = (search rules, turn c.before ∙ rw c.if-not-shell_low.false)
 
-returns-2 : tie.Need-returns-2 invariant-loop decreases-loop
-returns-2 c = sym (c.before.loop.invariant.1 ∙ every_end _ _ _ c.loop-test.false)
+returns_2 : tie.Need-returns invariant-loop decreases-loop
+returns_2 c = sym (c.loop-m.invariant.1 ∙ every_end _ _ _ c.loop-m-test.false)
 
 pub shells_low_spec : {M : Type 1} → statement M
 shells_low_spec =
     tie.close
     (tie.spec invariant-loop decreases-loop (λ c. (search rules, refl)) (λ c κs. search rules) returns (λ c. search rules)
-    (λ c. search rules) loop-again returns-2)
+    (λ c. search rules) loop_again returns_2)

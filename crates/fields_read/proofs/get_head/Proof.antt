@@ -7,7 +7,7 @@ use Rattle.fields_read.proofs.get_head.Tie as tie
 pub get_head_spec : {M : Type 1} → statement M
 get_head_spec =
     tie.close
-    (tie.spec (λ c. search rules) (λ c. omega (arith, c.shared-slice-known.given 0)) (λ c. search rules)
-    (λ c. search rules) (λ c. omega (arith, c.shared-slice-known2.given 1)) (λ c. search rules) (λ c. search rules)
-    (λ c. omega (arith, c.shared-slice-known3.given 2)) (λ c. search rules) (λ c. search rules)
-    (λ c. omega (arith, c.shared-slice-known4.given 3)) (λ c. search rules) (λ c. search rules))
+    (tie.spec (λ c. search rules) (λ c. omega (arith, c.shared_slice_known-1.given 0)) (λ c. search rules)
+    (λ c. search rules) (λ c. omega (arith, c.shared_slice_known-2-1.given 1)) (λ c. search rules) (λ c. search rules)
+    (λ c. omega (arith, c.shared_slice_known-3-1.given 2)) (λ c. search rules) (λ c. search rules)
+    (λ c. omega (arith, c.shared_slice_known-4-1.given 3)) (λ c. search rules) (λ c. search rules))

@@ -15,18 +15,18 @@ use Rattle.fields_read.proofs.get_row.Tie as tie
 room : (s : tie.Start) → s.args.k + s.args.n ≤ length s.args.row.now
 room s = rw s.requires.0 s.requires.1
 
-part-copy-numbers-end : tie.Need-slice-bounds-copy-numbers-end
+part-copy-numbers-end : tie.Need-slice_bounds-copy_numbers-end
 part-copy-numbers-end c = room c.before.before
 
-put : (c : tie.After-copy-numbers)
-    → let x = c.before.before.before.before.args in
+put : (c : tie.After-copy_numbers)
+    → let x = c.args in
     let end = x.k + x.n in
-    put_mid x.k (end - x.k) x.row.now c.copy-numbers.new.1.0
+    put_mid x.k (end - x.k) x.row.now c.copy_numbers.new.words
     ≡ list 0 width (shell_at end x.k x.bytes.now 0)
 put c =
-    let s = c.before.before.before.before in
+    let s = c in
     row_put s.args.bytes.now s.args.k s.args.n s.requires.1 s.args.row.now _ _ s.requires.0 refl
-    s.requires.2 c.copy-numbers.ensures
+    s.requires.2 c.copy_numbers.ensures
 
 returns : tie.Need-returns
 returns c = put c.before.before

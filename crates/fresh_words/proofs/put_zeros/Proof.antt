@@ -8,20 +8,20 @@ use Rattle.fresh_words.proofs.Zeros.{cleared, cleared_none, cleared_more}
 use Rattle.fresh_words.proofs.put_zeros.Statement.{statement}
 use Rattle.fresh_words.proofs.put_zeros.Tie as tie
 
-abbrev invariant-loop : tie.invariant-loop
+abbrev invariant-loop : tie.invariant-loop-i
 invariant-loop state₀ from end i₀ state i =
     (from ≤ i) × (i ≤ end) × (length state ≡ length state₀) × (state ≡ cleared state₀ from i)
 
-abbrev decreases-loop : tie.decreases-loop
+abbrev decreases-loop : tie.decreases-loop-i
 decreases-loop state₀ from end i₀ state i = end - i
 
-loop-holds : tie.Need-loop-init invariant-loop decreases-loop
-loop-holds c = (search rules, search rules, search rules, cleared_none c.args.state.now c.args.from)
+loop_holds : tie.Need-loop-i-init invariant-loop decreases-loop
+loop_holds c = (search rules, search rules, search rules, cleared_none c.args.state.now c.args.from)
 
-loop-again : tie.Need-loop-preserved invariant-loop decreases-loop
-loop-again c =
-    let l = c.before.loop in
-    let a = c.before.before.args in (
+loop_again : tie.Need-loop-i-preserved invariant-loop decreases-loop
+loop_again c =
+    let l = c.loop-i in
+    let a = c.args in (
       search rules,
       search rules,
       search rules,
@@ -30,8 +30,8 @@ loop-again c =
 
 returns : tie.Need-returns invariant-loop decreases-loop
 returns c =
-    let l = c.before.loop in
-    let a = c.before.before.args in
+    let l = c.loop-i in
+    let a = c.args in
     let e : l.i ≡ a.end = omega arith in
     l.invariant.3 ∙ ap (λ i. cleared a.state.now a.from i) e
 
@@ -41,12 +41,12 @@ put_zeros_spec =
     (tie.spec
     invariant-loop
     decreases-loop
-    loop-holds
+    loop_holds
     (λ c. search rules)
     (λ c. search rules)
     (λ c. search rules)
     (λ c. search rules)
     (λ c. search rules)
-    loop-again
+    loop_again
     (λ c. search rules)
     returns)

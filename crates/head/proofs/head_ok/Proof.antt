@@ -1,5 +1,5 @@
 -- `head_ok` is `head_tested`: the tests in their order.
-use borrow.Author.Tests.{lt-ltb, le-ltb, le-leb, lt-leb, not-true, not-false}
+use borrow.Author.Tests.{lt-ltb, le-ltb, le-leb, lt-leb}
 use native.Mathlib.Nat.{lt_of_lt_of_le}
 use mathlib.Core.Path.{◌≡◌, sym, ap, ◌∙◌}
 use mathlib.Core.Bool.{Bool, true, false}
@@ -23,78 +23,78 @@ passed {t = t} e q = q ∙ ap (λ u. both u t) (sym e)
 stopped : {s : Bool} (t : Bool) → s ≡ false → false ≡ both s t
 stopped t e = ap (λ u. both u t) (sym e)
 
-returns : tie.Need-returns
+returns : tie.Need-returns-then-s-ge256
 unfolding head_tested
-returns c = stopped _ (le-ltb _ _ c.if1.true)
+returns c = stopped _ (le-ltb _ _ c.if-s-ge256.true)
 
-returns-2 : tie.Need-returns-2
+returns_2 : tie.Need-returns-then-s-ge2
 unfolding head_tested
-returns-2 c = passed (lt-ltb _ _ c.before.before.if1.false) (stopped _ (le-ltb _ _ c.if2.true))
+returns_2 c = passed (lt-ltb _ _ c.if-s-ge256.false) (stopped _ (le-ltb _ _ c.if-s-ge2.true))
 
-returns-3 : tie.Need-returns-3
+returns_3 : tie.Need-returns-then-s-ge2-2
 unfolding head_tested
-returns-3 c =
-    let d = c.before.before in
-    passed (lt-ltb _ _ d.before.before.if1.false)
-    (passed (lt-ltb _ _ d.if2.false) (stopped _ (le-ltb _ _ c.if3.true)))
+returns_3 c =
+    let d = c in
+    passed (lt-ltb _ _ d.if-s-ge256.false)
+    (passed (lt-ltb _ _ d.if-s-ge2.false) (stopped _ (le-ltb _ _ c.if-s-ge2-2.true)))
 
-returns-4 : tie.Need-returns-4
+returns-4 : tie.Need-returns-then-limit-s
 unfolding head_tested
 returns-4 c =
-    let e = c.before.before in
-    let d = e.before.before in
-    passed (lt-ltb _ _ d.before.before.if1.false)
-    (passed (lt-ltb _ _ d.if2.false) (passed (lt-ltb _ _ e.if3.false) (stopped _ (lt-leb _ _ c.if4.true))))
+    let e = c in
+    let d = e in
+    passed (lt-ltb _ _ d.if-s-ge256.false)
+    (passed (lt-ltb _ _ d.if-s-ge2.false) (passed (lt-ltb _ _ e.if-s-ge2-2.false) (stopped _ (lt-leb _ _ c.if-limit-s.true))))
 
-returns-5 : tie.Need-returns-5
+returns_5 : tie.Need-returns-then-s
 unfolding head_tested
-returns-5 c =
-    let f = c.before.before.before in
-    let e = f.before.before in
-    let d = e.before.before in
-    passed (lt-ltb _ _ d.before.before.if1.false)
-    (passed (lt-ltb _ _ d.if2.false)
-    (passed (lt-ltb _ _ e.if3.false) (passed (le-leb _ _ f.if4.false) (stopped _ (le-ltb _ _ c.if5.true)))))
+returns_5 c =
+    let f = c in
+    let e = f in
+    let d = e in
+    passed (lt-ltb _ _ d.if-s-ge256.false)
+    (passed (lt-ltb _ _ d.if-s-ge2.false)
+    (passed (lt-ltb _ _ e.if-s-ge2-2.false) (passed (le-leb _ _ f.if-limit-s.false) (stopped _ (le-ltb _ _ c.if-s.true)))))
 
-returns-6 : tie.Need-returns-6
+returns-6 : tie.Need-returns-then-not-position_ok
 unfolding head_tested
 returns-6 c =
-    let q = c.before in
-    let g = q.before.before.before in
-    let f = g.before.before.before in
-    let e = f.before.before in
-    let d = e.before.before in
-    passed (lt-ltb _ _ d.before.before.if1.false)
-    (passed (lt-ltb _ _ d.if2.false)
-    (passed (lt-ltb _ _ e.if3.false)
-    (passed (le-leb _ _ f.if4.false)
-    (passed (lt-ltb _ _ g.if5.false)
-    (stopped _ (sym q.position-ok.ensures ∙ not-true q.position-ok.result c.if6.true))))))
+    let q = c in
+    let g = q in
+    let f = g in
+    let e = f in
+    let d = e in
+    passed (lt-ltb _ _ d.if-s-ge256.false)
+    (passed (lt-ltb _ _ d.if-s-ge2.false)
+    (passed (lt-ltb _ _ e.if-s-ge2-2.false)
+    (passed (le-leb _ _ f.if-limit-s.false)
+    (passed (lt-ltb _ _ g.if-s.false)
+    (stopped _ (sym q.position_ok.ensures ∙ c.if-not-position_ok.true))))))
 
-returns-7 : tie.Need-returns-7
+returns-7 : tie.Need-returns
 unfolding head_tested
 returns-7 c =
-    let h = c.before.before.before.before.before in
-    let q = h.before in
-    let g = q.before.before.before in
-    let f = g.before.before.before in
-    let e = f.before.before in
-    let d = e.before.before in
-    passed (lt-ltb _ _ d.before.before.if1.false)
-    (passed (lt-ltb _ _ d.if2.false)
-    (passed (lt-ltb _ _ e.if3.false)
-    (passed (le-leb _ _ f.if4.false)
-    (passed (lt-ltb _ _ g.if5.false)
-    (passed (sym q.position-ok.ensures ∙ not-false q.position-ok.result h.if6.false) c.busy-ok.ensures)))))
+    let h = c in
+    let q = h in
+    let g = q in
+    let f = g in
+    let e = f in
+    let d = e in
+    passed (lt-ltb _ _ d.if-s-ge256.false)
+    (passed (lt-ltb _ _ d.if-s-ge2.false)
+    (passed (lt-ltb _ _ e.if-s-ge2-2.false)
+    (passed (le-leb _ _ f.if-limit-s.false)
+    (passed (lt-ltb _ _ g.if-s.false)
+    (passed (sym q.position_ok.ensures ∙ h.if-not-position_ok.false) c.busy_ok.ensures)))))
 
 pub head_ok_spec : {M : Type 1} → statement M
 head_ok_spec =
     tie.close
-    (tie.spec (λ c. there c.before.before (lit< tt)) returns (λ c. there c.before.before.before.before (lit< tt)) returns-2
-    (λ c. there c.before.before.before.before.before.before (lit< tt)) returns-3
+    (tie.spec (λ c. there c.before.before (lit< tt)) returns (λ c. there c.before.before.before.before (lit< tt)) returns_2
+    (λ c. there c.before.before.before.before.before.before (lit< tt)) returns_3
     (λ c. there c.before.before.before.before.before.before.before.before (lit< tt)) returns-4
     (λ c. there c.before.before.before.before.before.before.before.before.before.before (lit< tt))
-    (λ c. there c.before.before.before.before.before.before.before.before.before.before.before (lit< tt)) returns-5
+    (λ c. there c.before.before.before.before.before.before.before.before.before.before.before (lit< tt)) returns_5
     (λ c. there c.before.before.before.before.before.before.before.before.before.before.before.before.before (lit< tt))
     (λ c. there c.before.before.before.before.before.before.before.before.before.before.before.before.before.before (lit< tt)) (λ c κs. tt) returns-6
     (λ c. there c.before.before.before.before.before.before.before.before.before.before.before.before.before.before.before.before.before (lit< tt))

@@ -8,28 +8,28 @@ use Rattle.survey.specs.Spots.{lone_answer, lone}
 use Rattle.head.proofs.is_alone.Statement.{statement}
 use Rattle.head.proofs.is_alone.Tie as tie
 
-by_place : (c : tie.After-place-for) (v : Placed) → c.place-for.result ≡ v
-    → lone_answer (placed_answer v) ≡ lone (limits_of c.before.args.b) c.before.args.nodes c.before.args.number
+by_place : (c : tie.After-place_for-place) (v : Placed) → c.place_for-place.result ≡ v
+    → lone_answer (placed_answer v) ≡ lone (limits_of c.args.b) c.args.nodes c.args.number
 unfolding lone
-by_place c v e = sym (ap (λ u. lone_answer (placed_answer u)) e) ∙ ap lone_answer c.place-for.ensures
+by_place c v e = sym (ap (λ u. lone_answer (placed_answer u)) e) ∙ ap lone_answer c.place_for-place.ensures
 
-returns : tie.Need-returns
-returns c = by_place c.before.before _ c.enum_told.given.1
+returns : tie.Need-returns-in-Alone
+returns c = by_place c.before _ c.in-Alone.is
 
-returns-2 : tie.Need-returns-2
-returns-2 c = by_place c.before.before.before _ c.before.place.given.1
+returns_2 : tie.Need-returns-in-Hermit
+returns_2 c = by_place c.before _ c.in-Hermit.is
 
-returns-3 : tie.Need-returns-3
-returns-3 c = by_place c.before.before.before _ c.before.place2.given.1
+returns_3 : tie.Need-returns-in-Neighbour
+returns_3 c = by_place c.before _ c.in-Neighbour.is
 
-returns-4 : tie.Need-returns-4
-returns-4 c = by_place c.before.before.before _ c.before.place3.given.1
+returns-4 : tie.Need-returns-in-Messenger
+returns-4 c = by_place c.before _ c.in-Messenger.is
 
-returns-5 : tie.Need-returns-5
-returns-5 c = by_place c.before.before.before _ c.before.place4.given.1
+returns_5 : tie.Need-returns-in-Refused
+returns_5 c = by_place c.before _ c.in-Refused.is
 
 pub is_alone_spec : {M : Type 1} → statement M
 is_alone_spec =
     tie.close
     (tie.spec (λ c κs. search rules) (λ c. search rules) (λ c. search rules) (λ c. search rules) (λ c. search rules)
-    (λ c. search rules) returns returns-2 returns-3 returns-4 returns-5)
+    (λ c. search rules) returns returns_2 returns_3 returns-4 returns_5)

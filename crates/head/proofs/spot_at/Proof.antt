@@ -15,12 +15,12 @@ there s h = lt_of_lt_of_le h s.requires.0
 
 returns : tie.Need-returns
 returns c =
-    let l = c.before.before.before in
-    let a = l.before.before.before.before.args in
+    let l = c in
+    let a = l.args in
     λ i.
     record {
       dims = a.p;
-      alone = l.is-alone.ensures i;
+      alone = l.is_alone.ensures i;
       pass = word a.s.now at_pass;
       dim = word a.s.now at_dim;
       agreed = word a.s.now at_agreed;
@@ -30,5 +30,5 @@ pub spot_at_spec : {M : Type 1} → statement M
 spot_at_spec =
     tie.close
     (tie.spec (λ c. there c.before.before (lit< tt)) (λ c. there c.before.before.before (lit< tt)) (λ c κs. tt)
-    (λ c. there c.before.before.before.before.before (lit< tt)) (λ c. Fits-below tt (le_of_lt c.before.before.before.before.before.requires.1))
+    (λ c. there c.before.before.before.before.before (lit< tt)) (λ c. Fits-below tt (le_of_lt c.requires.1))
     (λ c. there c.before.before.before.before.before.before (lit< tt)) (λ c. there c.before.before.before.before.before.before.before (lit< tt)) returns)

@@ -8,10 +8,10 @@ use Rattle.layout.proofs.Offsets.{words_closed}
 use Rattle.layout.proofs.state_words.Statement.{statement}
 use Rattle.layout.proofs.state_words.Tie as tie
 
-mul-result : tie.Need-overflow-mul-result
+mul-result : tie.Need-overflow_mul-result
 mul-result c = let p = c.args.p in omega (arith, mul_low p 255 (p + 9) 264 (search rules) (search rules))
 
-add-result-2 : tie.Need-overflow-add-result-2
+add-result-2 : tie.Need-overflow_add-result-2
 add-result-2 c = let p = c.args.p in omega (arith, mul_low p 255 (p + 9) 264 (search rules) (search rules))
 
 returns : tie.Need-returns

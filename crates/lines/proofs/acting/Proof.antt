@@ -8,7 +8,7 @@ use Rattle.lines.proofs.acting.Tie as tie
 
 returns : tie.Need-returns
 returns c =
-    ap (λ (s : State). shown_words s.words) c.before.before.before.before.before.state-at.ensures.0
+    ap (λ (s : State). shown_words s.words) c.state_at-s.ensures.0
     ∙ shown_held _
 
 pub acting_spec : {M : Type 1} → statement M

@@ -8,27 +8,27 @@ use Rattle.lines.specs.Told.{taken, stops, told_at}
 use Rattle.lines.proofs.next_line.Statement.{statement}
 use Rattle.lines.proofs.next_line.Tie as tie
 
-returns : tie.Need-returns
+returns : tie.Need-returns-then-is_stop
 unfolding told_at
 returns c =
-    let w = c.before.before in
-    let s = w.before.before.before.args in
-    let t = w.taken-by.ensures ∙ ap (λ p. taken s.size p.line) w.before.line_at_lem.ensures in
+    let w = c in
+    let s = w.args in
+    let t = w.taken_by-line.ensures ∙ ap (λ p. taken s.size p.line) w.line_at-p.ensures in
     let n = sym (choose_yes (length s.script.now) (line_at s.script.now s.at).next
-    (ap stops (sym t) ∙ sym c.before.is_stop.ensures ∙ c.if1.true)) in
+    (ap stops (sym t) ∙ sym c.is_stop.ensures ∙ c.if-is_stop.true)) in
     λ i. record { line = t i; next = n i }
 
-returns-2 : tie.Need-returns-2
+returns_2 : tie.Need-returns
 unfolding told_at
-returns-2 c =
-    let w = c.before.before in
-    let s = w.before.before.before.args in
-    let t = w.taken-by.ensures ∙ ap (λ p. taken s.size p.line) w.before.line_at_lem.ensures in
-    let n = ap (λ p. p.next) w.before.line_at_lem.ensures ∙ sym
+returns_2 c =
+    let w = c in
+    let s = w.args in
+    let t = w.taken_by-line.ensures ∙ ap (λ p. taken s.size p.line) w.line_at-p.ensures in
+    let n = ap (λ p. p.next) w.line_at-p.ensures ∙ sym
     (choose_no (length s.script.now) (line_at s.script.now s.at).next
-    (ap stops (sym t) ∙ sym c.before.is_stop.ensures ∙ c.if1.false)) in
+    (ap stops (sym t) ∙ sym c.is_stop.ensures ∙ c.if-is_stop.false)) in
     λ i. record { line = t i; next = n i }
 
 pub next_line_spec : {M : Type 1} → statement M
 next_line_spec =
-    tie.close (tie.spec (λ c κs. search rules) (λ c κs. search rules) (λ c κs. search rules) returns returns-2)
+    tie.close (tie.spec (λ c κs. search rules) (λ c κs. search rules) (λ c κs. search rules) returns returns_2)

@@ -1,6 +1,6 @@
 -- `look_at`: words that are no stored frame's, and a frame.
 use borrow.Author.Rules.{rules}
-use borrow.Author.Tests.{not-true, not-false, ltb-true, leb-true, eqb-true, eq-eqb, ne_eqb}
+use borrow.Author.Tests.{ltb-true, leb-true, eqb-true, eq-eqb, ne_eqb}
 use mathlib.Core.Path.{◌≡◌, sym, ap, ◌∙◌}
 use mathlib.Core.Bool.{true, false}
 use mathlib.Core.List.{List}
@@ -54,15 +54,15 @@ module _ (L : Limits) (ws sums : List ℕ) (p k : ℕ) where
           total = j.total;
         }
 
-returns : tie.Need-returns
+returns : tie.Need-returns-then-not-first_fits
 returns c =
-    let f = c.before.before.first_fits in
-    let a = c.before.before.before.before.before.args in
+    let f = c.first_fits in
+    let a = c.args in
     none (limits_of a.b) a.s.now a.sums.now a.p a.k
-    (sym f.ensures ∙ not-true f.result c.before.if1.true) c.no-look.result c.no-look.ensures
+    (sym f.ensures ∙ c.if-not-first_fits.true) c.no_look.result c.no_look.ensures
 
 -- they are those of a frame
-module _ (e : tie.Else1) where
+module _ (e : tie.Else-not-first_fits) where
   abbrev start : tie.Start
   start = e.before.before.before.before
 
@@ -73,31 +73,31 @@ module _ (e : tie.Else1) where
   sums = start.args.sums.now
 
   fits : first_fits start.args.p start.args.k (length ws) (length sums) ≡ true
-  fits = let f = e.before.first_fits in sym f.ensures ∙ not-false f.result e.if1.left
+  fits = let f = e.first_fits in sym f.ensures ∙ e.if-not-first_fits.false
 
   here : Framed ws sums start.args.p start.args.k
   here = framed ws sums start.args.p start.args.k fits
 
-returns-2 : tie.Need-returns-2
-returns-2 c =
+returns_2 : tie.Need-returns-then-s-ne1
+returns_2 c =
     let e = c.before.before.before in
     let a = (start e).args in
-    unmarked (limits_of a.b) (ws e) (sums e) a.p a.k (fits e) (ne_eqb _ _ c.before.if2.true) c.no-look2.result
-    c.no-look2.ensures
+    unmarked (limits_of a.b) (ws e) (sums e) a.p a.k (fits e) (ne_eqb _ _ c.if-s-ne1.true) c.no_look-then-s-ne1.result
+    c.no_look-then-s-ne1.ensures
 
 judge-requires : tie.Need-judge-requires
-judge-requires c κs = (here c.before.before, c.if2.false)
+judge-requires c κs = (here c.before.before, c.if-s-ne1.false)
 
-returns-3 : tie.Need-returns-3
-returns-3 c =
-    let d = c.before in
-    let e = d.before.before in
+returns_3 : tie.Need-returns
+returns_3 c =
+    let d = c in
+    let e = d.before.before.before in
     let a = (start e).args in
-    marked (limits_of a.b) (ws e) (sums e) a.p a.k (fits e) (eq-eqb _ _ d.if2.false) c.judge.result
+    marked (limits_of a.b) (ws e) (sums e) a.p a.k (fits e) (eq-eqb _ _ d.if-s-ne1.false) c.judge.result
     c.judge.ensures
 
 pub look_at_spec : {M : Type 1} → statement M
 look_at_spec =
     tie.close
     (tie.spec (λ c κs. search rules) (λ c κs. search rules) returns (λ c. omega (arith, (here c.before).long))
-    (λ c κs. search rules) returns-2 judge-requires returns-3)
+    (λ c κs. search rules) returns_2 judge-requires returns_3)

@@ -4,20 +4,20 @@ use Rattle.look_tests.proofs.Excess.{excess_2, excess_1, excess_0}
 use Rattle.look_tests.proofs.sent_excess.Statement.{statement}
 use Rattle.look_tests.proofs.sent_excess.Tie as tie
 
-returns : tie.Need-returns
-returns c = let a = c.before.before.args in sym (excess_2 a.limit a.own.0 a.sent.0 c.if1.true)
+returns : tie.Need-returns-then-limit-sent
+returns c = let a = c.args in sym (excess_2 a.limit a.own.0 a.sent.0 c.if-limit-sent.true)
 
-returns-2 : tie.Need-returns-2
-returns-2 c =
-    let e = c.before.before.before in
-    let a = e.before.before.args in
-    sym (excess_1 a.limit a.own.0 a.sent.0 e.if1.false c.if2.true)
+returns_2 : tie.Need-returns-then-limit-sent-2
+returns_2 c =
+    let e = c in
+    let a = e.args in
+    sym (excess_1 a.limit a.own.0 a.sent.0 e.if-limit-sent.false c.if-limit-sent-2.true)
 
-returns-3 : tie.Need-returns-3
-returns-3 c =
-    let e = c.before.before.before in
-    let a = e.before.before.args in
-    sym (excess_0 a.limit a.own.0 a.sent.0 e.if1.false c.if2.false)
+returns_3 : tie.Need-returns
+returns_3 c =
+    let e = c in
+    let a = e.args in
+    sym (excess_0 a.limit a.own.0 a.sent.0 e.if-limit-sent.false c.if-limit-sent-2.false)
 
 pub sent_excess_spec : {M : Type 1} → statement M
-sent_excess_spec = tie.close (tie.spec returns returns-2 returns-3)
+sent_excess_spec = tie.close (tie.spec returns returns_2 returns_3)

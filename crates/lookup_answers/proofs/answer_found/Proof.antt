@@ -4,8 +4,8 @@ use mathlib.Core.Path.{refl}
 use Rattle.lookup_answers.proofs.answer_found.Statement.{statement}
 use Rattle.lookup_answers.proofs.answer_found.Tie as tie
 
-returns : tie.Need-returns
-returns c = rw c.before.before.answer.given.1 (refl, refl)
+returns : tie.Need-returns-in-Is
+returns c = rw c.in-Is.is (refl, refl)
 
 pub answer_found_spec : {M : Type 1} → statement M
 answer_found_spec =

@@ -7,8 +7,8 @@ use Rattle.lookups.proofs.place_of.Tie as tie
 
 returns : tie.Need-returns
 returns c =
-    let a = c.before.before.args in
-    c.place-for.ensures ∙ ap (λ L. place_lookup L a.nodes a.dimension a.node) c.before.of-build.ensures
+    let a = c.args in
+    c.place_for.ensures ∙ ap (λ L. place_lookup L a.nodes a.dimension a.node) c.of_build.ensures
 
 pub place_of_spec : {M : Type 1} → statement M
 place_of_spec = tie.close (tie.spec (λ c κs. search rules) (λ c κs. search rules) returns)

@@ -9,26 +9,26 @@ use Rattle.tree.proofs.Runs.{below_step}
 use Rattle.lookups.proofs.run_below.Statement.{statement}
 use Rattle.lookups.proofs.run_below.Tie as tie
 
-abbrev invariant-loop : tie.invariant-loop
+abbrev invariant-loop : tie.invariant-loop-i
 invariant-loop nodes splits node r₀ i₀ r i = (i ≤ splits) × (r ≡ run_below nodes i node) × (r.low ≤ base.nodes) × (r.high < base.nodes)
 
-abbrev decreases-loop : tie.decreases-loop
+abbrev decreases-loop : tie.decreases-loop-i
 decreases-loop nodes splits node r₀ i₀ r i = splits - i
 
-loop-holds : tie.Need-loop-init invariant-loop decreases-loop
+loop_holds : tie.Need-loop-i-init invariant-loop decreases-loop
 unfolding run_below
-loop-holds c = search rules
+loop_holds c = search rules
 
-loop-again : tie.Need-loop-preserved invariant-loop decreases-loop
-loop-again c = (search rules, rw below_step (cc), search rules, search rules)
+loop_again : tie.Need-loop-i-preserved invariant-loop decreases-loop
+loop_again c = (search rules, rw below_step (cc), search rules, search rules)
 
 returns : tie.Need-returns invariant-loop decreases-loop
-returns c = let e : c.before.loop.i ≡ c.before.before.args.splits = omega arith in
+returns c = let e : c.loop-i.i ≡ c.args.splits = omega arith in
     (cc, search rules, search rules)
 
 pub run_below_spec : {M : Type 1} → statement M
 run_below_spec =
     tie.close
-    (tie.spec invariant-loop decreases-loop (λ c. search rules) loop-holds (λ c κs. search rules) (λ c. search rules)
+    (tie.spec invariant-loop decreases-loop (λ c. search rules) loop_holds (λ c κs. search rules) (λ c. search rules)
     (λ c. search rules)
-    loop-again returns)
+    loop_again returns)

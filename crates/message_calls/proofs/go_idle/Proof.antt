@@ -10,11 +10,11 @@ use Rattle.message_calls.proofs.go_idle.Tie as tie
 
 returns : tie.Need-returns
 returns c =
-    let s = c.before.before.before in
-    let a = s.before.before.before.before in
+    let s = c in
+    let a = s in
     let L = limits_of a.args.b in
-    called L (fits_of a.args.b (omega (arith, a.well-formed.0))) _ (idle L) _ _
-    s.go-idle.ensures
+    called L (fits_of a.args.b (omega (arith, a.well_formed.0))) _ (idle L) _ _
+    s.go_idle.ensures
 
 pub go_idle_spec : {M : Type 1} → statement M
 go_idle_spec = tie.close (tie.spec (λ c. search rules) (λ c κs. search rules) (λ c. search rules) returns)

@@ -10,11 +10,11 @@ use Rattle.message_calls.proofs.send_to.Tie as tie
 
 returns : tie.Need-returns
 returns c =
-    let s = c.before.before.before in
-    let a = s.before.before.before.before in
+    let s = c in
+    let a = s in
     let L = limits_of a.args.b in
-    called L (fits_of a.args.b (omega (arith, a.well-formed.0))) _ (λ n. send L n a.args.to) _ _
-    s.send-to.ensures
+    called L (fits_of a.args.b (omega (arith, a.well_formed.0))) _ (λ n. send L n a.args.to) _ _
+    s.send_to.ensures
 
 pub send_to_spec : {M : Type 1} → statement M
 send_to_spec = tie.close (tie.spec (λ c. search rules) (λ c κs. search rules) (λ c. search rules) returns)

@@ -10,11 +10,11 @@ use Rattle.message_calls.proofs.take_from.Tie as tie
 
 returns : tie.Need-returns
 returns c =
-    let s = c.before.before.before in
-    let a = s.before.before.before.before in
+    let s = c in
+    let a = s in
     let L = limits_of a.args.b in
-    called L (fits_of a.args.b (omega (arith, a.well-formed.0))) _ (λ n. take L n a.args.kind a.args.from a.args.phase) _ _
-    s.take-from.ensures
+    called L (fits_of a.args.b (omega (arith, a.well_formed.0))) _ (λ n. take L n a.args.kind a.args.from a.args.phase) _ _
+    s.take_from.ensures
 
 pub take_from_spec : {M : Type 1} → statement M
 take_from_spec = tie.close (tie.spec (λ c. search rules) (λ c κs. search rules) (λ c. search rules) returns)

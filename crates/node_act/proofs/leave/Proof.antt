@@ -17,10 +17,10 @@ in_phase ws p phase =
 returns : tie.Need-returns
 unfolding in_phase
 returns c =
-    let f = c.before.before in
-    let n = f.before.before in
-    let a = n.before.before.before.before.before.args in
-    f.put_fresh.ensures ∙ ap (in_phase a.state.now a.p) n.next-phase.ensures
+    let f = c in
+    let n = f in
+    let a = n.args in
+    f.put_fresh.ensures ∙ ap (in_phase a.state.now a.p) n.next_phase-phase.ensures
 
 pub leave_spec : {M : Type 1} → statement M
 leave_spec =

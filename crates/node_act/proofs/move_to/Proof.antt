@@ -3,10 +3,10 @@ use Rattle.std.proofs.Common.{arith, length-set, rules}
 use Rattle.node_act.proofs.move_to.Statement.{statement}
 use Rattle.node_act.proofs.move_to.Tie as tie
 
-slice-write-state-2 : tie.Need-slice-write-state-2
+slice-write-state-2 : tie.Need-bounds-state-5
 slice-write-state-2 c = simp length-set (omega (arith, c.requires))
 
-slice-write-state-3 : tie.Need-slice-write-state-3
+slice-write-state-3 : tie.Need-bounds-state-6
 slice-write-state-3 c = simp length-set (omega (arith, c.requires))
 
 pub move_to_spec : {M : Type 1} → statement M

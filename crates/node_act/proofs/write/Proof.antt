@@ -12,28 +12,28 @@ did : (s : tie.Start) {t : Turn} (after : List ℕ) → s.args.t ≡ t
     × (after ≡ words_after s.args.state.now s.args.p s.args.t)
 did s after e f = (sym (ap answer_of e), f ∙ sym (ap (words_after s.args.state.now s.args.p) e))
 
-returns : tie.Need-returns
-returns c = did c.before.before.before.before _ c.before.t.given.1 refl
+returns : tie.Need-returns-in-Refuses
+returns c = did c.before.before _ c.in-Refuses.is refl
 
-returns-2 : tie.Need-returns-2
-returns-2 c = did c.before.before.before.before _ c.before.t2.given.1 refl
+returns_2 : tie.Need-returns-in-Sends
+returns_2 c = did c.before.before _ c.in-Sends.is refl
 
-returns-3 : tie.Need-returns-3
-returns-3 c = did c.before.before.before.before _ c.before.t3.given.1 refl
+returns_3 : tie.Need-returns-in-Waits
+returns_3 c = did c.before.before _ c.in-Waits.is refl
 
-returns-4 : tie.Need-returns-4
+returns-4 : tie.Need-returns-in-Moves
 returns-4 c =
-    let m = c.before.before in
-    did m.before.before.before.before.before.before _ m.before.before.before.t4.given.1 m.move-to.ensures
+    let m = c in
+    did m.before.before.before.before.before.before _ m.in-Moves.is m.move_to.ensures
 
-returns-5 : tie.Need-returns-5
-returns-5 c =
-    let l = c.before.before in
-    did l.before.before.before.before.before _ l.before.before.enum_told.given.1 l.leave.ensures
+returns_5 : tie.Need-returns-in-Leaves
+returns_5 c =
+    let l = c in
+    did l.before.before.before.before.before.before _ l.in-Leaves.is l.leave.ensures
 
 pub write_spec : {M : Type 1} → statement M
 write_spec =
     tie.close
     (tie.spec (λ c. search rules) (λ c. search rules) (λ c. search rules) (λ c. search rules) (λ c. search rules)
     (λ c. search rules) (λ c κs. search rules) (λ c. search rules) (λ c κs. search rules) returns (λ c. search rules)
-    returns-2 (λ c. search rules) returns-3 (λ c. search rules) returns-4 (λ c. search rules) returns-5)
+    returns_2 (λ c. search rules) returns_3 (λ c. search rules) returns-4 (λ c. search rules) returns_5)

@@ -10,28 +10,28 @@ use Rattle.base.proofs.Limits.{fits_of}
 use Rattle.base.proofs.Laws.{here}
 use Rattle.node.specs.Calls.{idle}
 use Rattle.node.specs.declared.Answer.TheVariants.{Done}
-use Rattle.node.proofs.Ways.{idle-refuses, idle-does}
-use Rattle.layout.proofs.Writes.{put-busy}
+use Rattle.node.proofs.Ways.{idle_refuses, idle_does}
+use Rattle.layout.proofs.Writes.{put_busy}
 use Rattle.layout.proofs.Answers.{gives}
 use Rattle.scanned.proofs.Known.{Known, passed}
-use Rattle.node_take.proofs.Counted.{no_state_lem, tallies-room}
+use Rattle.node_take.proofs.Counted.{no_state_lem, tallies_room}
 use Rattle.node_calls.proofs.go_idle.Statement.{statement}
 use Rattle.node_calls.proofs.go_idle.Tie as tie
 
 fit : (c : tie.Start) → Fits (limits_of c.args.b)
-fit c = fits_of c.args.b (omega (arith, c.well-formed.0))
+fit c = fits_of c.args.b (omega (arith, c.well_formed.0))
 
-returns : tie.Need-returns
+returns : tie.Need-returns-then-not-known
 returns c =
-    let s = c.before.before.before.before in
-    let a = s.before.before.before.before.before in
+    let s = c in
+    let a = s.before.before.before.before.before.before.before.before in
     let L = limits_of a.args.b in
-    no_state_lem L (fit a) _ a.args.state.now _ s.scan-of.ensures.0 (λ n. idle L n) c.if1.true
-    (λ e. idle-refuses L _ (here e))
+    no_state_lem L (fit a) _ a.args.state.now _ s.scan_of-known.ensures.0 (λ n. idle L n) c.if-not-known.true
+    (λ e. idle_refuses L _ (here e))
 
-module _ (c : tie.Else1) where
+module _ (c : tie.Else-not-known) where
   abbrev start : tie.Start
-  start = c.before.before.before.before.before.before.before.before.before
+  start = c.before.before.before.before.before.before.before.before
 
   abbrev limits : Limits
   limits = limits_of start.args.b
@@ -42,16 +42,16 @@ module _ (c : tie.Else1) where
   abbrev room : ℕ
   room = length start.args.sums.now
 
-  known : Known limits room false ws c.before.before.before.before.scan-of.result
-  known = passed limits room false ws _ c.before.before.before.before.scan-of.ensures.0 c.if1.false
+  known : Known limits room false ws c.scan_of-known.result
+  known = passed limits room false ws _ c.scan_of-known.ensures.0 c.if-not-known.false
 
-slice-write-state : tie.Need-slice-write-state
-slice-write-state c = omega (arith, tallies-room (limits c) (ws c) (known c).whole)
+slice_write_state : tie.Need-bounds-state-3
+slice_write_state c = omega (arith, tallies_room (limits c) (ws c) (known c).whole)
 
-returns-2 : tie.Need-returns-2
-returns-2 c =
-    (gives (limits c) (fit (start c)) (λ n. idle (limits c) n) (ws c) Done _ _ (idle-does (limits c) _ (known c).valid)
-    (put-busy (limits c) (ws c) (known c).whole false)
+returns_2 : tie.Need-returns
+returns_2 c =
+    (gives (limits c) (fit (start c)) (λ n. idle (limits c) n) (ws c) Done _ _ (idle_does (limits c) _ (known c).valid)
+    (put_busy (limits c) (ws c) (known c).whole false)
     ).on (room c) (known c).ready
 
 pub go_idle_spec : {M : Type 1} → statement M
@@ -62,7 +62,7 @@ go_idle_spec =
     (λ c. search rules)
     (λ c. search rules)
     returns
-    slice-write-state
+    slice_write_state
     (λ c. search rules)
     (λ c. search rules)
-    returns-2)
+    returns_2)

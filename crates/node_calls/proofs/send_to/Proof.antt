@@ -8,48 +8,48 @@ use Rattle.base.specs.Limits.{limits_of}
 use Rattle.base.proofs.Limits.{fits_of}
 use Rattle.base.proofs.Laws.{here}
 use Rattle.node.specs.Calls.{send}
-use Rattle.node.proofs.Ways.{send-refuses}
+use Rattle.node.proofs.Ways.{send_refuses}
 use Rattle.scanned.proofs.Known.{Known, passed}
 use Rattle.node_take.proofs.Counted.{no_state_lem}
 use Rattle.node_calls.proofs.send_to.Statement.{statement}
 use Rattle.node_calls.proofs.send_to.Tie as tie
 
-returns : tie.Need-returns
+returns : tie.Need-returns-then-not-known
 returns c =
-    let s = c.before.before.before.before in
-    let a = s.before.before.before.before.before in
+    let s = c in
+    let a = s in
     let L = limits_of a.args.b in
-    let fit = fits_of a.args.b (omega (arith, a.well-formed.0)) in
-    no_state_lem L fit _ a.args.state.now _ s.scan-of.ensures.0 (λ n. send L n a.args.to) c.if1.true
-    (λ e. send-refuses L _ _ (here e))
+    let fit = fits_of a.args.b (omega (arith, a.well_formed.0)) in
+    no_state_lem L fit _ a.args.state.now _ s.scan_of-known.ensures.0 (λ n. send L n a.args.to) c.if-not-known.true
+    (λ e. send_refuses L _ _ (here e))
 
 -- the state passes the test
-module _ (c : tie.Else1) where
-  abbrev scan : tie.After-scan-of
+module _ (c : tie.Else-not-known) where
+  abbrev scan : tie.After-scan_of-known
   scan = c.before.before.before.before
 
   abbrev start : tie.Start
-  start = scan.before.before.before.before.before
+  start = scan.before.before.before.before
 
   abbrev room : ℕ
   room = length start.args.sums.now
 
-  known : Known (limits_of start.args.b) room false start.args.state.now scan.scan-of.result
-  known = passed _ room false _ _ scan.scan-of.ensures.0 c.if1.false
+  known : Known (limits_of start.args.b) room false start.args.state.now scan.scan_of-known.result
+  known = passed _ room false _ _ scan.scan_of-known.ensures.0 c.if-not-known.false
 
-send-on-requires : tie.Need-send-on-requires
+send-on-requires : tie.Need-send_on-requires
 send-on-requires c κs =
-    let k = known c.before in
+    let k = known c.before.before in
     (record { whole = k.whole; valid = k.valid }, k.sends)
 
-returns-2 : tie.Need-returns-2
-returns-2 c =
-    let d = c.before.before in
-    let e = d.before.before in
-    d.send-on.ensures.on (room e) (known e).ready
+returns_2 : tie.Need-returns
+returns_2 c =
+    let d = c in
+    let e = d.before.before.before.before.before in
+    d.send_on.ensures.on (room e) (known e).ready
 
 pub send_to_spec : {M : Type 1} → statement M
 send_to_spec =
     tie.close
     (tie.spec (λ c κs. search rules) (λ c. search rules) (λ c. search rules) returns send-on-requires (λ c. search
-    rules) (λ c. search rules) returns-2)
+    rules) (λ c. search rules) returns_2)

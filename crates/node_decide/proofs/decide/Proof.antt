@@ -32,20 +32,20 @@ module _ (s : tie.Start) where
       → (t ≡ turn s.args.whom) × (after ≡ lent s.args.whom)
   decides e f g = (f ∙ sym (ap turn e), g ∙ sym (ap lent e))
 
-returns : tie.Need-returns
+returns : tie.Need-returns-in-To
 returns c =
-    let p = c.before.before.before in
-    let m = p.before.before.before in
-    decides m.before.before.before.before.before m.whom.given.1
+    let p = c in
+    let m = p in
+    decides m.before.before.before.before.before.before.before.before.before m.in-To.is
     (c.sent.ensures ∙ ap (sent_turn _) p.put.ensures.0) p.put.ensures.1
 
-returns-2 : tie.Need-returns-2
-returns-2 c =
-    let m = c.before in
-    decides m.before.before.before.before.before m.enum_told.given.1 c.look.ensures refl
+returns_2 : tie.Need-returns-in-Nobody
+returns_2 c =
+    let m = c in
+    decides m.before.before.before.before.before m.in-Nobody.is c.look.ensures refl
 
 pub decide_spec : {M : Type 1} → statement M
 decide_spec =
     tie.close
     (tie.spec (λ c. search rules) (λ c κs. search rules) (λ c κs. search rules) (λ c. search rules) (λ c κs. search rules)
-    (λ c. search rules) returns returns-2)
+    (λ c. search rules) returns returns_2)

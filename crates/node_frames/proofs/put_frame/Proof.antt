@@ -23,23 +23,23 @@ count c = (length c.args.bytes.now - 4) / 4
 room : (c : tie.Start) → c.args.at + mark_words + count c ≤ length c.args.state.now
 room c = omega (arith, c.requires.1, length_list 0 (count c) (number_at c.args.bytes.now))
 
-part-copy-numbers-end : tie.Need-slice-bounds-copy-numbers-end
+part-copy-numbers-end : tie.Need-slice_bounds-copy_numbers-end
 part-copy-numbers-end c = simp length-set (room c.before.before)
 
-put : (c : tie.After-copy-numbers)
-    → let x = c.before.before.before.before.args in
+put : (c : tie.After-copy_numbers)
+    → let x = c.args in
     let from = x.at + mark_words in
     let end = from + count c.before.before.before.before in
-    put_mid from (end - from) (set x.state.now x.at 1) c.copy-numbers.new.1.0
+    put_mid from (end - from) (set x.state.now x.at 1) c.copy_numbers.new.words
     ≡ pasted x.state.now x.at (frame_words x.bytes.now)
 put c =
     let s = c.before.before.before.before in
     frame_put s.args.state.now s.args.bytes.now _ s.args.at (count s) _ _ refl refl (room s)
-    (let h = s.requires.0 in omega arith) c.copy-numbers.ensures
+    (let h = s.requires.0 in omega arith) c.copy_numbers.ensures
 
-same_length : tie.Need-same-length
+same_length : tie.Need-shape_of-state
 same_length c =
-    let s = c.before.before.before.before.before.before in
+    let s = c in
     ap length (put c.before.before)
     ∙ length_pasted s.args.state.now s.args.at (frame_words s.args.bytes.now) s.requires.1
 

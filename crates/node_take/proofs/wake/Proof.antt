@@ -4,8 +4,8 @@ use mathlib.Core.Path.{refl}
 use Rattle.node_take.proofs.wake.Statement.{statement}
 use Rattle.node_take.proofs.wake.Tie as tie
 
-returns : tie.Need-returns
-returns c = rw c.enum_told.given.1 refl
+returns : tie.Need-returns-in-Job
+returns c = rw c.in-Job.is refl
 
 pub wake_spec : {M : Type 1} → statement M
 wake_spec =

@@ -12,45 +12,45 @@ use Rattle.opening.proofs.open_script.Statement.{statement}
 use Rattle.opening.proofs.open_script.Tie as tie
 
 -- the script is short, and its first line is read
-short : (c : tie.After-line-at)
-    → let script = c.before.before.before.args.script.now in
-    opened script ≡ opened_by (length script) c.line_at_lem.result.next c.line_at_lem.result.line
+short : (c : tie.After-line_at-p)
+    → let script = c.args.script.now in
+    opened script ≡ opened_by (length script) c.line_at-p.result.next c.line_at-p.result.line
 unfolding opened
 short c =
-    choose_no _ _ (le-ltb _ _ c.before.if1.false)
-    ∙ ap (λ (p : Parsed). opened_by (length c.before.before.before.args.script.now) p.next p.line)
-    (sym c.line_at_lem.ensures)
+    choose_no _ _ (le-ltb _ _ c.if-n-gt4096.false)
+    ∙ ap (λ (p : Parsed). opened_by (length c.args.script.now) p.next p.line)
+    (sym c.line_at-p.ensures)
 
-returns : tie.Need-returns
+returns : tie.Need-returns-then-n-gt4096
 unfolding opened
-returns c = c.shut_at.ensures ∙ sym (choose_yes _ _ (lt-ltb _ _ c.before.if1.true))
+returns c = c.shut_at.ensures ∙ sym (choose_yes _ _ (lt-ltb _ _ c.if-n-gt4096.true))
 
-returns-2 : tie.Need-returns-2
-returns-2 c =
+returns_2 : tie.Need-returns-in_default
+returns_2 c =
     let r = c.before.before in
-    c.shut-at2.ensures ∙ sym (short r ∙ no_board r.line_at_lem.result.line _ _ c.before.match.keys2)
+    c.shut_at-in_default.ensures ∙ sym (short r ∙ no_board r.line_at-p.result.line _ _ c.in_default.not-Nodes)
 
-returns-3 : tie.Need-returns-3
-returns-3 c =
-    let b = c.before.before in
-    let l = b.before.before in
+returns_3 : tie.Need-returns-then-bad_size
+returns_3 c =
+    let b = c in
+    let l = b in
     let r = l.before.before in
-    c.shut-at3.ensures
-    ∙ sym (short r ∙ ap (opened_by _ r.line_at_lem.result.next) l.line.given.1
-    ∙ choose_yes _ _ (sym b.bad-size.ensures ∙ c.before.if2.true))
+    c.shut_at-then-bad_size.ensures
+    ∙ sym (short r.before.before ∙ ap (opened_by _ r.line_at-p.result.next) l.in-Nodes.is
+    ∙ choose_yes _ _ (sym b.bad_size.ensures ∙ c.if-bad_size.true))
 
-returns-4 : tie.Need-returns-4
+returns-4 : tie.Need-returns
 returns-4 c =
-    let b = c.before.before in
-    let l = b.before.before in
+    let b = c in
+    let l = b in
     let r = l.before.before in
-    ap (λ (st : Stage). record { stage = st; at = r.line_at_lem.result.next; why = 0; line = 0 })
-    c.open-stage.ensures
-    ∙ sym (short r ∙ ap (opened_by _ r.line_at_lem.result.next) l.line.given.1
-    ∙ choose_no _ _ (sym b.bad-size.ensures ∙ c.before.if2.false))
+    ap (λ (st : Stage). record { stage = st; at = r.line_at-p.result.next; why = 0; line = 0 })
+    c.open_stage.ensures
+    ∙ sym (short r.before.before ∙ ap (opened_by _ r.line_at-p.result.next) l.in-Nodes.is
+    ∙ choose_no _ _ (sym b.bad_size.ensures ∙ c.if-bad_size.false))
 
 pub open_script_spec : {M : Type 1} → statement M
 open_script_spec =
     tie.close
     (tie.spec (λ c κs. search rules) returns (λ c κs. search rules) (λ c. search rules) (λ c κs. search rules)
-    returns-2 (λ c κs. search rules) (λ c κs. search rules) returns-3 (λ c κs. search rules) returns-4)
+    returns_2 (λ c κs. search rules) (λ c κs. search rules) returns_3 (λ c κs. search rules) returns-4)

@@ -8,19 +8,19 @@ use Rattle.opening_parts.proofs.Starts.{filled, fill_none, fill_next, fill_all}
 use Rattle.opening_parts.proofs.open_stage.Statement.{statement}
 use Rattle.opening_parts.proofs.open_stage.Tie as tie
 
-abbrev invariant-loop : tie.invariant-loop
+abbrev invariant-loop : tie.invariant-loop-a
 invariant-loop size states₀ a₀ states a = (a ≤ 16) × (states ≡ filled size a)
 
-abbrev decreases-loop : tie.decreases-loop
+abbrev decreases-loop : tie.decreases-loop-a
 decreases-loop size states₀ a₀ states a = 16 - a
 
-loop-holds : tie.Need-loop-init invariant-loop decreases-loop
-loop-holds c = (omega arith, fill_none c.before.args.size _ c.none.ensures)
+loop_holds : tie.Need-loop-a-init invariant-loop decreases-loop
+loop_holds c = (omega arith, fill_none c.args.size _ c.none-states.ensures)
 
-loop-again : tie.Need-loop-preserved invariant-loop decreases-loop
-loop-again c =
-    let h = c.before.before.loop in
-    let size = c.before.before.before.before.args.size in (
+loop_again : tie.Need-loop-a-preserved invariant-loop decreases-loop
+loop_again c =
+    let h = c.loop-a in
+    let size = c.args.size in (
       omega arith,
       ap (λ l. set l h.a c.fresh.result) h.invariant.1 ∙ ap (set (filled size h.a) h.a)
           c.fresh.ensures ∙ fill_next size h.a (omega arith),
@@ -28,12 +28,12 @@ loop-again c =
 
 returns : tie.Need-returns invariant-loop decreases-loop
 returns c =
-    let size = c.before.before.before.args.size in
-    ap (λ l. record { states = l; size = size; under = 0 }) c.before.loop.invariant.1 ∙ fill_all size
-    c.before.loop.a (omega arith)
+    let size = c.args.size in
+    ap (λ l. record { states = l; size = size; under = 0 }) c.loop-a.invariant.1 ∙ fill_all size
+    c.loop-a.a (omega arith)
 
 pub open_stage_spec : {M : Type 1} → statement M
 open_stage_spec =
     tie.close
-    (tie.spec invariant-loop decreases-loop (λ c κs. search rules) loop-holds (λ c κs. search rules) (λ c. search rules)
-    (λ c. search rules) (λ c. search rules) (λ c. search rules) (λ c. search rules) loop-again returns)
+    (tie.spec invariant-loop decreases-loop (λ c κs. search rules) loop_holds (λ c κs. search rules) (λ c. search rules)
+    (λ c. search rules) (λ c. search rules) (λ c. search rules) (λ c. search rules) loop_again returns)

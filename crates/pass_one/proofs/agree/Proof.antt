@@ -14,7 +14,7 @@ use Rattle.node.specs.declared.Stored.{Stored}
 use Rattle.node.proofs.Clauses.{FirstAgrees}
 use Rattle.layout.specs.Places.{mark_words, sent_place, taken_place}
 use Rattle.layout.specs.Held.{word, first_from, sum_of}
-use Rattle.layout.proofs.Reading.{number-sent, number-taken}
+use Rattle.layout.proofs.Reading.{number_sent, number_taken}
 use Rattle.adding.proofs.Places.{Shell, shell}
 use Rattle.pass_one.specs.Pieces.{Agreed}
 use Rattle.pass_one.proofs.Agreeing.{apart}
@@ -43,59 +43,59 @@ module _ (s : tie.Start) where
 
   -- where its numbers are
   at : Shell p k k (length ws) (length before)
-  at = shell ws before p k s.pre k (le_refl k) s.pre.low
+  at = shell ws before p k s.requires k (le_refl k) s.requires.low
 
   -- the tallies of shell k are the first of their kind
   sent : number frame (sent_in k) ≡ word ws mark_words
   sent =
       let z : sent_place 0 k k ≡ mark_words = omega arith in
-      number-sent ws p k 0 k (le_refl k) s.pre.low at.low ∙ ap (word ws) z
+      number_sent ws p k 0 k (le_refl k) s.requires.low at.low ∙ ap (word ws) z
 
   taken : number frame (taken_in k) ≡ word ws (mark_words + (p - k))
   taken =
       let z : taken_place p 0 k k ≡ mark_words + (p - k) = omega arith in
-      number-taken ws p k 0 k (le_refl k) s.pre.low at.low ∙ ap (word ws) z
+      number_taken ws p k 0 k (le_refl k) s.requires.low at.low ∙ ap (word ws) z
 
   fails : (FirstAgrees L p k (sum_of p before) frame → ⊥) → Agreed L p k frame before before false
   fails none = apart L p k frame before none before refl
 
-abbrev first : tie.Else1 → tie.Start
+abbrev first : tie.Else-s-ne1 → tie.Start
 first c = c.before.before.before.before
 
-here : (c : tie.Else1) → (frame (first c)).present ≡ true
-here c = eq-eqb _ _ c.if1.false
+here : (c : tie.Else-s-ne1) → (frame (first c)).present ≡ true
+here c = eq-eqb _ _ c.if-s-ne1.false
 
-returns : tie.Need-returns
-returns c = fails c.before.before.before.before (λ a. c.if1.true (eqb-true _ _ a.stored))
+returns : tie.Need-returns-then-s-ne1
+returns c = fails c.before.before.before.before (λ a. c.if-s-ne1.true (eqb-true _ _ a.stored))
 
-returns-2 : tie.Need-returns-2
-returns-2 c =
+returns_2 : tie.Need-returns-then-own_sent-taken
+returns_2 c =
     let s = first c.before.before.before.before.before in
-    fails s (λ a. c.if2.true (a.sent ∙ taken s))
+    fails s (λ a. c.if-own_sent-taken.true (a.sent ∙ taken s))
 
-returns-3 : tie.Need-returns-3
-returns-3 c =
-    let h = c.before.before.before.before.before in
-    let s = first h.before.before.before.before.before in
-    fails s (λ a. c.if3.true (a.taken ∙ sent s))
+returns_3 : tie.Need-returns-then-own_taken-sent
+returns_3 c =
+    let h = c in
+    let s = first h.before.before.before.before.before.before.before.before.before.before in
+    fails s (λ a. c.if-own_taken-sent.true (a.taken ∙ sent s))
 
-last-agree-requires : tie.Need-last-agree-requires
+last-agree-requires : tie.Need-last_agree-requires
 last-agree-requires c κs =
-    let g = c.before in
-    let h = g.before.before.before.before.before in
-    let e = h.before.before.before.before.before in
+    let g = c in
+    let h = g in
+    let e = h.before.before.before.before.before.before.before.before.before.before.before in
     let s = first e in (
-      s.pre,
-      record { stored = here e; sent = h.if2.false ∙ sym (taken s); taken = g.if3.false ∙ sym (sent s) },
+      s.requires,
+      record { stored = here e; sent = h.if-own_sent-taken.false ∙ sym (taken s); taken = g.if-own_taken-sent.false ∙ sym (sent s) },
     )
 
 pub agree_spec : {M : Type 1} → statement M
 agree_spec =
     tie.close
     (tie.spec (λ c. (at c.before.before.before).mark) returns (λ c. (at c.before.before.before.before).own_sent.scaled) (λ c. (at c.before.before.before.before.before).own_sent.there)
-    (λ c. le_of_lt c.before.before.before.before.before.requires.low) (λ c. (at c.before.before.before.before.before).middle.ranges) (λ c. (at c.before.before.before.before.before).middle.wide)
-    (λ c. (at c.before.before.before.before.before).middle.scaled) (λ c. (at c.before.before.before.before.before.before).middle.there) returns-2
-    (λ c. (at c.before.before.before.before.before.before.before.before.before).own_taken.ranges) (λ c. (at c.before.before.before.before.before.before.before.before.before).own_taken.wide) (λ c. (at c.before.before.before.before.before.before.before.before.before).own_taken.scaled)
+    (λ c. le_of_lt c.requires.low) (λ c. (at c.before.before.before.before.before).middle.fits) (λ c. (at c.before.before.before.before.before).middle.wide)
+    (λ c. (at c.before.before.before.before.before).middle.scaled) (λ c. (at c.before.before.before.before.before.before).middle.there) returns_2
+    (λ c. (at c.before.before.before.before.before.before.before.before.before).own_taken.fits) (λ c. (at c.before.before.before.before.before.before.before.before.before).own_taken.wide) (λ c. (at c.before.before.before.before.before.before.before.before.before).own_taken.scaled)
     (λ c. (at c.before.before.before.before.before.before.before.before.before.before).own_taken.there) (λ c. Fits-lit tt) (λ c. Fits-lit tt)
-    (λ c. (at c.before.before.before.before.before.before.before.before.before.before.before).first) returns-3 last-agree-requires (λ c. c.before.before.last-agree.ensures.length)
-    (λ c. c.before.before.last-agree.ensures))
+    (λ c. (at c.before.before.before.before.before.before.before.before.before.before.before).first) returns_3 last-agree-requires (λ c. c.last_agree.ensures.length)
+    (λ c. c.last_agree.ensures))

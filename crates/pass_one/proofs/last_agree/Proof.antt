@@ -1,5 +1,4 @@
 -- `last_agree`: clause 3 by the numbers added, then clause 4.
-use borrow.Author.Tests.{not-true, not-false}
 use mathlib.Core.Path.{◌≡◌, sym, subst}
 use mathlib.Core.List.{List}
 use Prim.Native.Nat.{ℕ}
@@ -14,7 +13,7 @@ use Rattle.pass_one.proofs.last_agree.Statement.{statement}
 use Rattle.pass_one.proofs.last_agree.Tie as tie
 
 -- what is handed
-module _ (a : tie.After-add-frame) where
+module _ (a : tie.After-add_frame) where
   abbrev s : tie.Start
   s = a.before.before.before.before.before
 
@@ -34,43 +33,43 @@ module _ (a : tie.After-add-frame) where
   x = first_from s.args.s.now p k 0
 
   abbrev after : List ℕ
-  after = a.add-frame.last.1.1.0
+  after = a.add_frame.new.sums
 
   abbrev limit : ℕ
-  limit = a.before.before.field-limit.result
+  limit = a.field_limit.result
 
   limit_is : limit ≡ field_limit L
-  limit_is = a.before.before.field-limit.ensures
+  limit_is = a.field_limit.ensures
 
   -- where the totals are
   at : Ends p k (length s.args.s.now) (length after)
   at =
       let ws = s.args.s.now in
-      ends ws after p k (still ws before p k s.pre.0 after a.add-frame.ensures.length)
+      ends ws after p k (still ws before p k s.requires.0 after a.add_frame.ensures.length)
 
-returns : tie.Need-returns
+returns : tie.Need-returns-then-not-add_frame
 returns c =
     let a = c.before.before.before in
-    let f = a.add-frame in
+    let f = a.add_frame in
     over (L a) (p a) (k a) (x a) (before a) (limit a) (limit_is a)
-    (f.ensures.over (not-true f.result c.if1.true) (s a).requires.0) _ f.ensures.length
+    (f.ensures.over c.if-not-add_frame.true (s a).requires.0) _ f.ensures.length
 
-returns-2 : tie.Need-returns-2
-returns-2 c =
-    let g = c.before.before.before in
-    let a = g.before.before.before in
-    let f = a.add-frame in
-    let good = not-false f.result g.if1.false in
-    subst (Agreed (L a) (p a) (k a) (x a) (before a) (after a)) (sym c.last-holds.ensures)
+returns_2 : tie.Need-returns
+returns_2 c =
+    let g = c in
+    let a = g.before.before.before.before.before.before in
+    let f = a.add_frame in
+    let good = g.if-not-add_frame.false in
+    subst (Agreed (L a) (p a) (k a) (x a) (before a) (after a)) (sym c.last_holds.ensures)
     (ended (L a) (p a) (k a) (x a) (before a) (limit a) (limit_is a) (s a).requires.1 (f.ensures.within good) (after a)
     (f.ensures.added good) f.ensures.length)
 
 pub last_agree_spec : {M : Type 1} → statement M
 last_agree_spec =
     tie.close
-    (tie.spec (λ c κs. tt) (λ c κs. tt) (λ c. c.before.before.before.add-frame.ensures.length) returns (λ c. (at c.before.before.before).own_issued_lem.ranges)
-    (λ c. (at c.before.before.before).own_issued_lem.wide) (λ c. (at c.before.before.before).own_issued_lem.scaled) (λ c. (at c.before.before.before.before).own_issued_lem.there)
-    (λ c. (at c.before.before.before.before).own_issued_lem.ranges) (λ c. (at c.before.before.before.before).own_received.ranges) (λ c. (at c.before.before.before.before).own_received.wide)
+    (tie.spec (λ c κs. tt) (λ c κs. tt) (λ c. c.add_frame.ensures.length) returns (λ c. (at c.before.before.before).own_issued.fits)
+    (λ c. (at c.before.before.before).own_issued.wide) (λ c. (at c.before.before.before).own_issued.scaled) (λ c. (at c.before.before.before.before).own_issued.there)
+    (λ c. (at c.before.before.before.before).own_issued.fits) (λ c. (at c.before.before.before.before).own_received.fits) (λ c. (at c.before.before.before.before).own_received.wide)
     (λ c. (at c.before.before.before.before).own_received.scaled) (λ c. (at c.before.before.before.before.before).own_received.there)
-    (λ c. let f = (s c.before.before.before.before.before).pre.0 in next_fits _ _ f.low f.few) (λ c κs. tt)
-    (λ c. c.before.before.before.before.before.before.add-frame.ensures.length) returns-2)
+    (λ c. let f = (s c.before.before.before.before.before).requires.0 in next_fits _ _ f.low f.few) (λ c κs. tt)
+    (λ c. c.add_frame.ensures.length) returns_2)

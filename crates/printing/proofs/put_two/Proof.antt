@@ -7,9 +7,9 @@ use Rattle.printing.proofs.put_two.Tie as tie
 
 returns : tie.Need-returns
 returns c =
-    let second = c.before.before in
-    let first = second.before.before.before.before in
-    then _ _ _ (_ ∷ []) (_ ∷ []) _ _ _ first.put_byte.ensures second.put-byte2.ensures
+    let second = c in
+    let first = second in
+    then _ _ _ (_ ∷ []) (_ ∷ []) _ _ _ first.put_byte-next.ensures second.put_byte.ensures
 
 pub put_two_spec : {M : Type 1} → statement M
 put_two_spec =

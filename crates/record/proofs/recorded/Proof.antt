@@ -7,15 +7,15 @@ use Rattle.recorder.proofs.Writing.{inside}
 use Rattle.record.proofs.recorded.Statement.{statement}
 use Rattle.record.proofs.recorded.Tie as tie
 
-returns-2 : tie.Need-returns-2
-returns-2 c =
-    let w = c.before.before.before.before.before in
-    let x = w.before.before.before.before.before.args in
+returns_2 : tie.Need-returns
+returns_2 c =
+    let w = c in
+    let x = w.args in
     inside (recording_of x.script.now x.text.now) x.buf.now _ _
-    (sym (ap found_answer c.before.size.given.1) ∙ w.put-recording.ensures.0) w.put-recording.ensures.1
+    (sym (ap found_answer c.in-Is.is) ∙ w.put_recording.ensures.0) w.put_recording.ensures.1
 
 pub recorded_spec : {M : Type 1} → statement M
 recorded_spec =
     tie.close
     (tie.spec (λ c κs. search rules) (λ c. search rules) (λ c. search rules) (λ c. search rules) (λ c. search rules)
-    (λ c. search rules) (λ c. search rules) returns-2)
+    (λ c. search rules) (λ c. search rules) returns_2)

@@ -17,30 +17,30 @@ within : (most x : ℕ) → (x ≡ 0 → ⊥) → x ≤ most → outside most x 
 within most x p l = rw (ne_eqb x 0 p, le-ltb most x l)
 
 module _ (nodes sections total : ℕ) (events : List ℕ) where
-  bad-nodes : outside 16 nodes ≡ true → true ≡ is_bad_by nodes sections total events
+  bad_nodes : outside 16 nodes ≡ true → true ≡ is_bad_by nodes sections total events
   unfolding is_bad_by
-  bad-nodes e = rw e
+  bad_nodes e = rw e
 
-  many-nodes : 16 < nodes → true ≡ is_bad_by nodes sections total events
-  many-nodes l = bad-nodes (above 16 nodes l)
+  many_nodes : 16 < nodes → true ≡ is_bad_by nodes sections total events
+  many_nodes l = bad_nodes (above 16 nodes l)
 
   module _ (n : (nodes ≡ 0 → ⊥) × (nodes ≤ 16)) where
-    bad-sections : outside 32 sections ≡ true → true ≡ is_bad_by nodes sections total events
+    bad_sections : outside 32 sections ≡ true → true ≡ is_bad_by nodes sections total events
     unfolding is_bad_by
-    bad-sections e = rw (within 16 nodes n.0 n.1, e)
+    bad_sections e = rw (within 16 nodes n.0 n.1, e)
 
-    many-sections : 32 < sections → true ≡ is_bad_by nodes sections total events
-    many-sections l = bad-sections (above 32 sections l)
+    many_sections : 32 < sections → true ≡ is_bad_by nodes sections total events
+    many_sections l = bad_sections (above 32 sections l)
 
     module _ (s : (sections ≡ 0 → ⊥) × (sections ≤ 32)) where
-      bad-count : (4 * total ≡ length events → ⊥) → true ≡ is_bad_by nodes sections total events
+      bad_count : (4 * total ≡ length events → ⊥) → true ≡ is_bad_by nodes sections total events
       unfolding is_bad_by
-      bad-count e = rw (within 16 nodes n.0 n.1, within 32 sections s.0 s.1, ne_eqb _ _ e)
+      bad_count e = rw (within 16 nodes n.0 n.1, within 32 sections s.0 s.1, ne_eqb _ _ e)
 
       module _ (t : 4 * total ≡ length events) where
-        bad-size : 60000 < bodies sections + length events → true ≡ is_bad_by nodes sections total events
+        bad_size : 60000 < bodies sections + length events → true ≡ is_bad_by nodes sections total events
         unfolding is_bad_by
-        bad-size e =
+        bad_size e =
             rw (
               within 16 nodes n.0 n.1,
               within 32 sections s.0 s.1,
@@ -48,10 +48,10 @@ module _ (nodes sections total : ℕ) (events : List ℕ) where
               lt-ltb 60000 (bodies sections + length events) e,
             )
 
-        by-events : bodies sections + length events ≤ 60000
+        by_events : bodies sections + length events ≤ 60000
             → not (good_events nodes events) ≡ is_bad_by nodes sections total events
         unfolding is_bad_by
-        by-events e =
+        by_events e =
             rw (
               within 16 nodes n.0 n.1,
               within 32 sections s.0 s.1,
@@ -59,34 +59,34 @@ module _ (nodes sections total : ℕ) (events : List ℕ) where
               le-ltb 60000 (bodies sections + length events) e,
             )
 
-returns : tie.Need-returns
-returns c = bad-nodes _ _ _ _ (ap (outside 16) c.if1.true)
+returns : tie.Need-returns-then-nodes-eq0
+returns c = bad_nodes _ _ _ _ (ap (outside 16) c.if-nodes-eq0.true)
 
-returns-2 : tie.Need-returns-2
-returns-2 c = many-nodes _ _ _ _ (omega arith)
+returns_2 : tie.Need-returns-then-nodes-gt16
+returns_2 c = many_nodes _ _ _ _ (omega arith)
 
-returns-3 : tie.Need-returns-3
-returns-3 c = bad-sections _ _ _ _ (search rules) (ap (outside 32) c.if3.true)
+returns_3 : tie.Need-returns-then-sections-eq0
+returns_3 c = bad_sections _ _ _ _ (search rules) (ap (outside 32) c.if-sections-eq0.true)
 
-returns-4 : tie.Need-returns-4
-returns-4 c = many-sections _ _ _ _ (search rules) (omega arith)
+returns-4 : tie.Need-returns-then-sections-gt32
+returns-4 c = many_sections _ _ _ _ (search rules) (omega arith)
 
-returns-5 : tie.Need-returns-5
-returns-5 c = bad-count _ _ _ _ (search rules) (search rules) (λ e. omega arith)
+returns_5 : tie.Need-returns-then-events-ne0
+returns_5 c = bad_count _ _ _ _ (search rules) (search rules) (λ e. omega arith)
 
-returns-6 : tie.Need-returns-6
-returns-6 c = bad-count _ _ _ _ (search rules) (search rules) (λ e. omega arith)
+returns-6 : tie.Need-returns-then-events-total
+returns-6 c = bad_count _ _ _ _ (search rules) (search rules) (λ e. omega arith)
 
-returns-7 : tie.Need-returns-7
-returns-7 c = bad-size _ _ _ _ (search rules) (search rules) (omega arith) (omega arith)
+returns-7 : tie.Need-returns-then-sections-events
+returns-7 c = bad_size _ _ _ _ (search rules) (search rules) (omega arith) (omega arith)
 
-returns-8 : tie.Need-returns-8
+returns-8 : tie.Need-returns
 returns-8 c =
-    ap not c.events-good.ensures
-    ∙ by-events _ _ _ _ (search rules) (search rules) (omega arith) (omega arith)
+    ap not c.events_good.ensures
+    ∙ by_events _ _ _ _ (search rules) (search rules) (omega arith) (omega arith)
 
 pub is_bad_spec : {M : Type 1} → statement M
 is_bad_spec =
     tie.close
-    (tie.spec returns returns-2 returns-3 returns-4 returns-5 returns-6 (λ c. search rules) (λ c. search rules)
+    (tie.spec returns returns_2 returns_3 returns-4 returns_5 returns-6 (λ c. search rules) (λ c. search rules)
     (λ c. search rules) returns-7 (λ c κs. search rules) returns-8)

@@ -7,8 +7,8 @@ use Rattle.recording_c.proofs.ocb_recording_read.Tie as tie
 
 returns : tie.Need-returns
 returns c =
-    let r = c.before.before.before.before.before.before.read.ensures in
-    let t = told head_words _ _ _ _ _ r.0 c.answer-held.ensures in
+    let r = c.read.ensures in
+    let t = told head_words _ _ _ _ _ r.0 c.answer_held.ensures in
     (t.0, (r.1.0, (r.1.1, t.1)))
 
 pub ocb_recording_read_spec : {M : Type 1} → statement M

@@ -7,8 +7,8 @@ use Rattle.recording_c.proofs.ocb_recording_write.Tie as tie
 
 returns : tie.Need-returns
 returns c =
-    let w = c.before.before.before.before.write.ensures in
-    let t = told number_words _ _ _ _ _ w.0 c.answer-found.ensures in
+    let w = c.write.ensures in
+    let t = told number_words _ _ _ _ _ w.0 c.answer_found.ensures in
     (t.0, (w.1, t.1))
 
 pub ocb_recording_write_spec : {M : Type 1} → statement M

@@ -14,8 +14,8 @@ ended a b x ws after e t = (t.0 ∙ ap (λ z. z.why) e, t.1 ∙ ap (λ z. positi
 
 returns : tie.Need-returns
 returns c =
-    let p = c.before.before.before.before.replay-own.ensures in
-    let t = ended _ _ _ _ _ p.0 c.answer-end.ensures in
+    let p = c.replay_own.ensures in
+    let t = ended _ _ _ _ _ p.0 c.answer_end.ensures in
     (t.0, (p.1, t.1))
 
 pub ocb_replay_spec : {M : Type 1} → statement M

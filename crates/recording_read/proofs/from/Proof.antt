@@ -9,8 +9,8 @@ use Rattle.recording_read.proofs.from.Tie as tie
 
 returns : tie.Need-returns
 returns c =
-    let bs = c.before.args.bytes.now in
-    let at = c.before.args.at in
+    let bs = c.args.bytes.now in
+    let at = c.args.at in
     let l = length-drop at bs in
     take_all (length bs - at) (drop at bs) (omega arith)
 

@@ -11,28 +11,28 @@ use Rattle.recording.specs.Recording.{count_at}
 use Rattle.recording_read.proofs.put_counts.Statement.{statement}
 use Rattle.recording_read.proofs.put_counts.Tie as tie
 
-abbrev invariant-loop : tie.invariant-loop
+abbrev invariant-loop : tie.invariant-loop-i
 invariant-loop bytes counts₀ sections i₀ counts i =
     (i ≤ sections) × (length counts ≡ length counts₀) × (counts ≡ put counts₀ 0 (list 0 i (count_at bytes)))
 
-abbrev decreases-loop : tie.decreases-loop
+abbrev decreases-loop : tie.decreases-loop-i
 decreases-loop bytes counts₀ sections i₀ counts i = sections - i
 
-loop-again : tie.Need-loop-preserved invariant-loop decreases-loop
-loop-again c =
-    let l = c.before.before in
-    let x = l.before.before.before.args in (
+loop_again : tie.Need-loop-i-preserved invariant-loop decreases-loop
+loop_again c =
+    let l = c in
+    let x = l.args in (
       omega arith,
       simp length-set (omega arith),
-      rw (l.loop.invariant.2, c.number_at.ensures.0) (put_next x.counts.now l.loop.i (count_at x.bytes.now)),
+      rw (l.loop-i.invariant.2, c.number_at.ensures.0) (put_next x.counts.now l.loop-i.i (count_at x.bytes.now)),
     )
 
 returns : tie.Need-returns invariant-loop decreases-loop
-returns c = let e : c.before.loop.i ≡ c.before.before.before.before.args.sections = omega arith in cc
+returns c = let e : c.loop-i.i ≡ c.args.sections = omega arith in cc
 
 pub put_counts_spec : {M : Type 1} → statement M
 put_counts_spec =
     tie.close
     (tie.spec invariant-loop decreases-loop (λ c. (search rules, search rules, sym (put_none _ _))) (λ c. search rules)
     (λ c. search rules) (λ c κs. search rules) (λ c. search rules) (λ c. search rules) (λ c. search rules)
-    (λ c. search rules) loop-again (λ c. search rules) returns)
+    (λ c. search rules) loop_again (λ c. search rules) returns)

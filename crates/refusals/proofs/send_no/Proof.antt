@@ -18,41 +18,39 @@ tests s =
     let a = s.args in
     send_tests (limits_of a.b) a.nodes a.number a.busy a.sends.0 a.to
 
-returns : tie.Need-returns
-returns c = stops_first (tests c.before) (here (le-leb _ _ c.if1.true))
+returns : tie.Need-returns-then-nodes-to
+returns c = stops_first (tests c.before) (here (le-leb _ _ c.if-nodes-to.true))
 
-returns-2 : tie.Need-returns-2
-returns-2 c =
+returns_2 : tie.Need-returns-then-to-number
+returns_2 c =
     stops_first (tests c.before.before)
-    (later (lt-leb _ _ c.before.if1.false) (here (eq-eqb _ _ c.if2.true)))
+    (later (lt-leb _ _ c.if-nodes-to.false) (here (eq-eqb _ _ c.if-to-number.true)))
 
 -- the receiver is another node of the board
-module _ (c : tie.Else2) where
-  below : let a = c.before.before.args in leb a.nodes a.to ≡ false
-  below = lt-leb _ _ c.before.if1.false
+module _ (c : tie.Else-to-number) where
+  below : let a = c.args in leb a.nodes a.to ≡ false
+  below = lt-leb _ _ c.if-nodes-to.false
 
-  other : let a = c.before.before.args in eqb a.to a.number ≡ false
-  other = ne_eqb _ _ c.if2.false
+  other : let a = c.args in eqb a.to a.number ≡ false
+  other = ne_eqb _ _ c.if-to-number.false
 
-returns-3 : tie.Need-returns-3
-returns-3 c =
+returns_3 : tie.Need-returns-then-busy-ne1
+returns_3 c =
     let o = c.before in
-    stops_first (tests o.before.before) (later (below o) (later (other o) (here (ap not (ne_eqb _ 1 c.if3.true)))))
+    stops_first (tests o.before.before) (later (below o) (later (other o) (here (ap not (ne_eqb _ 1 c.if-busy-ne1.true)))))
 
-returns-4 : tie.Need-returns-4
+returns-4 : tie.Need-returns-then-b-sends
 returns-4 c =
-    let w = c.before.before.before in
-    let o = w.before in
+    let o = c.before.before.before.before in
     stops_first (tests o.before.before)
     (later (below o)
-    (later (other o) (later (ap not (eq-eqb _ 1 w.if3.false)) (here (le-leb _ _ c.if4.true)))))
+    (later (other o) (later (ap not (eq-eqb _ 1 c.if-busy-ne1.false)) (here (le-leb _ _ c.if-b-sends.true)))))
 
-returns-5 : tie.Need-returns-5
-returns-5 c =
-    let w = c.before.before.before in
-    let o = w.before in
+returns_5 : tie.Need-returns
+returns_5 c =
+    let o = c.before.before.before.before in
     passes_first (tests o.before.before)
-    (below o, (other o, (ap not (eq-eqb _ 1 w.if3.false), (lt-leb _ _ c.if4.false, tt))))
+    (below o, (other o, (ap not (eq-eqb _ 1 c.if-busy-ne1.false), (lt-leb _ _ c.if-b-sends.false, tt))))
 
 pub send_no_spec : {M : Type 1} → statement M
-send_no_spec = tie.close (tie.spec returns returns-2 returns-3 (λ c. search rules) returns-4 returns-5)
+send_no_spec = tie.close (tie.spec returns returns_2 returns_3 (λ c. search rules) returns-4 returns_5)

@@ -21,69 +21,65 @@ tests s =
     let a = s.args in
     take_tests (limits_of a.b) a.nodes a.number a.here a.takes.0 a.from a.phase
 
-returns : tie.Need-returns
-returns c = stops_first (tests c.before) (here (le-leb _ _ c.if1.true))
+returns : tie.Need-returns-then-nodes-from
+returns c = stops_first (tests c.before) (here (le-leb _ _ c.if-nodes-from.true))
 
-returns-2 : tie.Need-returns-2
-returns-2 c =
+returns_2 : tie.Need-returns-then-from-number
+returns_2 c =
     stops_first (tests c.before.before)
-    (later (lt-leb _ _ c.before.if1.false) (here (eq-eqb _ _ c.if2.true)))
+    (later (lt-leb _ _ c.if-nodes-from.false) (here (eq-eqb _ _ c.if-from-number.true)))
 
 -- the sender is another node of the board, and the timing is looked up
-module _ (c : tie.After-timing-of) where
+module _ (c : tie.After-timing_of-when) where
   abbrev start : tie.Start
   start = c.before.before.before
 
   below : leb start.args.nodes start.args.from ≡ false
-  below = lt-leb _ _ c.before.before.if1.false
+  below = lt-leb _ _ c.if-nodes-from.false
 
   other : eqb start.args.from start.args.number ≡ false
-  other = ne_eqb _ _ c.before.if2.false
+  other = ne_eqb _ _ c.if-from-number.false
 
-  timed : {t : Timing} → c.timing-of.result ≡ t → timing start.args.phase start.args.here ≡ t
-  timed e = sym c.timing-of.ensures ∙ e
+  timed : {t : Timing} → c.timing_of-when.result ≡ t → timing start.args.phase start.args.here ≡ t
+  timed e = sym c.timing_of-when.ensures ∙ e
 
-returns-3 : tie.Need-returns-3
-returns-3 c =
-    let t = c.before.before in
-    let z = timed t c.enum-told2.given.1 in
+returns_3 : tie.Need-returns-in-Early
+returns_3 c =
+    let t = c.before in
+    let z = timed t c.in-Early.is in
     stops_first (tests (start t)) (later (below t) (later (other t) (here (ap is_early z))))
 
-returns-4 : tie.Need-returns-4
+returns-4 : tie.Need-returns-in-Late
 returns-4 c =
-    let t = c.before.before in
-    let z = timed t c.enum-told3.given.1 in
+    let t = c.before in
+    let z = timed t c.in-Late.is in
     stops_first (tests (start t)) (later (below t) (later (other t) (later (ap is_early z) (here (ap is_foreign_work z)))))
 
-returns-5 : tie.Need-returns-5
-returns-5 c =
-    let t = c.before.before in
-    let z = timed t c.enum-told4.given.1 in
+returns_5 : tie.Need-returns-in-Foreign
+returns_5 c =
+    let t = c.before in
+    let z = timed t c.in-Foreign.is in
     stops_first (tests (start t)) (later (below t) (later (other t) (later (ap is_early z) (here (ap is_foreign_work z)))))
 
-returns-6 : tie.Need-returns-6
+returns-6 : tie.Need-returns-then-taken_limit-takes
 returns-6 c =
-    let l = c.before.before in
-    let n = l.before in
-    let t = n.before.before in
-    let z = timed t n.enum_told.given.1 in
+    let t = c.before.before.before.before in
+    let z = timed t c.in-Now.is in
     stops_first (tests (start t))
     (later (below t)
     (later (other t)
     (later (ap is_early z)
-    (later (ap is_foreign_work z) (here (le-leb _ _ (rw l.taken-limit.ensures at c.if3.true)))))))
+    (later (ap is_foreign_work z) (here (le-leb _ _ (rw c.taken_limit.ensures at c.if-taken_limit-takes.true)))))))
 
-returns-7 : tie.Need-returns-7
+returns-7 : tie.Need-returns
 returns-7 c =
-    let l = c.before.before in
-    let n = l.before in
-    let t = n.before.before in
-    let z = timed t n.enum_told.given.1 in
-    let few = lt-leb _ _ (rw l.taken-limit.ensures at c.if3.false) in
+    let t = c.before.before.before.before in
+    let z = timed t c.in-Now.is in
+    let few = lt-leb _ _ (rw c.taken_limit.ensures at c.if-taken_limit-takes.false) in
     passes_first (tests (start t)) (below t, (other t, (ap is_early z, (ap is_foreign_work z, (few, tt)))))
 
 pub take_no_spec : {M : Type 1} → statement M
 take_no_spec =
     tie.close
-    (tie.spec returns returns-2 (λ c κs. search rules) (λ c. search rules) (λ c. search rules) returns-3
-    (λ c. search rules) returns-4 (λ c. search rules) returns-5 (λ c κs. search rules) returns-6 returns-7)
+    (tie.spec returns returns_2 (λ c κs. search rules) (λ c. search rules) (λ c. search rules) returns_3
+    (λ c. search rules) returns-4 (λ c. search rules) returns_5 (λ c κs. search rules) returns-6 returns-7)

@@ -12,31 +12,31 @@ use Rattle.replay_ends.specs.Ends.{start_of}
 use Rattle.replay_ends.proofs.start_of.Statement.{statement}
 use Rattle.replay_ends.proofs.start_of.Tie as tie
 
-bad : (c : tie.Then1) → is_bad_in c.before.before.before.args.recording.now ≡ true
-bad c = not-false _ (sym c.before.is-recording.ensures ∙ not-true _ c.if1.true)
+bad : (c : tie.Then-not-is_recording) → is_bad_in c.args.recording.now ≡ true
+bad c = not-false _ (sym c.is_recording.ensures ∙ c.if-not-is_recording.true)
 
-good : (c : tie.Else1) → is_bad_in c.before.before.before.args.recording.now ≡ false
-good c = not-true _ (sym c.before.is-recording.ensures ∙ not-false _ c.if1.false)
+good : (c : tie.Else-not-is_recording) → is_bad_in c.args.recording.now ≡ false
+good c = not-true _ (sym c.is_recording.ensures ∙ c.if-not-is_recording.false)
 
-returns : tie.Need-returns
+returns : tie.Need-returns-then-not-is_recording
 unfolding start_of
-returns c = rw (bad c.before, c.open-stage.ensures)
+returns c = rw (bad c.before, c.open_stage.ensures)
 
-sub-t9 : tie.Need-overflow-sub-t9
+sub-t9 : tie.Need-overflow_sub-result
 sub-t9 c = let w = held_sizes _ (good c.before.before.before) in omega arith
 
-cast-t13 : tie.Need-overflow-cast-t13
+cast-t13 : tie.Need-overflow_cast-result
 cast-t13 c = let w = held_sizes _ (good c.before.before.before) in omega arith
 
-returns-2 : tie.Need-returns-2
+returns_2 : tie.Need-returns
 unfolding start_of recording_in
-returns-2 c =
-    let b = c.before in
+returns_2 c =
+    let b = c in
     rw (
-      good b.before.before,
-      c.open-stage2.ensures,
-      b.byte-at2.ensures,
-      b.before.byte_at.ensures,
+      good b.before.before.before,
+      c.open_stage-2.ensures,
+      b.byte_at-nodes.ensures,
+      b.byte_at.ensures,
       length-drop,
     )
 
@@ -45,4 +45,4 @@ start_of_spec =
     tie.close
     (tie.spec (λ c κs. search rules) (λ c κs. search rules) returns (λ c κs. search rules) (λ c. search rules)
     (λ c. search rules) (λ c. search rules) (λ c κs. search rules) (λ c. search rules) (λ c κs. search rules) sub-t9
-    cast-t13 returns-2)
+    cast-t13 returns_2)

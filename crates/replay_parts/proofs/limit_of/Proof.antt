@@ -9,24 +9,24 @@ use Rattle.replay_parts.proofs.Places.{event_at}
 use Rattle.replay_parts.proofs.limit_of.Statement.{statement}
 use Rattle.replay_parts.proofs.limit_of.Tie as tie
 
-add-byte-at : tie.Need-overflow-add-byte-at
-add-byte-at c = omega (arith, c.before.shared-slice-known.given 1)
+add-byte-at : tie.Need-overflow_add-place_of
+add-byte-at c = omega (arith, c.shared_slice_known-1.given 1)
 
 -- the byte that is compared is the recorded answer
-recorded : (c : tie.After-byte-at)
-    → let x = c.before.before.before.args in c.byte_at.result ≡ answer_of (recording_in x.recording.now) x.i
+recorded : (c : tie.After-byte_at-recorded)
+    → let x = c.args in c.byte_at-recorded.result ≡ answer_of (recording_in x.recording.now) x.i
 unfolding answer_of
-recorded c = c.byte_at.ensures ∙ event_at _ _ 3 _ (omega arith)
+recorded c = c.byte_at-recorded.ensures ∙ event_at _ _ 3 _ (omega arith)
 
-returns : tie.Need-returns
+returns : tie.Need-returns-then-answer-recorded
 unfolding limit_of
-returns c = rw (eq-eqb _ _ (c.if1.true ∙ recorded c.before))
+returns c = rw (eq-eqb _ _ (c.if-answer-recorded.true ∙ recorded c.before))
 
-returns-2 : tie.Need-returns-2
+returns_2 : tie.Need-returns
 unfolding limit_of
-returns-2 c = rw (ne_eqb _ _ (λ e. c.if1.false (e ∙ sym (recorded c.before))))
+returns_2 c = rw (ne_eqb _ _ (λ e. c.if-answer-recorded.false (e ∙ sym (recorded c.before))))
 
 pub limit_of_spec : {M : Type 1} → statement M
 limit_of_spec =
     tie.close
-    (tie.spec (λ c κs. search rules) add-byte-at (λ c κs. search rules) (λ c. search rules) returns returns-2)
+    (tie.spec (λ c κs. search rules) add-byte-at (λ c κs. search rules) (λ c. search rules) returns returns_2)

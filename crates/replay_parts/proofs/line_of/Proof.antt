@@ -7,21 +7,21 @@ use Rattle.replay_parts.proofs.Places.{event_at}
 use Rattle.replay_parts.proofs.line_of.Statement.{statement}
 use Rattle.replay_parts.proofs.line_of.Tie as tie
 
-add-byte-at-2 : tie.Need-overflow-add-byte-at-2
-add-byte-at-2 c = omega (arith, c.before.before.shared-slice-known.given 1)
+add-byte-at-2 : tie.Need-overflow_add-at-2
+add-byte-at-2 c = omega (arith, c.shared_slice_known-1.given 1)
 
 returns : tie.Need-returns
 unfolding line_of
 returns c =
-    let b = c.before in
-    let s = b.before in
-    let f = s.before in
-    let x = f.before.before.before.args in
-    c.line-by.ensures
+    let b = c in
+    let s = b in
+    let f = s in
+    let x = f.args in
+    c.line_by.ensures
     ∙ rw (
-      b.byte-at3.ensures ∙ event_at x.recording.now x.i 0 _ (omega arith),
-      f.byte_at.ensures ∙ event_at x.recording.now x.i 1 _ (omega arith),
-      s.byte-at2.ensures ∙ event_at x.recording.now x.i 2 _ (omega arith),
+      b.byte_at.ensures ∙ event_at x.recording.now x.i 0 _ (omega arith),
+      f.byte_at-first.ensures ∙ event_at x.recording.now x.i 1 _ (omega arith),
+      s.byte_at-second.ensures ∙ event_at x.recording.now x.i 2 _ (omega arith),
     )
 
 pub line_of_spec : {M : Type 1} → statement M

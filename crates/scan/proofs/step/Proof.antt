@@ -11,8 +11,8 @@ use Rattle.scan.proofs.step.Statement.{statement}
 use Rattle.scan.proofs.step.Tie as tie
 
 -- once pass 1 is done
-module _ (f : tie.After-first-step) where
-  abbrev waits : tie.After-awaits-at
+module _ (f : tie.After-first_step-one) where
+  abbrev waits : tie.After-awaits_at-awaits
   waits = f.before.before
 
   abbrev s : tie.Start
@@ -22,37 +22,35 @@ module _ (f : tie.After-first-step) where
   L = limits_of s.args.b
 
   -- what both passes are handed
-  handed : Told s.args.spot s.args.spot.dims s.args.k waits.awaits-at.result s.args.past
+  handed : Told s.args.spot s.args.spot.dims s.args.k waits.awaits_at-awaits.result s.args.past
   handed =
       steps_told L s.args.first.now s.args.second.now s.args.sums.now s.args.spot s.args.past
-      s.args.k s.pre waits.awaits-at.result waits.awaits-at.ensures
+      s.args.k s.requires waits.awaits_at-awaits.result waits.awaits_at-awaits.ensures
 
   first_done : FirstDone L s.args.first.now s.args.spot s.args.past s.args.k s.args.walked
-      s.args.sums.now f.first_step.last.1.1.0 f.first_step.result
-  first_done = f.first_step.ensures s.args.spot handed s.pre.summed
+      s.args.sums.now f.first_step-one.new.sums f.first_step-one.result
+  first_done = f.first_step-one.ensures s.args.spot handed s.requires.summed
 
-returns : tie.Need-returns
+returns : tie.Need-returns-then-not-one
 returns c =
     let f = c.before.before.before.before in
-    let e = not-true _ c.if1.true in
+    let e = not-true _ c.if-not-one.true in
     record {
-      middle = f.first_step.result;
+      middle = f.first_step-one.result;
       first = first_done f;
       stops = λ q. q;
       second = λ q. clash (sym q ∙ e);
     }
 
-returns-2 : tie.Need-returns-2
-returns-2 c =
-    let d = c.before in
-    let e = d.before in
-    let f = e.before.before.before.before in
+returns_2 : tie.Need-returns
+returns_2 c =
+    let f = c.before.before.before.before.before.before in
     let a = (s f).args in
-    let one = f.first_step.result in
-    let waits = (waits f).awaits-at.result in
-    let ok = not-false _ e.if1.false in
-    let done = c.second-step.ensures
-    ∙ ap (λ x. confirm_step (L f) x a.spot.dims a.k waits a.past one a.spot.agreed) d.confirmed-in.ensures in
+    let one = f.first_step-one.result in
+    let waits = (waits f).awaits_at-awaits.result in
+    let ok = not-false _ c.if-not-one.false in
+    let done = c.second_step.ensures
+    ∙ ap (λ x. confirm_step (L f) x a.spot.dims a.k waits a.past one a.spot.agreed) c.confirmed_in-frame.ensures in
     record {
       middle = one;
       first = first_done f;
@@ -65,6 +63,6 @@ returns-2 c =
 pub step_spec : {M : Type 1} → statement M
 step_spec =
     tie.close
-    (tie.spec (λ c κs. tt) (λ c κs. c.before.before.before.before.before.requires.first)
-    (λ c. (first_done c.before.before.before.before).length) returns (λ c κs. (s c.before.before.before.before).pre.second)
-    (λ c κs. tt) (λ c. (first_done c.before.before.before.before.before.before).length) returns-2)
+    (tie.spec (λ c κs. tt) (λ c κs. c.requires.first)
+    (λ c. (first_done c.before.before.before.before).length) returns (λ c κs. (s c.before.before.before.before).requires.second)
+    (λ c κs. tt) (λ c. (first_done c.before.before.before.before.before.before).length) returns_2)

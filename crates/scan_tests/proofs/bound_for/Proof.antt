@@ -3,11 +3,11 @@ use borrow.Author.Tests.{eq-eqb, ne_eqb}
 use Rattle.scan_tests.proofs.bound_for.Statement.{statement}
 use Rattle.scan_tests.proofs.bound_for.Tie as tie
 
-returns : tie.Need-returns
-returns c = rw (eq-eqb _ _ c.if1.true)
+returns : tie.Need-returns-then-mark-eq0
+returns c = rw (eq-eqb _ _ c.if-mark-eq0.true)
 
-returns-2 : tie.Need-returns-2
-returns-2 c = rw (ne_eqb _ _ c.if1.false)
+returns_2 : tie.Need-returns
+returns_2 c = rw (ne_eqb _ _ c.if-mark-eq0.false)
 
 pub bound_for_spec : {M : Type 1} → statement M
-bound_for_spec = tie.close (tie.spec returns returns-2)
+bound_for_spec = tie.close (tie.spec returns returns_2)

@@ -28,13 +28,13 @@ swapped true false = refl
 swapped false true = refl
 swapped false false = refl
 
-returns : tie.Need-returns
-returns c = let a = c.before.args in λ limit. over a.a a.b limit (omega (arith, c.if1.true))
+returns : tie.Need-returns-then-a-b
+returns c = let a = c.args in λ limit. over a.a a.b limit (omega (arith, c.if-a-b.true))
 
-returns-2 : tie.Need-returns-2
-returns-2 c =
-    let a = c.before.args in
-    λ limit. over a.b a.a limit (omega (arith, c.if1.false)) ∙ swapped (leb a.b limit) (leb a.a limit)
+returns_2 : tie.Need-returns
+returns_2 c =
+    let a = c.args in
+    λ limit. over a.b a.a limit (omega (arith, c.if-a-b.false)) ∙ swapped (leb a.b limit) (leb a.a limit)
 
 pub larger_spec : {M : Type 1} → statement M
-larger_spec = tie.close (tie.spec returns returns-2)
+larger_spec = tie.close (tie.spec returns returns_2)

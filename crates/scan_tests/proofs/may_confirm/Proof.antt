@@ -1,5 +1,5 @@
 -- `may_confirm`: a mark that may stand, and numbers within its bound.
-use borrow.Author.Tests.{eq-eqb, ne_eqb, le-leb, lt-leb, not-true, not-false}
+use borrow.Author.Tests.{eq-eqb, ne_eqb, le-leb, lt-leb}
 use native.Mathlib.Omega.{arith}
 use mathlib.Core.Path.{◌≡◌, refl, sym, ap, ◌∙◌}
 use mathlib.Core.Bool.{Bool, false}
@@ -25,56 +25,56 @@ module _ (mark agreed issued : ℕ) (awaited : Bool) (limit : ℕ) where
   some : mark ≡ 1 → may_confirm mark agreed issued awaited limit ≡ both awaited (both (leb agreed limit) (leb issued limit))
   some e = rw e
 
-returns : tie.Need-returns
+returns : tie.Need-returns-then-agreed-eq0
 returns c =
-    let two = c.before in
-    let a = two.before.before.args in
+    let two = c in
+    let a = two.args in
     sym
-    (none a.mark a.agreed a.issued.0 a.awaited a.limit two.before.if1.true
-    ∙ ap (λ t. both t (eqb a.issued.0 0)) (eq-eqb _ _ two.if2.true))
+    (none a.mark a.agreed a.issued.0 a.awaited a.limit two.if-mark-eq0.true
+    ∙ ap (λ t. both t (eqb a.issued.0 0)) (eq-eqb _ _ two.if-agreed-eq0.true))
 
-returns-2 : tie.Need-returns-2
-returns-2 c =
-    let a = c.before.before.args in
-    let e = ne_eqb _ _ c.if2.false in
+returns_2 : tie.Need-returns-else-agreed-eq0
+returns_2 c =
+    let a = c.args in
+    let e = ne_eqb _ _ c.if-agreed-eq0.false in
     e
     ∙ sym
-    (none a.mark a.agreed a.issued.0 a.awaited a.limit c.before.if1.true
+    (none a.mark a.agreed a.issued.0 a.awaited a.limit c.if-mark-eq0.true
     ∙ ap (λ t. both t (eqb a.issued.0 0)) e)
 
-returns-3 : tie.Need-returns-3
-returns-3 c =
-    let a = c.before.before.args in
-    sym (other a.mark a.agreed a.issued.0 a.awaited a.limit c.before.if1.false c.if3.true)
+returns_3 : tie.Need-returns-then-mark-ne1
+returns_3 c =
+    let a = c.args in
+    sym (other a.mark a.agreed a.issued.0 a.awaited a.limit c.if-mark-eq0.false c.if-mark-ne1.true)
 
-returns-4 : tie.Need-returns-4
+returns-4 : tie.Need-returns-then-not-awaited
 returns-4 c =
-    let a = c.before.before.before.args in
+    let a = c.args in
     sym
-    (some a.mark a.agreed a.issued.0 a.awaited a.limit c.before.if3.false
-    ∙ ap (λ t. both t (both (leb a.agreed a.limit) (leb a.issued.0 a.limit))) (not-true a.awaited c.if4.true))
+    (some a.mark a.agreed a.issued.0 a.awaited a.limit c.if-mark-ne1.false
+    ∙ ap (λ t. both t (both (leb a.agreed a.limit) (leb a.issued.0 a.limit))) c.if-not-awaited.true)
 
 -- a frame that is awaited
-awaited : (o : tie.Else4)
-    → let a = o.before.before.before.args in
+awaited : (o : tie.Else-not-awaited)
+    → let a = o.args in
     may_confirm a.mark a.agreed a.issued.0 a.awaited a.limit
     ≡ both (leb a.agreed a.limit) (leb a.issued.0 a.limit)
 awaited o =
-    let a = o.before.before.before.args in
-    some a.mark a.agreed a.issued.0 a.awaited a.limit o.before.if3.false
-    ∙ ap (λ t. both t (both (leb a.agreed a.limit) (leb a.issued.0 a.limit))) (not-false a.awaited o.if4.false)
+    let a = o.args in
+    some a.mark a.agreed a.issued.0 a.awaited a.limit o.if-mark-ne1.false
+    ∙ ap (λ t. both t (both (leb a.agreed a.limit) (leb a.issued.0 a.limit))) o.if-not-awaited.false
 
-returns-5 : tie.Need-returns-5
-returns-5 c =
-    let five = c.before in
-    let a = five.before.before.before.before.args in
-    sym (awaited five.before ∙ ap (λ t. both t (leb a.issued.0 a.limit)) (le-leb _ _ five.if5.true))
+returns_5 : tie.Need-returns-then-agreed-limit
+returns_5 c =
+    let five = c in
+    let a = five.args in
+    sym (awaited five.before.before ∙ ap (λ t. both t (leb a.issued.0 a.limit)) (le-leb _ _ five.if-agreed-limit.true))
 
-returns-6 : tie.Need-returns-6
+returns-6 : tie.Need-returns-else-agreed-limit
 returns-6 c =
-    let a = c.before.before.before.before.args in
-    let e = lt-leb a.agreed a.limit (omega (arith, c.if5.false)) in
+    let a = c.args in
+    let e = lt-leb a.agreed a.limit (omega (arith, c.if-agreed-limit.false)) in
     e ∙ sym (awaited c.before ∙ ap (λ t. both t (leb a.issued.0 a.limit)) e)
 
 pub may_confirm_spec : {M : Type 1} → statement M
-may_confirm_spec = tie.close (tie.spec returns returns-2 returns-3 returns-4 returns-5 returns-6)
+may_confirm_spec = tie.close (tie.spec returns returns_2 returns_3 returns-4 returns_5 returns-6)

@@ -3,14 +3,14 @@ use borrow.Author.Tests.{eq-eqb, ne_eqb}
 use Rattle.scan_tests.proofs.may_mark.Statement.{statement}
 use Rattle.scan_tests.proofs.may_mark.Tie as tie
 
-returns : tie.Need-returns
-returns c = rw (eq-eqb _ _ c.if1.true)
+returns : tie.Need-returns-then-mark-eq0
+returns c = rw (eq-eqb _ _ c.if-mark-eq0.true)
 
-returns-2 : tie.Need-returns-2
-returns-2 c = rw (ne_eqb _ _ c.before.if1.false, ne_eqb _ _ c.if2.true)
+returns_2 : tie.Need-returns-then-mark-ne1
+returns_2 c = rw (ne_eqb _ _ c.if-mark-eq0.false, ne_eqb _ _ c.if-mark-ne1.true)
 
-returns-3 : tie.Need-returns-3
-returns-3 c = rw c.if2.false
+returns_3 : tie.Need-returns
+returns_3 c = rw c.if-mark-ne1.false
 
 pub may_mark_spec : {M : Type 1} → statement M
-may_mark_spec = tie.close (tie.spec returns returns-2 returns-3)
+may_mark_spec = tie.close (tie.spec returns returns_2 returns_3)

@@ -9,8 +9,8 @@ use Rattle.script.proofs.from.Tie as tie
 
 returns : tie.Need-returns
 returns c =
-    let s = c.before.args.s.now in
-    let at = c.before.args.at in
+    let s = c.args.s.now in
+    let at = c.args.at in
     let l = length-drop at s in
     take_all (length s - at) (drop at s) (omega arith)
 

@@ -7,8 +7,8 @@ use Rattle.script_events.proofs.answer_at.Tie as tie
 
 returns : tie.Need-returns
 returns c =
-    let u = c.before in
-    rw (← u.before.from.ensures) (c.answer-of.ensures ∙ ap answer_of u.up_to_lem.ensures)
+    let u = c in
+    rw (← u.from-rest.ensures) (c.answer_of.ensures ∙ ap answer_of u.up_to.ensures)
 
 pub answer_at_spec : {M : Type 1} → statement M
 answer_at_spec = tie.close (tie.spec (λ c κs. search rules) (λ c κs. search rules) (λ c κs. search rules) returns)

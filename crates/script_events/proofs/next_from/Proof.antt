@@ -1,31 +1,31 @@
 -- `next_from` is `next_from`.
 use borrow.Author.Rules.{rules}
 use native.Mathlib.Omega.{arith}
-use Rattle.script_events.proofs.Events.{left, next-there, next-none}
+use Rattle.script_events.proofs.Events.{left, next_there, next_none}
 use Rattle.script_events.proofs.next_from.Statement.{statement}
 use Rattle.script_events.proofs.next_from.Tie as tie
 
-add-result : tie.Need-overflow-add-result
+add-result : tie.Need-overflow_add-result
 add-result c =
-    let f = c.before.before in
-    omega (arith, left f.before.before.args.text.now f.before.before.args.at _ f.from.ensures)
+    let f = c in
+    omega (arith, left f.args.text.now f.args.at _ f.from-rest.ensures)
 
-add-result-2 : tie.Need-overflow-add-result-2
+add-result-2 : tie.Need-overflow_add-result-then-n-rest
 add-result-2 c =
-    let f = c.before.before in
-    omega (arith, left f.before.before.args.text.now f.before.before.args.at _ f.from.ensures)
+    let f = c in
+    omega (arith, left f.args.text.now f.args.at _ f.from-rest.ensures)
 
-returns : tie.Need-returns
+returns : tie.Need-returns-then-n-rest
 returns c =
-    let f = c.before in
-    next-there _ _ _ f.before.from.ensures _ f.find.ensures.0 c.if1.true
+    let f = c in
+    next_there _ _ _ f.from-rest.ensures _ f.find-n.ensures.0 c.if-n-rest.true
 
-returns-2 : tie.Need-returns-2
-returns-2 c =
-    let f = c.before in
-    next-none _ _ _ f.before.from.ensures _ f.find.ensures.0 c.if1.false
+returns_2 : tie.Need-returns
+returns_2 c =
+    let f = c in
+    next_none _ _ _ f.from-rest.ensures _ f.find-n.ensures.0 c.if-n-rest.false
 
 pub next_from_spec : {M : Type 1} → statement M
 next_from_spec =
     tie.close
-    (tie.spec (λ c κs. search rules) (λ c κs. search rules) add-result add-result-2 returns returns-2)
+    (tie.spec (λ c κs. search rules) (λ c κs. search rules) add-result add-result-2 returns returns_2)

@@ -10,11 +10,11 @@ use Rattle.script_events.proofs.stop_at.Statement.{statement}
 use Rattle.script_events.proofs.stop_at.Tie as tie
 
 there : (c : tie.After-find)
-    → let at = c.before.before.next-from.result + c.find.result in
-    let text = c.before.before.before.before.args.text.now in
+    → let at = c.next_from-at.result + c.find.result in
+    let text = c.args.text.now in
     (at ≡ stop_at text) × (at ≤ length text)
 there c =
-    let f = c.before in stop_there _ _ f.before.next-from.ensures _ f.from.ensures _ c.find.ensures
+    let f = c in stop_there _ _ f.next_from-at.ensures _ f.from-rest.ensures _ c.find.ensures
 
 pub stop_at_spec : {M : Type 1} → statement M
 stop_at_spec =

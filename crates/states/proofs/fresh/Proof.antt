@@ -6,7 +6,7 @@ use Rattle.states.proofs.fresh.Tie as tie
 
 returns : tie.Need-returns
 unfolding fresh_state
-returns c = let s = c.before in let l = s.before.before in rw (← l.of-build.ensures) (λ i. record { words = s.fresh.ensures.1 i })
+returns c = let s = c in let l = s in rw (← l.of_build.ensures) (λ i. record { words = s.fresh.ensures.1 i })
 
 pub fresh_spec : {M : Type 1} → statement M
 fresh_spec = tie.close (tie.spec (λ c κs. search rules) (λ c. search rules) (λ c κs. search rules) returns)

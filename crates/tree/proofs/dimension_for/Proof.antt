@@ -12,33 +12,33 @@ use Rattle.tree.proofs.Dimension.{dimension_one, dimension_zeros}
 use Rattle.tree.proofs.dimension_for.Statement.{statement}
 use Rattle.tree.proofs.dimension_for.Tie as tie
 
-returns : tie.Need-returns
+returns : tie.Need-returns-then-nodes-eq0
 unfolding dimension_lookup
-returns c = simp (eq-eqb _ _ c.if1.true)
+returns c = simp (eq-eqb _ _ c.if-nodes-eq0.true)
 
-returns-2 : tie.Need-returns-2
+returns_2 : tie.Need-returns-then-most-nodes
 unfolding dimension_lookup
-returns-2 c =
-    let a = c.before.before.before.args in
-    simp (ne_eqb _ _ c.before.if1.false, lt-ltb (suc (last_of a.b)) a.nodes (omega arith))
+returns_2 c =
+    let a = c.args in
+    simp (ne_eqb _ _ c.if-nodes-eq0.false, lt-ltb (suc (last_of a.b)) a.nodes (omega arith))
 
-returns-3 : tie.Need-returns-3
+returns_3 : tie.Need-returns-then-nodes-eq1
 unfolding dimension_lookup
-returns-3 c =
-    let a = c.before.before.before.before.args in
-    simp (c.if3.true, le-ltb (suc (last_of a.b)) 1 (omega arith), dimension_one)
+returns_3 c =
+    let a = c.args in
+    simp (c.if-nodes-eq1.true, le-ltb (suc (last_of a.b)) 1 (omega arith), dimension_one)
 
-returns-4 : tie.Need-returns-4
+returns-4 : tie.Need-returns
 unfolding dimension_lookup
 returns-4 c =
-    let a = c.before.before.before.before.args in
+    let a = c.args in
     let low : a.nodes ≤ suc (last_of a.b) = omega arith in
-    simp (ne_eqb _ _ c.before.before.if1.false, le-ltb (suc (last_of a.b)) a.nodes low)
+    simp (ne_eqb _ _ c.if-nodes-eq0.false, le-ltb (suc (last_of a.b)) a.nodes low)
     (ap found (omega (
       arith,
-      dimension_zeros 32 a.nodes (omega (arith, c.before.before.if1.false, c.if3.false)) (omega arith),
+      dimension_zeros 32 a.nodes (omega (arith, c.if-nodes-eq0.false, c.if-nodes-eq1.false)) (omega arith),
     )))
 
 pub dimension_for_spec : {M : Type 1} → statement M
 dimension_for_spec =
-    tie.close (tie.spec (λ c. search rules) (λ c. search rules) returns returns-2 returns-3 (λ c. search rules) (λ c. leading_le _ _) returns-4)
+    tie.close (tie.spec (λ c. search rules) (λ c. search rules) returns returns_2 returns_3 (λ c. search rules) (λ c. leading_le _ _) returns-4)

@@ -10,12 +10,12 @@ use Rattle.turn_deliver.proofs.frame_call.Tie as tie
 
 returns : tie.Need-returns
 returns c =
-    let read = c.before.before in
-    let start = read.before.before.before.before in
+    let read = c in
+    let start = read in
     let x = start.args in
-    c.frame-in.ensures
+    c.frame_in.ensures
     ∙ ap (λ bs. on_state (λ n. frame_in base n bs) x.s)
-    (held _ x.size x.at _ (read.stated-on.ensures.0 start.requires.0))
+    (held _ x.size x.at _ (read.stated_on.ensures.0 start.requires.0))
 
 pub frame_call_spec : {M : Type 1} → statement M
 frame_call_spec =

@@ -19,8 +19,8 @@ part_called bytes place s k e = rw e refl
 
 returns : tie.Need-returns
 returns c =
-    let b = c.before.before in
-    let x = b.before.before.before.args in
+    let b = c in
+    let x = b.args in
     let a = place_size * x.place in
     let z : a + place_size - a ≡ place_size = omega arith in
     rw b.step.ensures.1 (part_called x.bytes.now x.place x.s (a + place_size - a) z)

@@ -12,13 +12,13 @@ use Rattle.turn_send.proofs.idle_act.Tie as tie
 
 returns : tie.Need-returns
 returns c =
-    let board = c.before.before in
-    let asked = board.before.before in
-    let x = asked.before.before.args in
-    let e : on_state (idle base) (state_at x.st x.a) ≡ replied asked.go-idle.result =
-    ap (on_state (idle base)) (sym asked.before.state-at.ensures.0) ∙ sym asked.go-idle.ensures in
+    let board = c in
+    let asked = board in
+    let x = asked.args in
+    let e : on_state (idle base) (state_at x.st x.a) ≡ replied asked.go_idle-r.result =
+    ap (on_state (idle base)) (sym asked.state_at-n.ensures.0) ∙ sym asked.go_idle-r.ensures in
     c.quiet.ensures
-    ∙ (λ i. quiet x.st x.headers (board.with-state.ensures i) x.a (c.before.number_of_lem.ensures i))
+    ∙ (λ i. quiet x.st x.headers (board.with_state-after.ensures i) x.a (c.number_of.ensures i))
     ∙ sym (idle_by x.st x.headers x.a _ e)
 
 pub idle_act_spec : {M : Type 1} → statement M

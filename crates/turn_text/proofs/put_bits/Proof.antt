@@ -12,10 +12,10 @@ same_bits a b c d p q = cc
 
 returns : tie.Need-returns
 returns c =
-    let second = c.before.before in
-    let first = second.before.before.before.before.before in
-    said _ _ _ _ _ _ (same_bits _ _ _ _ first.before.bit-of.ensures second.before.bit-of2.ensures)
-    (then _ _ _ (_ ∷ 32 ∷ []) (_ ∷ 10 ∷ []) _ _ _ first.put_two.ensures second.put-two2.ensures)
+    let second = c in
+    let first = second in
+    said _ _ _ _ _ _ (same_bits _ _ _ _ first.bit_of.ensures second.bit_of-2.ensures)
+    (then _ _ _ (_ ∷ 32 ∷ []) (_ ∷ 10 ∷ []) _ _ _ first.put_two-next.ensures second.put_two.ensures)
 
 pub put_bits_spec : {M : Type 1} → statement M
 put_bits_spec =

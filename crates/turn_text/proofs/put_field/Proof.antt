@@ -8,9 +8,9 @@ use Rattle.turn_text.proofs.put_field.Tie as tie
 
 returns : tie.Need-returns
 returns c =
-    let blank = c.before.before in
-    let number = blank.before.before.before.before in
-    then _ _ _ (digits _) (32 ∷ []) _ _ _ number.put-digits.ensures blank.put_byte.ensures
+    let blank = c in
+    let number = blank in
+    then _ _ _ (digits _) (32 ∷ []) _ _ _ number.put_digits-next.ensures blank.put_byte.ensures
 
 pub put_field_spec : {M : Type 1} → statement M
 put_field_spec =

@@ -7,19 +7,19 @@ use Rattle.turn_text.proofs.put_turn.Tie as tie
 
 returns : tie.Need-returns
 returns c =
-    let bits = c.before.before in
-    let dim = bits.before.before.before.before in
-    let pass = dim.before.before.before.before in
-    let phase = pass.before.before.before.before in
-    let answer = phase.before.before.before.before in
-    let actor = answer.before.before.before.before in
-    let two = then _ _ _ _ _ _ _ _ actor.put-field.ensures answer.put-field2.ensures in
-    let three = then _ _ _ _ _ _ _ _ two phase.put-field3.ensures in
-    let four = then _ _ _ _ _ _ _ _ three pass.put-field4.ensures in
-    let five = then _ _ _ _ _ _ _ _ four dim.put-field5.ensures in
+    let bits = c in
+    let dim = bits in
+    let pass = dim in
+    let phase = pass in
+    let answer = phase in
+    let actor = answer in
+    let two = then _ _ _ _ _ _ _ _ actor.put_field-a.ensures answer.put_field-b.ensures in
+    let three = then _ _ _ _ _ _ _ _ two phase.put_field-c.ensures in
+    let four = then _ _ _ _ _ _ _ _ three pass.put_field-d.ensures in
+    let five = then _ _ _ _ _ _ _ _ four dim.put_field-e.ensures in
     said _ _ _ _ _ _
     (row_text_lem _ _ _ _ _ _ _)
-    (then _ _ _ _ _ _ _ _ five bits.put-bits.ensures)
+    (then _ _ _ _ _ _ _ _ five bits.put_bits.ensures)
 
 pub put_turn_spec : {M : Type 1} → statement M
 put_turn_spec =

@@ -13,32 +13,32 @@ use Rattle.frame.specs.Frame.{frame_length}
 use Rattle.under_way.proofs.stated_on.Statement.{statement}
 use Rattle.under_way.proofs.stated_on.Tie as tie
 
-returns : tie.Need-returns
+returns : tie.Need-returns-in_default
 returns c =
-    let d = c.before.before.dimension-of in
-    let bad = dimension_refused base _ _ (sym d.ensures ∙ ap found_answer c.enum_told.given.1) in
+    let d = c.dimension_of in
+    let bad = dimension_refused base _ _ (sym d.ensures ∙ ap found_answer c.in_default.is) in
     (λ g. clash (sym bad ∙ g), omega arith)
 
 -- a board that has a dimension is within the limits
-found : (c : tie.After-d)
-    → (c.d.given.0.0 ≡ dimension c.before.before.before.args.size) × (c.d.given.0.0 ≤ width)
+found : (c : tie.In-Is)
+    → (c.in-Is.d ≡ dimension c.args.size) × (c.in-Is.d ≤ width)
 found c =
-    let d = c.before.before.dimension-of in
-    let e = dimension_found base _ _ (sym d.ensures ∙ ap found_answer c.d.given.1) in
-    let b = board_good base c.before.before.before.args.size e.0 in
-    (e.1, omega (arith, e.1, smallest c.before.before.before.args.size width (omega arith)))
+    let d = c.dimension_of in
+    let e = dimension_found base _ _ (sym d.ensures ∙ ap found_answer c.in-Is.is) in
+    let b = board_good base c.args.size e.0 in
+    (e.1, omega (arith, e.1, smallest c.args.size width (omega arith)))
 
 stated-requires : tie.Need-stated-requires
-stated-requires c κs = (found c.before).1
+stated-requires c κs = (found c).1
 
-returns-2 : tie.Need-returns-2
-returns-2 c =
-    let x = c.before.before.before.before.before.args in
-    let e = ap (λ p. frame_length p x.pass x.k) (found c.before.before).0 in
+returns_2 : tie.Need-returns
+returns_2 c =
+    let x = c.args in
+    let e = ap (λ p. frame_length p x.pass x.k) (found c.before).0 in
     (λ g. c.stated.ensures.0 ∙ e, c.stated.ensures.1)
 
 pub stated_on_spec : {M : Type 1} → statement M
 stated_on_spec =
     tie.close
     (tie.spec (λ c κs. search rules) (λ c. search rules) (λ c. search rules) returns (λ c. search rules)
-    stated-requires returns-2)
+    stated-requires returns_2)

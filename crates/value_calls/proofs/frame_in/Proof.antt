@@ -7,10 +7,10 @@ use Rattle.value_calls.proofs.frame_in.Tie as tie
 
 returns : tie.Need-returns
 returns c =
-    let s = c.before in
-    let l = s.before.before in
-    let a = l.before.before.before.args in
-    called _ l.of-build.ensures _ (λ L n. frame_in L n a.bytes.now) _ _ s.frame-in.ensures
+    let s = c in
+    let l = s in
+    let a = l.args in
+    called _ l.of_build.ensures _ (λ L n. frame_in L n a.bytes.now) _ _ s.frame_in-answer.ensures
 
 pub frame_in_spec : {M : Type 1} → statement M
 frame_in_spec = tie.close (tie.spec (λ c κs. search rules) (λ c. search rules) (λ c κs. search rules) returns)

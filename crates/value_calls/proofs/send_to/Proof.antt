@@ -7,10 +7,10 @@ use Rattle.value_calls.proofs.send_to.Tie as tie
 
 returns : tie.Need-returns
 returns c =
-    let s = c.before in
-    let l = s.before.before in
-    let a = l.before.before.args in
-    called _ l.of-build.ensures _ (λ L n. send L n a.to) _ _ s.send-to.ensures
+    let s = c in
+    let l = s in
+    let a = l.args in
+    called _ l.of_build.ensures _ (λ L n. send L n a.to) _ _ s.send_to-answer.ensures
 
 pub send_to_spec : {M : Type 1} → statement M
 send_to_spec = tie.close (tie.spec (λ c κs. search rules) (λ c. search rules) (λ c κs. search rules) returns)

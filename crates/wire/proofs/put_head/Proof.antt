@@ -9,14 +9,14 @@ use Rattle.frame.proofs.Pasting.{put_four}
 use Rattle.wire.proofs.put_head.Statement.{statement}
 use Rattle.wire.proofs.put_head.Tie as tie
 
-returns : tie.Need-returns
-returns c = sym (choose_no _ _ (lt-leb _ _ c.if1.true))
+returns : tie.Need-returns-then-buf-lt4
+returns c = sym (choose_no _ _ (lt-leb _ _ c.if-buf-lt4.true))
 
-returns-2 : tie.Need-returns-2
-returns-2 c = put_four _ 0 _ _ _ _ c.if1.false ∙ sym (choose_yes _ _ (le-leb _ _ c.if1.false))
+returns_2 : tie.Need-returns
+returns_2 c = put_four _ 0 _ _ _ _ c.if-buf-lt4.false ∙ sym (choose_yes _ _ (le-leb _ _ c.if-buf-lt4.false))
 
 pub put_head_spec : {M : Type 1} → statement M
 put_head_spec =
     tie.close
     (tie.spec returns (λ c. search rules) (λ c. simp length-set (omega arith)) (λ c. simp length-set (omega arith))
-    (λ c. search rules) (λ c. search rules) returns-2)
+    (λ c. search rules) (λ c. search rules) returns_2)

@@ -10,48 +10,48 @@ use Rattle.wire.proofs.Copies.{put_none, put_more, put_no, put_yes}
 use Rattle.wire.proofs.put_numbers.Statement.{statement}
 use Rattle.wire.proofs.put_numbers.Tie as tie
 
-abbrev invariant-loop : tie.invariant-loop
+abbrev invariant-loop : tie.invariant-loop-i
 invariant-loop buf₀ at words to₀ i₀ i-end buf to i =
     (i ≤ i-end)
     × (to ≡ at + 4 * i)
     × (length buf ≡ length buf₀)
     × (buf ≡ pasted buf₀ at (bytes_of (take i words)))
 
-abbrev decreases-loop : tie.decreases-loop
+abbrev decreases-loop : tie.decreases-loop-i
 decreases-loop buf₀ at words to₀ i₀ i-end buf to i = i-end - i
 
-returns : tie.Need-returns invariant-loop decreases-loop
-returns c = let x = c.before.before.before.args in put_no x.buf.now x.words.now x.at (omega arith)
+returns : tie.Need-returns-then-buf-to invariant-loop decreases-loop
+returns c = let x = c.args in put_no x.buf.now x.words.now x.at (omega arith)
 
-returns-2 : tie.Need-returns-2 invariant-loop decreases-loop
-returns-2 c =
-    let x = c.before.before.before.before.args in put_no x.buf.now x.words.now x.at (omega arith)
+returns_2 : tie.Need-returns-then-buf-to-2 invariant-loop decreases-loop
+returns_2 c =
+    let x = c.args in put_no x.buf.now x.words.now x.at (omega arith)
 
-loop-holds : tie.Need-loop-init invariant-loop decreases-loop
-loop-holds c =
-    let x = c.before.before.before.before.args in
+loop_holds : tie.Need-loop-i-init invariant-loop decreases-loop
+loop_holds c =
+    let x = c.args in
     (search rules, search rules, search rules, put_none _ x.words.now _)
 
-loop-again : tie.Need-loop-preserved invariant-loop decreases-loop
-loop-again c =
-    let l = c.before.before.before.before.before.before in
-    let x = l.before.before.before.before.before.args in (
+loop_again : tie.Need-loop-i-preserved invariant-loop decreases-loop
+loop_again c =
+    let l = c in
+    let x = l.args in (
       search rules,
       search rules,
       search rules,
-      put_more _ _ _ x.words.now x.at _ l.loop.i (omega arith) (omega arith) l.loop.invariant.1
-          l.loop.invariant.3 c.before.before.put_word.ensures,
+      put_more _ _ _ x.words.now x.at _ l.loop-i.i (omega arith) (omega arith) l.loop-i.invariant.1
+          l.loop-i.invariant.3 c.put_word.ensures,
     )
 
-returns-3 : tie.Need-returns-3 invariant-loop decreases-loop
-returns-3 c =
-    let x = c.before.before.before.before.before.before.args in
-    let l = c.before.loop in
+returns_3 : tie.Need-returns invariant-loop decreases-loop
+returns_3 c =
+    let x = c.args in
+    let l = c.loop-i in
     put_yes x.buf.now _ x.words.now x.at l.i (omega arith) (omega arith) l.invariant.3
 
 pub put_numbers_spec : {M : Type 1} → statement M
 put_numbers_spec =
     tie.close
-    (tie.spec invariant-loop decreases-loop returns (λ c. search rules) returns-2 loop-holds (λ c. search rules) (λ c. search rules)
-    (λ c κs. search rules) (λ c. search rules) (λ c. search rules) (λ c. search rules) loop-again (λ c. search rules)
-    returns-3)
+    (tie.spec invariant-loop decreases-loop returns (λ c. search rules) returns_2 loop_holds (λ c. search rules) (λ c. search rules)
+    (λ c κs. search rules) (λ c. search rules) (λ c. search rules) (λ c. search rules) loop_again (λ c. search rules)
+    returns_3)

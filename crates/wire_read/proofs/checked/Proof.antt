@@ -1,6 +1,5 @@
 -- `checked` answers as the reader does: each test is the definition's, in its order.
 use borrow.Author.Rules.{rules}
-use borrow.Author.Tests.{not-true, not-false}
 use native.Mathlib.Omega.{arith}
 use mathlib.Core.Path.{◌≡◌, sym, ap, ◌∙◌}
 use mathlib.Core.Bool.{false}
@@ -16,156 +15,143 @@ use Rattle.tree.specs.Lookups.{bad_board, found_answer}
 use Rattle.tree.proofs.Lookups.{dimension_refused, dimension_found}
 use Rattle.frame.specs.Frame.{bad_step, frame_length, number_at, numbers_ok, fields_of, answer_of}
 use Rattle.frame.proofs.RoundTripChecks.{step_known}
-use Rattle.frame.proofs.Answers.{read-board, read_short, read_step, read_length, read-numbers, read-stranger}
+use Rattle.frame.proofs.Answers.{read_board, read_short, read_step, read_length, read_numbers, read_stranger}
 use Rattle.frame.proofs.Answers.{read_found}
 use Rattle.wire_read.proofs.Places.{sized}
 use Rattle.wire_read.proofs.Within.{few, within}
 use Rattle.wire_read.proofs.checked.Statement.{statement}
 use Rattle.wire_read.proofs.checked.Tie as tie
 
-returns : tie.Need-returns
+returns : tie.Need-returns-in_default
 returns c =
-    let d = c.before.before.dimension-for in
-    let L = limits_of c.before.before.before.before.args.b in
-    let b = dimension_refused L _ _ (sym d.ensures ∙ ap found_answer c.enum_told.given.1) in
-    ap answer_of (sym (read-board L _ _ b))
+    let d = c.dimension_for in
+    let L = limits_of c.args.b in
+    let b = dimension_refused L _ _ (sym d.ensures ∙ ap found_answer c.in_default.is) in
+    ap answer_of (sym (read_board L _ _ b))
 
 -- what is handed, and the dimension found
-abbrev limits : tie.After-known-told → Limits
-limits k = limits_of k.before.before.before.before.before.args.b
+abbrev limits : tie.In-Is → Limits
+limits k = limits_of k.args.b
 
-abbrev nodes : tie.After-known-told → ℕ
-nodes k = k.before.before.before.before.before.args.nodes
+abbrev nodes : tie.In-Is → ℕ
+nodes k = k.args.nodes
 
-abbrev bytes : tie.After-known-told → List ℕ
-bytes k = k.before.before.before.before.before.args.bytes.now
+abbrev bytes : tie.In-Is → List ℕ
+bytes k = k.args.bytes.now
 
-abbrev dims : tie.After-known-told → ℕ
-dims k = k.before.p.given.0.0
+abbrev dims : tie.In-Is → ℕ
+dims k = k.in-Is.p
 
-known : (k : tie.After-known-told) → (bad_board (limits k) (nodes k) ≡ false) × (dims k ≡ dimension (nodes k))
+known : (k : tie.In-Is) → (bad_board (limits k) (nodes k) ≡ false) × (dims k ≡ dimension (nodes k))
 known k =
-    let d = k.before.before.before.dimension-for in
-    dimension_found (limits k) _ _ (sym d.ensures ∙ ap found_answer k.before.p.given.1)
+    let d = k.dimension_for in
+    dimension_found (limits k) _ _ (sym d.ensures ∙ ap found_answer k.in-Is.is)
 
-narrow : (k : tie.After-known-told) → dims k ≤ width
+narrow : (k : tie.In-Is) → dims k ≤ width
 narrow k =
-    let f = fits_of k.before.before.before.before.before.args.b (search rules) in
+    let f = fits_of k.args.b (search rules) in
     few (limits k) f (nodes k) (dims k) (known k).0 (known k).1
 
-returns-2 : tie.Need-returns-2
-returns-2 c =
+returns_2 : tie.Need-returns-then-bytes-lt4
+returns_2 c =
     let k = c.before in
-    ap answer_of (sym (read_short (limits k) _ _ _ (known k).0 (known k).1 c.if1.true))
+    ap answer_of (sym (read_short (limits k) _ _ _ (known k).0 (known k).1 c.if-bytes-lt4.true))
 
 -- the test of pass and dimension, of the bytes
-tested : (c : tie.After-step-bad)
+tested : (c : tie.After-step_bad)
     → let k = c.before.before.before.before.before.before in
-    c.step-bad.result ≡ bad_step (dims k) (get_or (bytes k) 0 0) (get_or (bytes k) 2 0)
+    c.step_bad.result ≡ bad_step (dims k) (get_or (bytes k) 0 0) (get_or (bytes k) 2 0)
 tested c =
     let k = c.before.before.before.before.before.before in
-    c.step-bad.ensures
-    ∙ (λ i. bad_step (dims k) (c.before.before.before.wide.ensures.0 i) (c.before.wide2.ensures.0 i))
+    c.step_bad.ensures
+    ∙ (λ i. bad_step (dims k) (c.wide-pass.ensures.0 i) (c.wide-k.ensures.0 i))
 
-returns-3 : tie.Need-returns-3
-returns-3 c =
-    let h = c.before.before.before.before.before.before in
-    let k = h.before in
+returns_3 : tie.Need-returns-then-step_bad
+returns_3 c =
+    let k = c.before.before.before.before.before.before.before in
     ap answer_of
     (sym
-    (read_step (limits k) _ _ _ (known k).0 (known k).1 h.if1.false (sym (tested c.before) ∙ c.if2.true)))
+    (read_step (limits k) _ _ _ (known k).0 (known k).1 c.if-bytes-lt4.false (sym (tested c.before) ∙ c.if-step_bad.true)))
 
-step : (c : tie.Else2)
+step : (c : tie.Else-step_bad)
     → let k = c.before.before.before.before.before.before.before in
     bad_step (dims k) (get_or (bytes k) 0 0) (get_or (bytes k) 2 0) ≡ false
-step c = sym (tested c.before) ∙ c.if2.false
+step c = sym (tested c.before) ∙ c.if-step_bad.false
 
-count-of-requires : tie.Need-count-of-requires
+count-of-requires : tie.Need-count_of-count-requires
 count-of-requires c κs =
     let k = c.before.before.before.before.before.before.before in
     let l = (step_known (dims k) (get_or (bytes k) 0 0) (get_or (bytes k) 2 0) (step c)).1 in
-    let w = c.before.before.wide2.ensures.0 in
+    let w = c.wide-k.ensures.0 in
     (omega arith, narrow k)
 
 -- the length that the bytes state
-stated : (c : tie.After-count-of)
+stated : (c : tie.After-count_of-count)
     → let k = c.before.before.before.before.before.before.before.before in
-    4 + 4 * c.count_of.result ≡ frame_length (dims k) (get_or (bytes k) 0 0) (get_or (bytes k) 2 0)
+    4 + 4 * c.count_of-count.result ≡ frame_length (dims k) (get_or (bytes k) 0 0) (get_or (bytes k) 2 0)
 stated c =
-    let w = c.before.before.before in
-    let k = w.before.before.before.before.before in
-    c.count_of.ensures.0
-    ∙ (λ i. frame_length (dims k) (w.before.before.wide.ensures.0 i) (w.wide2.ensures.0 i))
+    let k = c.before.before.before.before.before.before.before.before in
+    c.count_of-count.ensures.0
+    ∙ (λ i. frame_length (dims k) (c.wide-pass.ensures.0 i) (c.wide-k.ensures.0 i))
 
-returns-4 : tie.Need-returns-4
+returns-4 : tie.Need-returns-then-bytes-count
 returns-4 c =
     let q = c.before in
-    let h = q.before.before.before.before.before.before.before in
-    let k = h.before in
+    let k = q.before.before.before.before.before.before.before.before in
     ap answer_of
     (sym
-    (read_length (limits k) _ _ _ (known k).0 (known k).1 h.if1.false (step q.before)
-    (λ e. c.if3.true (e ∙ sym (stated q)))))
+    (read_length (limits k) _ _ _ (known k).0 (known k).1 c.if-bytes-lt4.false (step q.before)
+    (λ e. c.if-bytes-count.true (e ∙ sym (stated q)))))
 
 -- the test of the numbers, of the bytes
-counted : (c : tie.After-numbers-within)
+counted : (c : tie.After-numbers_within)
     → let k = c.before.before.before.before.before.before.before.before.before.before.before in
-    c.numbers-within.result ≡ numbers_ok (limits k) (dims k) (fields_of (dims k) (bytes k))
+    c.numbers_within.result ≡ numbers_ok (limits k) (dims k) (fields_of (dims k) (bytes k))
 counted c =
     let q = c.before.before.before in
     let k = q.before.before.before.before.before.before.before.before in
-    let n = q.count_of.result in
-    c.numbers-within.ensures
-    ∙ ap (λ x. every 0 n (λ i. leb (number_at (bytes k) i) x)) c.before.field-limit.ensures
+    let n = q.count_of-count.result in
+    c.numbers_within.ensures
+    ∙ ap (λ x. every 0 n (λ i. leb (number_at (bytes k) i) x)) c.field_limit.ensures
     ∙ sym (within (limits k) (dims k) (bytes k) n (narrow k) (step q.before) (stated q))
 
-returns-5 : tie.Need-returns-5
-returns-5 c =
+returns_5 : tie.Need-returns-then-not-numbers_within
+returns_5 c =
     let n = c.before in
-    let e = n.before.before in
-    let q = e.before in
-    let h = q.before.before.before.before.before.before.before in
-    let k = h.before in
+    let q = n.before.before.before in
+    let k = q.before.before.before.before.before.before.before.before in
     ap answer_of
     (sym
-    (read-numbers (limits k) _ _ _ (known k).0 (known k).1 h.if1.false (step q.before)
-    (e.if3.false ∙ stated q) (sym (counted n) ∙ not-true _ c.if4.true)))
+    (read_numbers (limits k) _ _ _ (known k).0 (known k).1 c.if-bytes-lt4.false (step q.before)
+    (c.if-bytes-count.false ∙ stated q) (sym (counted n) ∙ c.if-not-numbers_within.true)))
 
-returns-6 : tie.Need-returns-6
+returns-6 : tie.Need-returns-then-nodes-wide
 returns-6 c =
-    let w = c.before in
-    let m = w.before.before in
-    let n = m.before in
-    let e = n.before.before in
-    let q = e.before in
-    let h = q.before.before.before.before.before.before.before in
-    let k = h.before in
+    let n = c.before.before.before.before in
+    let q = n.before.before.before in
+    let k = q.before.before.before.before.before.before.before.before in
     ap answer_of
     (sym
-    (read-stranger (limits k) _ _ _ (known k).0 (known k).1 h.if1.false (step q.before)
-    (e.if3.false ∙ stated q) (sym (counted n) ∙ not-false _ m.if4.false)
-    (rw w.wide3.ensures.0 at c.if5.true)))
+    (read_stranger (limits k) _ _ _ (known k).0 (known k).1 c.if-bytes-lt4.false (step q.before)
+    (c.if-bytes-count.false ∙ stated q) (sym (counted n) ∙ c.if-not-numbers_within.false)
+    (rw c.wide.ensures.0 at c.if-nodes-wide.true)))
 
-returns-7 : tie.Need-returns-7
+returns-7 : tie.Need-returns
 returns-7 c =
-    let w = c.before in
-    let m = w.before.before in
-    let n = m.before in
-    let e = n.before.before in
-    let q = e.before in
-    let h = q.before.before.before.before.before.before.before in
-    let k = h.before in
+    let n = c.before.before.before.before in
+    let q = n.before.before.before in
+    let k = q.before.before.before.before.before.before.before.before in
     ap answer_of
     (sym
-    (read_found (limits k) _ _ _ (known k).0 (known k).1 h.if1.false (step q.before)
-    (e.if3.false ∙ stated q) (sym (counted n) ∙ not-false _ m.if4.false)
-    (rw w.wide3.ensures.0 at c.if5.false)))
+    (read_found (limits k) _ _ _ (known k).0 (known k).1 c.if-bytes-lt4.false (step q.before)
+    (c.if-bytes-count.false ∙ stated q) (sym (counted n) ∙ c.if-not-numbers_within.false)
+    (rw c.wide.ensures.0 at c.if-nodes-wide.false)))
 
 pub checked_spec : {M : Type 1} → statement M
 checked_spec =
     tie.close
-    (tie.spec (λ c κs. tt) (λ c. search rules) (λ c. search rules) returns returns-2 (λ c. search rules)
-    (λ c κs. tt) (λ c. search rules) (λ c κs. tt) (λ c κs. tt) returns-3 count-of-requires
-    (λ c. (sized _ c.count_of.ensures.1).scaled) (λ c. (sized _ c.count_of.ensures.1).whole)
-    (λ c. (sized _ c.count_of.ensures.1).wide) returns-4 (λ c κs. tt) (λ c κs. search rules)
-    returns-5 (λ c. search rules) (λ c κs. tt) returns-6 returns-7)
+    (tie.spec (λ c κs. tt) (λ c. search rules) (λ c. search rules) returns returns_2 (λ c. search rules)
+    (λ c κs. tt) (λ c. search rules) (λ c κs. tt) (λ c κs. tt) returns_3 count-of-requires
+    (λ c. (sized _ c.count_of-count.ensures.1).scaled) (λ c. (sized _ c.count_of-count.ensures.1).whole)
+    (λ c. (sized _ c.count_of-count.ensures.1).wide) returns-4 (λ c κs. tt) (λ c κs. search rules)
+    returns_5 (λ c. search rules) (λ c κs. tt) returns-6 returns-7)

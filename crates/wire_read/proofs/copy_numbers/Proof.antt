@@ -12,43 +12,43 @@ use Rattle.wire_read.proofs.Copies.{copy_more, copy_no, copy_yes}
 use Rattle.wire_read.proofs.copy_numbers.Statement.{statement}
 use Rattle.wire_read.proofs.copy_numbers.Tie as tie
 
-abbrev invariant-loop : tie.invariant-loop
+abbrev invariant-loop : tie.invariant-loop-i
 invariant-loop bytes words₀ at₀ i₀ i-end words at i =
     (i ≤ i-end)
     × (at ≡ 4 + 4 * i)
     × (length words ≡ length words₀)
     × (words ≡ list 0 i (number_at bytes) ++ drop i words₀)
 
-abbrev decreases-loop : tie.decreases-loop
+abbrev decreases-loop : tie.decreases-loop-i
 decreases-loop bytes words₀ at₀ i₀ i-end words at i = i-end - i
 
-returns : tie.Need-returns invariant-loop decreases-loop
-returns c = let x = c.before.before.before.args in copy_no x.bytes.now x.words.now (omega arith)
+returns : tie.Need-returns-then-bytes-lt4 invariant-loop decreases-loop
+returns c = let x = c.args in copy_no x.bytes.now x.words.now (omega arith)
 
-returns-2 : tie.Need-returns-2 invariant-loop decreases-loop
-returns-2 c =
-    let x = c.before.before.before.before.args in copy_no x.bytes.now x.words.now (omega arith)
+returns_2 : tie.Need-returns-then-bytes-words invariant-loop decreases-loop
+returns_2 c =
+    let x = c.args in copy_no x.bytes.now x.words.now (omega arith)
 
-loop-holds : tie.Need-loop-init invariant-loop decreases-loop
-loop-holds c = (search rules, search rules, search rules, refl)
+loop_holds : tie.Need-loop-i-init invariant-loop decreases-loop
+loop_holds c = (search rules, search rules, search rules, refl)
 
-loop-again : tie.Need-loop-preserved invariant-loop decreases-loop
-loop-again c =
-    let l = c.before.before in
-    let bs = l.before.before.before.before.before.args.bytes.now in
-    let z : c.word_at.result ≡ number_at bs l.loop.i =
-    c.word_at.ensures ∙ ap (λ at. word_at bs at) l.loop.invariant.1 in
-    (search rules, search rules, search rules, rw z (copy_more (number_at bs) _ _ _ (omega arith) l.loop.invariant.3))
+loop_again : tie.Need-loop-i-preserved invariant-loop decreases-loop
+loop_again c =
+    let l = c in
+    let bs = l.args.bytes.now in
+    let z : c.word_at.result ≡ number_at bs l.loop-i.i =
+    c.word_at.ensures ∙ ap (λ at. word_at bs at) l.loop-i.invariant.1 in
+    (search rules, search rules, search rules, rw z (copy_more (number_at bs) _ _ _ (omega arith) l.loop-i.invariant.3))
 
-returns-3 : tie.Need-returns-3 invariant-loop decreases-loop
-returns-3 c =
-    let x = c.before.before.before.before.before.before.args in
-    let l = c.before.loop in
+returns_3 : tie.Need-returns invariant-loop decreases-loop
+returns_3 c =
+    let x = c.args in
+    let l = c.loop-i in
     copy_yes x.bytes.now x.words.now _ l.i (omega arith) (omega arith) l.invariant.3
 
 pub copy_numbers_spec : {M : Type 1} → statement M
 copy_numbers_spec =
     tie.close
-    (tie.spec invariant-loop decreases-loop returns (λ c. search rules) returns-2 loop-holds (λ c κs. search rules)
-    (λ c. search rules) (λ c. search rules) (λ c. search rules) (λ c. search rules) (λ c. search rules) loop-again
-    (λ c. search rules) returns-3)
+    (tie.spec invariant-loop decreases-loop returns (λ c. search rules) returns_2 loop_holds (λ c κs. search rules)
+    (λ c. search rules) (λ c. search rules) (λ c. search rules) (λ c. search rules) (λ c. search rules) loop_again
+    (λ c. search rules) returns_3)

@@ -5,15 +5,15 @@ use Rattle.frame.proofs.Writing.{first_length_lem, second_length}
 use Rattle.wire_read.proofs.count_of.Statement.{statement}
 use Rattle.wire_read.proofs.count_of.Tie as tie
 
-returns : tie.Need-returns
+returns : tie.Need-returns-then-pass-eq1
 returns c =
-    let x = c.before.args in
-    let e = first_length_lem x.p x.pass x.k c.if1.true in (omega arith, omega arith)
+    let x = c.args in
+    let e = first_length_lem x.p x.pass x.k c.if-pass-eq1.true in (omega arith, omega arith)
 
-returns-2 : tie.Need-returns-2
-returns-2 c =
-    let x = c.before.args in
-    let e = second_length x.p x.pass x.k c.if1.false in (omega arith, omega arith)
+returns_2 : tie.Need-returns-else-pass-eq1
+returns_2 c =
+    let x = c.args in
+    let e = second_length x.p x.pass x.k c.if-pass-eq1.false in (omega arith, omega arith)
 
 pub count_of_spec : {M : Type 1} → statement M
-count_of_spec = tie.close (tie.spec (λ c. search rules) (λ c. search rules) (λ c. search rules) returns returns-2)
+count_of_spec = tie.close (tie.spec (λ c. search rules) (λ c. search rules) (λ c. search rules) returns returns_2)

@@ -20,11 +20,11 @@ many nodes sections total events h =
     go true = refl
     go false = refl
 
-returns : tie.Need-returns
-returns c = many _ _ _ _ c.if1.true
+returns : tie.Need-returns-then-counts-gt32
+returns c = many _ _ _ _ c.if-counts-gt32.true
 
-returns-2 : tie.Need-returns-2
-returns-2 c = cc
+returns_2 : tie.Need-returns
+returns_2 c = cc
 
 pub is_refused_spec : {M : Type 1} → statement M
-is_refused_spec = tie.close (tie.spec returns (λ c κs. search rules) (λ c κs. search rules) returns-2)
+is_refused_spec = tie.close (tie.spec returns (λ c κs. search rules) (λ c κs. search rules) returns_2)
