@@ -1,34 +1,35 @@
 """Builds the C library for other targets than x86-64: python3 targets/build.py [TARGET...], all of table.py's by default.
 
 target/targets/TARGET/LEVEL/libbarrier_c.a is written, for include/ocb.h as it stands, at each level of LEVELS. It is
-compiled by the kit's clang from the very module that the kit compiles to the x86-64 archive: rt staticlib runs a second
-time with a clang that keeps what it is given, and the archive of that run must be, byte for byte, the one in use.
+compiled by the kit's clang from the very module that the kit compiles to the x86-64 archive: that is built a second time
+with a clang that keeps what it is given, and what comes out must be, byte for byte, the archive in use.
 
-For WebAssembly barrier.wasm is written in its place, and rehearse.wasm beside it, the program rehearse. Its module is kept
-in the same way, while rt check proves and compiles the program once more.
+For WebAssembly barrier.wasm is written in its place, and rehearse.wasm beside it, the rehearsal, from a module that is kept
+in the same way.
 """
 import collections
 import dataclasses
-import os
 import pathlib
 import sys
 import tempfile
 
 sys.dont_write_bytecode = True
+sys.path.append(str(pathlib.Path(__file__).resolve().parent.parent / "tests"))
+import make
 import retarget
 import tools
 import wasm
 from table import TARGETS, WebAssembly
 
-CRATE = "barrier_c"
 LEVELS = ["Os", "O2"]
 TARGET = tools.ROOT / "target"
-ARCHIVE = TARGET / "staticlib" / f"lib{CRATE}.a"
+ARCHIVE = TARGET / "staticlib" / "libbarrier_c.a"
 MODULE = tools.OUT / "module"
 
-# As the kit has them: sections that a linker can leave out, and a trap for what cannot be reached. Beside the object stands
-# how much stack each function takes, barrier_c.su.
+# As the kit has them: sections that a linker can leave out, a trap for what cannot be reached, and passes that are left out.
+# Beside the object stands how much stack each function takes, libbarrier_c.su.
 WORDS = ["-ffunction-sections", "-fdata-sections", "-mllvm", "-trap-unreachable", "-mllvm", "-no-trap-after-noreturn",
+         "-mllvm", "-disable-machine-licm", "-mllvm", "-disable-postra-machine-licm", "-mllvm", "-sink-common-insts=false",
          "--no-default-config", "-Werror", "-fstack-usage"]
 
 # More for the library. The proved code is many functions that lend each other slices and structs, which are in memory where
@@ -47,13 +48,12 @@ class Part:
     """What is built of a module."""
     kind: str  # as retarget.py has it
     crate: str
-    command: str  # rt's, which compiles the module for x86-64
-    in_use: pathlib.Path  # what it writes
+    name: str  # of what is made
     more: dict  # words for clang, by level
 
 
-LIBRARY = Part("library", CRATE, "staticlib", ARCHIVE, MORE)
-PROGRAM = Part("program", "rehearse", "check", TARGET / "obj" / "rehearse.o", dict.fromkeys(LEVELS, []))
+LIBRARY = Part("library", make.CRATES["barrier_c"], "barrier_c", MORE)
+REHEARSAL = Part("rehearsal", "rehearse_c", "rehearse", dict.fromkeys(LEVELS, []))
 
 
 def link_all(source, to, apart):
@@ -64,40 +64,33 @@ def link_all(source, to, apart):
             (to / path.name).symlink_to(path)
 
 
-def keeping_kit(folder, kept):
-    """A folder that is the kit, with a clang that keeps the module it is given."""
-    source, to = tools.kit(), folder
+def keeping_toolchain(folder, kept):
+    """A folder that is the kit's toolchain, with a clang that keeps the module it is given."""
+    source = tools.kit() / "toolchain"
     kept.unlink(missing_ok=True)
-    for name in ("on", "x86_64", "toolchain", "bin", "clang"):
-        link_all(source, to, name)
-        source, to = source / name, to / name
-    to.write_text(KEEPING.format(kept=kept, clang=source), encoding="utf-8")
-    to.chmod(0o755)
+    link_all(source, folder, "bin")
+    link_all(source / "bin", folder / "bin", "clang")
+    clang = folder / "bin" / "clang"
+    clang.write_text(KEEPING.format(kept=kept, clang=source / "bin" / "clang"), encoding="utf-8")
+    clang.chmod(0o755)
     return folder
 
 
-def make(part, **more):
-    """What rt writes for a part. Where a program has no stamp, rt check proves and compiles it again, and sets the stamp."""
-    if part.command == "check":
-        (TARGET / "stamp" / part.crate).unlink(missing_ok=True)
-    tools.run(["rt", part.command, part.crate], cwd=tools.ROOT, **more)
-    return part.in_use.read_bytes()
-
-
 def keep(part, kept):
-    """Keeps the module from the run that gives the file in use. rt runs a program as nobody, who has to get to the kit."""
-    in_use = part.in_use.read_bytes() if part.in_use.exists() else None
+    """Keeps the module that gives the archive in use."""
+    in_use = make.archive(part.crate)
     with tempfile.TemporaryDirectory() as folder:
-        os.chmod(folder, 0o711)
-        again = make(part, env={**os.environ, "RATTLE_HOME": str(keeping_kit(pathlib.Path(folder) / "kit", kept))})
-    if again != in_use and again != make(part):
-        raise tools.Trouble(f"the module that was kept does not give the {part.in_use.name} of rt {part.command}")
+        again = pathlib.Path(folder) / in_use.name
+        toolchain = keeping_toolchain(pathlib.Path(folder) / "toolchain", kept)
+        make.run(make.build_words(part.crate, toolchain, again), part.crate)
+        if again.read_bytes() != in_use.read_bytes():
+            raise tools.Trouble(f"the module that was kept does not give {in_use.relative_to(tools.ROOT)}")
 
 
 def capture(part):
     """The text of a part's module."""
     MODULE.mkdir(parents=True, exist_ok=True)
-    kept, text = (MODULE / f"{part.crate}.{ending}" for ending in ("bc", "ll"))
+    kept, text = (MODULE / f"{part.name}.{ending}" for ending in ("bc", "ll"))
     keep(part, kept)
     tools.run([tools.toolchain("clang"), "--target=x86_64-unknown-linux-gnu", "-x", "ir", "-S", "-emit-llvm", "-Xclang",
                "-disable-llvm-passes", kept, "-o", text])
@@ -119,7 +112,7 @@ def compile_module(text, name, level, part):
     """The object of a target at a level, from a module for it."""
     folder = tools.OUT / name / level
     folder.mkdir(parents=True, exist_ok=True)
-    made, compiled = folder / f"{part.crate}.ll", folder / f"{part.crate}.o"
+    made, compiled = folder / f"{part.name}.ll", folder / f"{part.name}.o"
     made.write_text(text, encoding="utf-8")
     words = [*TARGETS[name].clang, *WORDS, *part.more[level], f"-{level}"]
     tools.run([tools.toolchain("clang"), *words, "-c", "-x", "ir", made, "-o", compiled])
@@ -138,18 +131,19 @@ def build_part(part, text, name, level, link):
     made = retargeted(text, name, level, part.kind)
     path = link(compile_module(made, name, level, part))
     print(f"built: {path.relative_to(tools.ROOT)}: {TARGETS[name].triple}, -{level}, from the module of"
-          f" {part.in_use.relative_to(tools.ROOT)}, {new_lines(text, made)} lines of it changed or added")
+          f" {make.archive(part.crate).relative_to(tools.ROOT)}, {new_lines(text, made)} lines of it changed or added")
 
 
 def build(names):
     web = {name for name in names if isinstance(TARGETS[name], WebAssembly)}
+    make.make(LIBRARY.name)
     library = capture(LIBRARY)
-    program = capture(PROGRAM) if web else None
+    rehearsal = capture(REHEARSAL) if web else None
     for name in names:
         for level in LEVELS:
             build_part(LIBRARY, library, name, level, wasm.link_library if name in web else pack)
             if name in web:
-                build_part(PROGRAM, program, name, level, wasm.link_program)
+                build_part(REHEARSAL, rehearsal, name, level, wasm.link_rehearsal)
 
 
 if __name__ == "__main__":

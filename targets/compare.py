@@ -88,14 +88,14 @@ def run_example(name, level):
 
 
 def play_scripts(name, level):
-    """The program rehearse prints of each script what is kept of it."""
+    """The rehearsal prints of each script what is kept of it."""
     scripts = sorted(path for path in SCRIPTS.iterdir() if path.is_file())
     for script in scripts:
         with script.open("rb") as given:
-            printed = wasm.run(name, "rehearse.mjs", [tools.OUT / name / level / wasm.PROGRAM], stdin=given)
+            printed = wasm.run(name, "rehearse.mjs", [tools.OUT / name / level / wasm.REHEARSAL], stdin=given)
         if printed != (SCRIPTS / "printed" / script.name).read_bytes():
-            raise tools.Trouble(f"{name}, -{level}: {wasm.PROGRAM} prints something else of {script.name}")
-    print(f"{name}, -{level}: {wasm.PROGRAM}, {len(scripts)} scripts played, printed as on x86-64")
+            raise tools.Trouble(f"{name}, -{level}: {wasm.REHEARSAL} prints something else of {script.name}")
+    print(f"{name}, -{level}: {wasm.REHEARSAL}, {len(scripts)} scripts played, printed as on x86-64")
 
 
 def compare(names, words):

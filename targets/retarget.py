@@ -1,14 +1,14 @@
 """Makes a module that the kit compiles for x86-64 one for another target: retarget.py TARGET LEVEL KIND < MODULE > MADE
 
-TARGET is a row of table.py, LEVEL is Os, O2 or O3, and KIND says what the module is of, the library or the program
-rehearse. The module is text, as clang prints it without running a pass.
+TARGET is a row of table.py, LEVEL is Os, O2 or O3, and KIND says what the module is of, the library or the rehearsal. The
+module is text, as clang prints it without running a pass.
 
 Why the changed module means the same. The kit's backend lays out memory by itself: a place is a number, a pointer or an
 array of bytes, a field is an offset in bytes, a load or store states its size and alignment, a copy its size. So the
 module hardly depends on the data layout, and what does is changed:
 
 - the triple and the data layout;
-- the functions' attributes: "target-cpu" and "probe-stack" are x86-64's and go; at Os `optsize` comes;
+- the functions' attributes: "target-cpu" and the two that probe the stack are x86-64's and go; at Os `optsize` comes;
 - a count that an exported function is given, 64 bits in the module, comes in as C's size_t of 32 bits and is widened;
 - a copy, which the kit writes without alignment, states that of its two addresses: on a core that faults at a word which
   is not aligned, clang would take the bytes one by one.
@@ -22,17 +22,21 @@ a run comes to, if it held at those before: nothing is said of what C hands to a
 was loaded, or of one with a computed offset.
 
 A pointer keeps its slot of 8 bytes and fills 4 of them. That is sound while no pointer is looked at as a number: none is
-converted or compared, and no slot holds both. Slots are followed within a function, through its copies; that what one
-function leaves in memory as a pointer is no number to another is by Rattle's types. A place for a pointer alone has 4
-bytes on the target, so nothing but a load or a store may touch it. Offsets of 64 bits are cut to 32 where an address is
-computed; they are below the size of an object, hence below 2^32. A target must be little-endian, with pointers of 32
-bits and a stack aligned to 8 bytes, and its C compiler must hand over numbers of 32 bits as they are.
+converted, none is compared but with the null pointer, which is address 0 on the target too, and no slot holds both. Slots
+are followed within a function, through its copies; that what one function leaves in memory as a pointer is no number to
+another is by Rattle's types. A place for a pointer alone has 4 bytes on the target, so nothing but a load or a store may
+touch it. Offsets of 64 bits are cut to 32 where an address is computed; they are below the size of an object, hence below
+2^32. A target must be little-endian, with pointers of 32 bits and a stack aligned to 8 bytes, and its C compiler must hand
+over numbers of 32 bits as they are. An exported function takes the null pointer for a slice to be one without elements and
+gives it another address, so nothing may be lent at address 0.
 
-A program exports main, which takes nothing, and has read and write from outside. Their counts and answers keep the 64
-bits that they have in the module: a file of WebAssembly states the types of what it imports, and the host's functions
-are written for these. A C library for 32 bits would have others, so a program is made for WebAssembly alone. read and
-write are lent bytes, among which no pointer is, by Rattle's types. A program also fills places with zeros; a byte that
-is filled counts as part of a number.
+A place may be filled with zeros before parts of it are stored to. That makes no byte part of a number or of a pointer:
+zeros are 0 and the null pointer alike, on the target as in the module. No fill ends inside a pointer.
+
+Constants are bytes, aligned to 1. Their addresses are stored, and nothing is said of the alignment of one that is loaded.
+
+A function may answer a pair. It is loaded whole from a place, handed back, and taken apart. A pair is let through where
+both of its parts lie at the same offsets on the target as in the module.
 
 Whatever this does not cover is refused, with its line: the lists below name all that a module may have.
 """
@@ -44,9 +48,11 @@ import re
 import sys
 
 sys.dont_write_bytecode = True
-from table import TARGETS, WebAssembly
+from table import TARGETS
 
-HEADER = pathlib.Path(__file__).resolve().parent.parent / "include" / "ocb.h"
+HERE = pathlib.Path(__file__).resolve().parent
+HEADER = HERE.parent / "include" / "ocb.h"
+KINDS = {"library": HEADER, "rehearsal": HERE / "wasm32" / "rehearse.h"}  # the header with what a module exports
 LEVELS = {"Os": " optsize", "O2": "", "O3": ""}
 
 # The target that the module is for, and the attributes of its functions.
@@ -54,39 +60,41 @@ FACTS = {
     "target datalayout": "e-m:e-p270:32:32-p271:32:32-p272:64:64-i64:64-i128:128-f80:128-n8:16:32:64-S128",
     "target triple": "x86_64-unknown-linux-gnu",
 }
-ATTRIBUTES = 'attributes #0 = { nounwind "probe-stack"="inline-asm" "target-cpu"="x86-64" }'
+ATTRIBUTES = ('attributes #0 = { nounwind "probe-stack"="inline-asm" "stack-probe-size"="3072"'
+              ' "target-cpu"="x86-64-v2" }')
 OTHER_ATTRIBUTES = re.compile(r"attributes #[1-9]\d* = \{ (?:nobuiltin|nocallback|nofree|nosync|nounwind|speculatable"
                               r"|willreturn|memory\([\w: ,]+\)| )+ \}")
 
 # No instruction turns a pointer into a number or looks at one, and no type is wider than 64 bits.
 OPCODES = set("alloca load store getelementptr call ret br switch unreachable icmp add sub mul udiv urem and or xor zext"
-              " trunc".split())
+              " trunc extractvalue".split())
 INTRINSICS = {"llvm.memmove.p0.p0.i64", "llvm.memset.p0.i64", "llvm.ctlz.i32"}
 SIZES = {"i1": 1, "i8": 1, "i16": 2, "i32": 4, "i64": 8, "ptr": 8}  # bytes of a place
 LOOSE = re.compile(r"[{<]|\b(?:asm|float|double|half|bfloat|fp128|addrspace|volatile|atomic|inttoptr|ptrtoint|bitcast)\b")
 KIND = "(?:i1|i8|i16|i32|i64|ptr)"
+PAIR = r"\{ (i1|i8|i16|i32|i64|ptr), (i1|i8|i16|i32|i64|ptr) \}"
+SOME_PAIR = PAIR.replace("(i1", "(?:i1")
 ARGUMENT = rf"{KIND} (?:%[\w.]+|-?\d+|true|false)"
-CALL = re.compile(rf'call (?:noundef )?(?:zeroext )?(?:void|{KIND}) @(?!llvm\.mem)("[^"]+"|[\w.]+)'
+CALL = re.compile(rf'call (?:noundef )?(?:zeroext )?(?:void|{KIND}|{SOME_PAIR}) @(?!llvm\.mem)("[^"]+"|[\w.]+)'
                   rf"\(((?:{ARGUMENT}(?:, {ARGUMENT})*)?)\)$", re.M)
 FORMS = {
+    "extractvalue": re.compile(rf"= extractvalue {SOME_PAIR} %[\w.]+, [01]$"),
+    "ret": re.compile(rf"  ret (?:void|{KIND} [^ ,]+|{SOME_PAIR} %[\w.]+)$"),
     "alloca": re.compile(rf"= alloca (?:{KIND}|\[\d+ x i8\]), align \d+$"),
-    "load": re.compile(rf"= load {KIND}, ptr %[\w.]+, align \d+(?:, !(?:noundef|range) !\d+)*$"),
+    "load": re.compile(rf"= load (?:{KIND}|{SOME_PAIR}), ptr %[\w.]+, align \d+(?:, !(?:noundef|range) !\d+)*$"),
     "store": re.compile(rf"  store {KIND} [^ ,]+, ptr %[\w.]+, align \d+$"),
     "getelementptr": re.compile(r"= getelementptr (?:inbounds nuw )?i8, ptr %[\w.]+, i64 (?:\d+|%[\w.]+)$"),
     "call": re.compile(CALL.pattern + r"|@llvm\.memmove\.p0\.p0\.i64\(ptr %[\w.]+, ptr %[\w.]+, i64 \d+, i1 false\)$"
                        r"|@llvm\.memset\.p0\.i64\(ptr %[\w.]+, i8 0, i64 \d+, i1 false\)$"),
 }
-NAMED = re.compile(r"(?:define|declare|  (?:%[\w.]+ = )?call) [\w ]*@[^@]*")
-PARAMETER = rf"{KIND} noundef(?: zeroext)? %a\d+"
-INTERNAL = re.compile(rf'define internal (?:noundef (?:zeroext )?{KIND}|void) @"[^"]+"'
+CONSTANT = re.compile(r'@static\.\d+ = private unnamed_addr constant \[\d+ x i8\] c"[^"]*", align 1$')
+TAKEN = re.compile(r"  store ptr @static\.\d+, ptr %[\w.]+, align \d+$")  # the address of a constant
+NAMED = re.compile(rf"(?:define|declare|  (?:%[\w.]+ = )?call) (?:[\w ]*|[\w ]*{SOME_PAIR} )@[^@]*")
+PARAMETER = rf"{KIND}(?: noundef)?(?: zeroext)? %a\d+"
+INTERNAL = re.compile(rf'define internal (?:(?:noundef )?(?:zeroext )?(?:{KIND}|{SOME_PAIR})|void) @"[^"]+"'
                       rf"\((?:{PARAMETER}(?:, {PARAMETER})*)?\) #0 \{{$")
 BODY = re.compile(r"^define .*?^}", re.M | re.S)
 OUTER = re.compile(r"$|;|source_filename = |}$|define |declare |attributes #|target |!llvm\.ident = |!\d+ = !\{|[\w.]+:")
-
-# What a program has around it.
-MAIN = "define i32 @main() #0 {"
-OUTSIDE = {name: f"declare noundef i64 @{name}(i32 noundef, ptr noundef, i64 noundef) #1" for name in ("read", "write")}
-OUTSIDE_CALL = re.compile(r"  %[\w.]+ = call i64 @\w+\(i32 [^ ,]+, ptr %[\w.]+, i64 [^ ,]+\)")
 
 
 class Refused(Exception):
@@ -107,9 +115,9 @@ def kind_of(parameter):
     return kind
 
 
-def exports():
+def exports(kind="library"):
     """The exported functions by the header, with their parameters."""
-    text = re.sub(r"/\*.*?\*/", "", HEADER.read_text(encoding="utf-8"), flags=re.S)
+    text = re.sub(r"/\*.*?\*/", "", KINDS[kind].read_text(encoding="utf-8"), flags=re.S)
     heads = re.findall(r"^uint32_t (ocb_\w+)\((.*?)\);", text, re.M | re.S)
     return {name: [kind_of(part) for part in parameters.split(",")] for name, parameters in heads}
 
@@ -122,20 +130,31 @@ def check_names(number, line):
             refuse(number, line, "an intrinsic that was not looked at")
 
 
+def second_of(one, other, pointer=8):
+    """Where the second part of a pair begins, pointers having so many bytes."""
+    sizes = {**SIZES, "ptr": pointer}
+    return -(-sizes[one] // sizes[other]) * sizes[other]
+
+
+def check_pairs(number, line):
+    for one, other in re.findall(PAIR, line):
+        if second_of(one, other) != second_of(one, other, 4):
+            refuse(number, line, "a pair that lies otherwise on the target")
+
+
 def check_instruction(number, line):
     opcode = re.match(r"  (?:%[\w.]+ = )?(\w+)", line)
     if not opcode or opcode[1] not in OPCODES:
         refuse(number, line, "an instruction that was not looked at")
-    if LOOSE.search(line):
+    check_pairs(number, line)
+    if LOOSE.search(re.sub(SOME_PAIR, "", line)):
         refuse(number, line, "a type or a word that was not looked at")
     if not set(re.findall(r"\bi\d+\b", line)) <= set(SIZES):
         refuse(number, line, "a width that was not looked at")
-    if re.search(r"icmp \w+ ptr\b", line):
+    if re.search(r"icmp \w+ ptr\b", line) and not re.search(r"icmp eq ptr %[\w.]+, null$", line):
         refuse(number, line, "pointers are compared")
     if opcode[1] in FORMS and not FORMS[opcode[1]].search(line):
         refuse(number, line, f"a form of {opcode[1]} that was not looked at")
-    if re.search(rf"@(?:{'|'.join(OUTSIDE)})\(", line) and not OUTSIDE_CALL.fullmatch(line):
-        refuse(number, line, "a call to the outside that was not looked at")
 
 
 def check(number, line):
@@ -144,11 +163,13 @@ def check(number, line):
     if line.startswith("  "):
         if not re.match(r"  (\]$|  i\d+ -?\d+, label )", line):  # the arms of a switch
             check_instruction(number, line)
+    elif CONSTANT.match(line):
+        return
     elif not OUTER.match(line):
         refuse(number, line, "a global, a named type or a line that was not looked at")
     elif line.startswith("define internal") and not INTERNAL.match(line):
         refuse(number, line, "a head of a function that was not looked at")
-    if "@" in line and not line.startswith((";", "source_filename")) and not NAMED.fullmatch(line):
+    if "@" in line and not line.startswith((";", "source_filename")) and not TAKEN.match(line) and not NAMED.fullmatch(line):
         refuse(number, line, "a function is named outside its head and its calls")
 
 
@@ -164,10 +185,11 @@ class Slots:
             self.use(place, SIZES[kind], kind)
         for kind, place in re.findall(r"store (\w+) [^ ,]+, ptr (%[\w.]+)", body):
             self.use(place, SIZES[kind], kind)
-        for place, kind, count in re.findall(r"@llvm\.memset\S*\(ptr (%[\w.]+), (i8) 0, i64 (\d+)", body):
-            self.use(place, int(count), kind)
+        for one, other, place in re.findall(rf"load {PAIR}, ptr (%[\w.]+)", body):
+            self.use_pair(place, one, other)
         self.computed = set(re.findall(r"(%[\w.]+) = getelementptr (?:[a-z]+ )*i8, ptr %[\w.]+, i64 %", body))
         self.check_pointers(body)
+        self.fills = re.findall(r"@llvm\.memset\S*\(ptr (%[\w.]+), i8 0, i64 (\d+)", body)
         self.copies = re.findall(r"@llvm\.memmove\S*\(ptr [^%]*(%[\w.]+), ptr [^%]*(%[\w.]+), i64 (\d+)", body)
 
     def check_pointers(self, body):
@@ -192,6 +214,13 @@ class Slots:
         for byte in range(offset, offset + count):
             self.kinds.setdefault((base, byte), set()).add("pointer" if kind == "ptr" else "number")
 
+    def use_pair(self, place, one, other):
+        """A pair lies in a place as two parts, the second where its alignment lets it."""
+        base, offset = self.at(place)
+        self.use(place, SIZES[one], one)
+        for byte in range(second_of(one, other), second_of(one, other) + SIZES[other]):
+            self.kinds.setdefault((base, offset + byte), set()).add("pointer" if other == "ptr" else "number")
+
     def copy(self, to, source, count):
         """What is copied is of the same kind at both ends; whether that was news."""
         (to, to_offset), (source, offset) = self.at(to), self.at(source)
@@ -211,6 +240,14 @@ class Slots:
                 raise Refused(f"a place is used as a pointer and as a number: {base}, byte {byte}, in {self.head}")
             if base in self.computed and "pointer" in kinds:
                 raise Refused(f"a pointer at a computed place: {base} in {self.head}")
+        for place, count in self.fills:
+            base, offset = self.at(place)
+            if any(self.is_inside(base, end) for end in (offset, offset + int(count))):
+                raise Refused(f"a part of a pointer is filled: {base} in {self.head}")
+
+    def is_inside(self, base, at):
+        """Whether a place is between two bytes of pointers."""
+        return all("pointer" in self.kinds.get((base, byte), ()) for byte in (at - 1, at))
 
 
 @functools.cache  # a function is the same for all targets and levels
@@ -243,12 +280,13 @@ def exported(number, line, listed):
 
 
 class Module:
-    """A module on its way to another target, line by line."""
+    """A module on its way to another target, line by line. It exports what its header has, and needs nothing from outside."""
 
-    def __init__(self, target, level, names):
+    def __init__(self, target, level, kind):
+        self.exports = exports(kind)
         self.made = {"target datalayout": target.layout, "target triple": target.triple}
         self.attributes = "attributes #0 = { nounwind%s }" % LEVELS[level]
-        self.missing = {*FACTS, "attributes #0", *names}
+        self.missing = {*FACTS, "attributes #0", *self.exports}
         self.widened = []
         self.lines = []
 
@@ -278,53 +316,21 @@ class Module:
         elif re.match(r"define (?!internal )", line):
             line = self.define(number, line)
         elif re.match(r"declare (?!.*@llvm\.)", line):
-            self.declare(number, line)
+            refuse(number, line, "a function from outside")
         self.lines.append(line)
         if line == "start:":
             self.lines += self.widened
             self.widened = []
-
-    def whole(self):
-        if self.missing or self.widened:
-            raise Refused(f"not found: {', '.join(sorted(self.missing)) or 'the start of a function'}")
-        return "\n".join(self.lines)
-
-
-class Library(Module):
-    """The library's: it exports what the header has, and needs nothing from outside."""
-
-    def __init__(self, target, level):
-        self.exports = exports()
-        super().__init__(target, level, self.exports)
 
     def define(self, number, line):
         line, self.widened = exported(number, line, self.exports)
         self.missing.discard(re.search(r"@(\w+)", line)[1])
         return line
 
-    def declare(self, number, line):
-        refuse(number, line, "a function from outside")
-
-
-class Program(Module):
-    """A program's: it exports main, and needs read and write from outside."""
-
-    def __init__(self, target, level):
-        super().__init__(target, level, ["main", *OUTSIDE])
-
-    def define(self, number, line):
-        if line != MAIN:
-            refuse(number, line, "an exported function that is not main")
-        self.missing.discard("main")
-        return line
-
-    def declare(self, number, line):
-        if line not in OUTSIDE.values():
-            refuse(number, line, "a function from outside that was not looked at")
-        self.missing.discard(re.search(r"@(\w+)", line)[1])
-
-
-KINDS = {"library": Library, "program": Program}
+    def whole(self):
+        if self.missing or self.widened:
+            raise Refused(f"not found: {', '.join(sorted(self.missing)) or 'the start of a function'}")
+        return "\n".join(self.lines)
 
 
 # ---- Alignment
@@ -336,7 +342,7 @@ MOST = 8
 
 
 def name_of(body):
-    return re.match(r'define [\w ]*@("[^"]+"|\w+)', body)[1]
+    return re.match(r'define [^@]*@("[^"]+"|\w+)', body)[1]
 
 
 class Alignment:
@@ -345,8 +351,6 @@ class Alignment:
     def __init__(self, text):
         self.bodies = {name_of(body): body for body in BODY.findall(text)}
         self.parameters = {name: self.start(body) for name, body in self.bodies.items()}
-        for name, parameters in re.findall(r"^declare .*@(\w+)\((.*)\)", text, re.M):  # from outside
-            self.parameters[name] = dict.fromkeys(range(len(parameters.split(","))), 1)
         while any([self.lower(name) for name in self.bodies]):
             pass
 
@@ -393,9 +397,7 @@ def align_copies(text):
 
 def retarget(text, target, level, kind="library"):
     """The module for a target. It is checked as the kit wrote it; the copies' alignment comes last."""
-    if kind == "program" and not isinstance(target, WebAssembly):
-        raise Refused("a program is made for WebAssembly alone")
-    module = KINDS[kind](target, level)
+    module = Module(target, level, kind)
     for number, line in enumerate(text.split("\n"), 1):
         module.take(number, line)
     check_slots(text)

@@ -1,4 +1,4 @@
-"""Tests retarget.py on modules that it must refuse: the real ones, of the library and of the program, each with a small
+"""Tests retarget.py on modules that it must refuse: the real ones, of the library and of the rehearsal, each with a small
 edit, and the reason for the refusal. The alignment that it finds is tested on small modules.
 
 python3 targets/test_retarget.py    wants the modules that build.py keeps in target/targets/module
@@ -43,9 +43,15 @@ EDITS = [
     ("a pointer in a constant", INSIDE, r"\1  store i64 ptrtoint (ptr @ocb_send to i64), ptr %a0, align 8\n",
      "a word that was not looked at"),
     ("pointers compared", INSIDE, r"\1  %n = icmp eq ptr %a0, %a1\n", "pointers are compared"),
+    ("a pointer below the null pointer", INSIDE, r"\1  %n = icmp ult ptr %a0, null\n", "pointers are compared"),
     ("a wide number", r"^  %(\w+) = add i64 ", r"  %\1 = add i128 ", "a width that was not looked at"),
     ("a real number", INSIDE, r"\1  %n = load double, ptr %a0, align 8\n", "a type or a word that"),
-    ("a struct", INSIDE, r"\1  %n = load { i32, i32 }, ptr %a0, align 8\n", "a type or a word that"),
+    ("a struct of three", INSIDE, r"\1  %n = load { i32, i32, i32 }, ptr %a0, align 8\n", "a type or a word that"),
+    ("a pair that lies otherwise", INSIDE, r"\1  %n = load { ptr, i32 }, ptr %a0, align 8\n", "a pair that lies otherwise"),
+    ("a pair of pointers", INSIDE, r"\1  %n = load { ptr, ptr }, ptr %a0, align 8\n", "a pair that lies otherwise"),
+    ("a part that a pair has not", INSIDE, r"\1  %n = extractvalue { i32, i32 } %q, 2\n", "a form of extractvalue"),
+    ("a pair with a pointer as a number", INSIDE, r"\1  %n = load { ptr, i64 }, ptr %a0, align 8\n"
+     r"  %m = load i64, ptr %a0, align 8\n", "used as a pointer and as a number"),
     ("a volatile load", INSIDE, r"\1  %n = load volatile i32, ptr %a0, align 4\n", "a type or a word that"),
     ("a vector", INSIDE, r"\1  %n = load <4 x i32>, ptr %a0, align 16\n", "a type or a word that"),
     ("a place of another kind", INSIDE, r"\1  %n = alloca [4 x ptr], align 8\n", "a form of alloca"),
@@ -81,9 +87,9 @@ EDITS = [
      "a form of call"),
     ("a place filled to a computed size", INSIDE, r"\1  call void @llvm.memset.p0.i64(ptr %a0, i8 0, i64 %n, i1 false)\n",
      "a form of call"),
-    ("a pointer filled with zeros", INSIDE, r"\1  store ptr %a0, ptr %a1, align 8\n"
-     r"  %f = getelementptr i8, ptr %a1, i64 4\n  call void @llvm.memset.p0.i64(ptr %f, i8 0, i64 1, i1 false)\n",
-     "used as a pointer and as a number"),
+    ("a part of a pointer filled with zeros", INSIDE, r"\1  %p = alloca [16 x i8], align 8\n  store ptr %a0, ptr %p, align 8\n"
+     r"  %f = getelementptr i8, ptr %p, i64 4\n  call void @llvm.memset.p0.i64(ptr %f, i8 0, i64 1, i1 false)\n",
+     "a part of a pointer is filled"),
     ("the place of a pointer filled with zeros", INSIDE, r"\1  %p = alloca ptr, align 8\n"
      r"  call void @llvm.memset.p0.i64(ptr %p, i8 0, i64 8, i1 false)\n", "the place of a pointer is lent or copied"),
 ]
@@ -102,25 +108,14 @@ LIBRARY_EDITS = [
     ("a narrow answer", r"^define noundef i32 @ocb_idle", "define noundef i8 @ocb_idle", "not of 32 bits"),
     ("an answer by memory", r"^define noundef i32 @ocb_idle", "define void @ocb_idle", "a head of an exported"),
     ("an export missing", r"^define noundef i32 @ocb_idle\(.*?^}\n", "", "not found: ocb_idle"),
-    ("read from outside", r"^declare ", f"{retarget.OUTSIDE['read']}\n\ndeclare ", "a function from outside"),
+    ("read from outside", r"^declare ", "declare noundef i64 @read(i32 noundef, ptr noundef, i64 noundef) #1\n\ndeclare ", "a function from outside"),
 ]
 
-# Edits of the program's module.
-PROGRAM_EDITS = [
-    ("an export besides main", r"^define internal noundef i64 @\"libc::read\"", "define noundef i64 @read_in",
-     "an exported function that is not main"),
-    ("an export of the library", r"^define i32 @main", "define noundef i32 @ocb_idle", "an exported function that is not main"),
-    ("a main with parameters", r"@main\(\)", "@main(i32 noundef %a0, ptr noundef %a1)", "an exported function that is not main"),
-    ("a narrow answer of main", r"^define i32 @main", "define i8 @main", "an exported function that is not main"),
-    ("no main", r"^define i32 @main\(.*?^}\n", "", "not found: main"),
-    ("a count of 32 bits from outside", r"(@write\(i32 noundef, ptr noundef,) i64 noundef", r"\1 i32 noundef",
-     "a function from outside"),
-    ("an answer of 32 bits from outside", r"^declare noundef i64 @read", "declare noundef i32 @read", "a function from outside"),
-    ("no read", r"^declare .*@read\(.*\n", "", "not found: read"),
-    ("a count of 32 bits to the outside", r"(call i64 @read\(i32 %\w+, ptr %\w+,) i64", r"\1 i32", "a call to the outside"),
-    ("a number for an address to the outside", r"(call i64 @write\(i32 %\w+,) ptr", r"\1 i64", "a call to the outside"),
-    ("an argument less to the outside", r"(call i64 @write\(i32 %\w+, ptr %\w+), i64 %\w+", r"\1", "a call to the outside"),
-    ("a narrow answer from the outside", r"call i64 @write", "call i32 @write", "a call to the outside"),
+# Edits of the rehearsal's module.
+REHEARSAL_EDITS = [
+    ("an export of the library", r"^(define .*)@ocb_rehearse\(", r"\1@ocb_idle(", "the header does not have"),
+    ("a script's count of 32 bits", r"(@ocb_rehearse\(.*) i64 noundef", r"\1 i32 noundef", "parameters that are not those"),
+    ("no rehearsal", r"^define noundef i32 @ocb_rehearse\(.*?^}\n", "", "not found: ocb_rehearse"),
 ]
 
 # Small modules: what is tested, the alignment that the parameter %a of @"in" must have, and the lines of ocb_out, which C
@@ -164,13 +159,6 @@ def check_counts(made):
             raise tools.Trouble(f"retarget: other counts than those known: {found}")
 
 
-def check_lines(text, made):
-    """Of a program nothing changes but the lines of the target, the attributes and the copies."""
-    for old, new in zip(text.split("\n"), made.split("\n"), strict=True):
-        if old != new and not re.match(r"target |attributes #0 |  call void @llvm\.memmove\.", old):
-            raise tools.Trouble(f"retarget: another line than those known: {new}")
-
-
 def must_refuse(text, target, kind, name, reason):
     try:
         retarget.retarget(text, target, "O2", kind)
@@ -208,7 +196,7 @@ def try_alignment(name, wanted, outer, inner, by):
 
 
 def kept(part):
-    path = build.MODULE / f"{part.crate}.ll"
+    path = build.MODULE / f"{part.name}.ll"
     if not path.exists():
         raise tools.Trouble("no module is kept: python3 targets/build.py keeps it")
     return path.read_text(encoding="utf-8")
@@ -224,22 +212,21 @@ def test_library(names):
     return len(EDITS + LIBRARY_EDITS)
 
 
-def test_program(target):
-    """How many wrong modules were tried; two are right ones, for another kind and for another target."""
-    text = kept(build.PROGRAM)
-    check_lines(text, retarget.retarget(text, target, "O2", "program"))
-    for edit in EDITS + PROGRAM_EDITS:
-        try_edit(text, target, "program", *edit)
-    must_refuse(kept(build.LIBRARY), target, "program", "the library as a program", "an exported function that is not main")
-    must_refuse(text, TARGETS["cortex-m0"], "program", "a program for a core", "for WebAssembly alone")
-    return len(EDITS + PROGRAM_EDITS) + 2
+def test_rehearsal(target):
+    """How many wrong modules were tried; one is a right one, of another kind."""
+    text = kept(build.REHEARSAL)
+    retarget.retarget(text, target, "O2", "rehearsal")
+    for edit in REHEARSAL_EDITS:
+        try_edit(text, target, "rehearsal", *edit)
+    must_refuse(kept(build.LIBRARY), target, "rehearsal", "the library as the rehearsal", "the header does not have")
+    return len(REHEARSAL_EDITS) + 1
 
 
 def test(names):
     tried = test_library(names)
     for name in names:
         if isinstance(TARGETS[name], WebAssembly):
-            tried += test_program(TARGETS[name])
+            tried += test_rehearsal(TARGETS[name])
     for case in ALIGNED:
         try_alignment(*case)
     print(f"retarget: {tried} wrong modules refused, {len(ALIGNED)} alignments found")

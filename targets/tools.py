@@ -44,12 +44,12 @@ def kit():
     if not shutil.which("rt"):
         raise Trouble("rt is missing: the Rattle kit is not installed")
     if os.uname().machine != "x86_64":
-        raise Trouble("the archive of rt staticlib, to which the targets are held, runs on x86-64 alone")
-    return pathlib.Path(os.environ.get("RATTLE_HOME") or pathlib.Path(run(["rt", "doc"]).strip()).parent.parent)
+        raise Trouble("the archive of rt lib, to which the targets are held, runs on x86-64 alone")
+    return pathlib.Path(run(["rt", "doc"]).strip()).parent
 
 
 def toolchain(name):
-    return kit() / "on" / "x86_64" / "toolchain" / "bin" / name
+    return kit() / "toolchain" / "bin" / name
 
 
 def chosen(words):

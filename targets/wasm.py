@@ -1,4 +1,4 @@
-"""Files of WebAssembly: the library's, the program's and that of the callers' program; and how they are run."""
+"""Files of WebAssembly: the library's, the rehearsal's and that of the callers' program; and how they are run."""
 import subprocess
 import sys
 
@@ -8,16 +8,16 @@ import retarget
 import tools
 from table import TARGETS
 
-LIBRARY, PROGRAM = "barrier.wasm", "rehearse.wasm"
+LIBRARY, REHEARSAL = "barrier.wasm", "rehearse.wasm"
 
 # The stack lies first, so that a call which needs more of it than there is writes below address 0, which traps. Without
 # the custom sections a file is the same wherever it is made.
 WORDS = ["--fatal-warnings", "--no-entry", "--stack-first", "--strip-all"]
-LIBRARY_STACK, PROGRAM_STACK = 1 << 16, 1 << 20
+STACKS = {LIBRARY: 1 << 16, REHEARSAL: 1 << 20}
 
 # The callers' program is in the library's memory, above the library's stack: its data and then its own stack.
-CALLERS = ["--fatal-warnings", "--no-entry", "--no-stack-first", f"--global-base={2 * LIBRARY_STACK}", "-z",
-           f"stack-size={PROGRAM_STACK}", "--import-memory", "--import-undefined", "--export=main", "--export=__global_base"]
+CALLERS = ["--fatal-warnings", "--no-entry", "--no-stack-first", f"--global-base={2 * STACKS[LIBRARY]}", "-z",
+           f"stack-size={STACKS[REHEARSAL]}", "--import-memory", "--import-undefined", "--export=main", "--export=__global_base"]
 FREE = ["-ffreestanding", "-fno-builtin", "-nostdinc", "-isystem", tools.HERE / "freestanding",
         "-Wno-unknown-attributes"]  # sides.c has one of gcc's, for measuring alone
 
@@ -90,19 +90,21 @@ def link(path, words):
     return path
 
 
-def link_library(compiled):
-    functions = ["__heap_base", *retarget.exports()]
-    path = link(compiled.with_name(LIBRARY), [*WORDS, "-z", f"stack-size={LIBRARY_STACK}",
-                                              *(f"--export={name}" for name in functions), compiled])
+def link_exports(compiled, name, kind):
+    """A file that exports what the header of its kind has, and needs nothing."""
+    functions = ["__heap_base", *retarget.exports(kind)]
+    path = link(compiled.with_name(name), [*WORDS, "-z", f"stack-size={STACKS[name]}",
+                                           *(f"--export={function}" for function in functions), compiled])
     check(path, [], ["memory", *functions])
     return path
 
 
-def link_program(compiled):
-    path = link(compiled.with_name(PROGRAM), [*WORDS, "-z", f"stack-size={PROGRAM_STACK}", "--export=main",
-                                              "--import-undefined", compiled])
-    check(path, [f"env.{name}" for name in retarget.OUTSIDE], ["memory", "main"])
-    return path
+def link_library(compiled):
+    return link_exports(compiled, LIBRARY, "library")
+
+
+def link_rehearsal(compiled):
+    return link_exports(compiled, REHEARSAL, "rehearsal")
 
 
 def link_callers(name, path, files, words):

@@ -1,31 +1,14 @@
-// node rehearse.mjs rehearse.wasm < SCRIPT: runs the program rehearse on a script. Its read and write stand here; their
-// counts have 64 bits.
+// node rehearse.mjs rehearse.wasm < SCRIPT: what the rehearsal prints of a script. What it is lent lies above the file's own memory.
 import fs from "node:fs";
 
-const INPUT = 0, OUTPUT = 1;
-const program = new WebAssembly.Module(fs.readFileSync(process.argv[2]));
-const script = fs.readFileSync(INPUT);
-const printed = [];
-let taken = 0;
+const SCRIPT = 4097, PLACES = 34816, TEXT = 65536, PAGE = 65536; // as rehearse.h has them
+const file = new WebAssembly.Module(fs.readFileSync(process.argv[2]));
+const { memory, ocb_rehearse, __heap_base } = new WebAssembly.Instance(file, {}).exports;
+const script = fs.readFileSync(0).subarray(0, SCRIPT);
 
-function held(file, wanted) {
-  if (file !== wanted) throw new Error(`file ${file} is not open for that`);
-}
-
-function read(file, at, count) {
-  held(file, INPUT);
-  const part = script.subarray(taken, taken + Number(count));
-  new Uint8Array(memory.buffer, at, part.length).set(part);
-  taken += part.length;
-  return BigInt(part.length);
-}
-
-function write(file, at, count) {
-  held(file, OUTPUT);
-  printed.push(Buffer.from(new Uint8Array(memory.buffer, at, Number(count))));
-  return count;
-}
-
-const { main, memory } = new WebAssembly.Instance(program, { env: { read, write } }).exports;
-process.exitCode = main();
-process.stdout.write(Buffer.concat(printed));
+const places = __heap_base.value, text = places + PLACES, given = text + TEXT;
+memory.grow(Math.ceil((PLACES + TEXT + SCRIPT) / PAGE));
+const bytes = new Uint8Array(memory.buffer);
+bytes.set(script, given);
+const count = ocb_rehearse(places, text, given, script.length);
+process.stdout.write(bytes.subarray(text, text + count));

@@ -93,7 +93,7 @@ def most(figures, side, function, at):
 
 def bounds(level):
     try:
-        return stack.bounds(library(level).with_name(f"{build.CRATE}.o"), stack.pushed(MEMORY))
+        return stack.bounds(library(level).with_name(f"{build.LIBRARY.name}.o"), stack.pushed(MEMORY))
     except stack.Unbounded as trouble:
         raise tools.Trouble(f"-{level}: {trouble}") from None
 
@@ -213,7 +213,7 @@ def print_needs():
 
 def print_lines():
     """The lines of the module that are changed for the target, as a difference. The commonest copy stands for all."""
-    old, new = ((folder / f"{build.CRATE}.ll").read_text(encoding="utf-8").splitlines()
+    old, new = ((folder / f"{build.LIBRARY.name}.ll").read_text(encoding="utf-8").splitlines()
                 for folder in (build.MODULE, library("Os").parent))
     lines = [line for line in difflib.unified_diff(old, new, n=0, lineterm="")
              if not line.startswith(("---", "+++", "@@")) and line[1:] != "start:"]

@@ -1,4 +1,4 @@
-//! Links the static libraries that `rt staticlib` writes for barrier_c and recording_c; OCB_LIBRARY is their folder.
+//! Links the C libraries barrier_c and recording_c; OCB_LIBRARY is their folder.
 fn main() {
     println!("cargo:rerun-if-env-changed=OCB_LIBRARY");
     let folder = std::env::var("OCB_LIBRARY").expect("OCB_LIBRARY: the folder of libbarrier_c.a and librecording_c.a");
