@@ -14,10 +14,10 @@ SCRIPTS = ROOT / "scripts"
 
 # The programs, each with the command that builds it.
 BUILDERS = {
-    "target/bin/boards": "rt check boards",
-    "target/bin/rehearse": "rt check rehearse",
-    "target/bin/record": "rt check record",
-    "target/bin/replay": "rt check replay",
+    "target/bin/boards": "python3 tests/make.py boards",
+    "target/bin/rehearse": "python3 tests/make.py rehearse",
+    "target/bin/record": "python3 tests/make.py record",
+    "target/bin/replay": "python3 tests/make.py replay",
     "target/c/places": "bash tests/c/run",
     "target/c/play": "bash tests/c/run",
 }

@@ -264,7 +264,7 @@ def check_not_built(folder):
         shutil.copy(path, copy)
     script = [str(played.SCRIPTS / "worked")]
     refuse(folder, "partners", ["5"], "partners: target/c/places is not built yet: bash tests/c/run builds it")
-    refuse(folder, "chart", script, "chart: target/bin/rehearse is not built yet: rt check rehearse builds it")
+    refuse(folder, "chart", script, "chart: target/bin/rehearse is not built yet: python3 tests/make.py rehearse builds it")
     (folder / "target" / "bin").mkdir(parents=True)
     shutil.copy(played.ROOT / "target" / "bin" / "rehearse", folder / "target" / "bin")
     refuse(folder, "chart", script, "chart: target/c/play is not built yet: bash tests/c/run builds it")

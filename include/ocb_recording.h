@@ -8,8 +8,8 @@
  * The functions hold no memory of their own. The caller lends each what it reads and writes; any bytes and numbers may be
  * handed in; what is not allowed is refused with its number. Pointers are aligned and not null, also where a count is 0,
  * and what they point to does not overlap. They come in a library of their own, for the machine that recordings are looked
- * at on: `rt staticlib recording_c` writes target/staticlib/librecording_c.a. It can be linked beside the barrier's, and
- * needs nothing of it.
+ * at on: `python3 tests/make.py recording_c` writes target/staticlib/librecording_c.a. It can be linked beside the
+ * barrier's, and needs nothing of it.
  *
  * An event is four bytes: the letter of the rehearsal's line, its one or two node numbers, and the answer of the call.
  *

@@ -1,5 +1,5 @@
 "use strict";
-// The proved library and the proved program rehearse, as WebAssembly, with arrays for pointers; and what the words of a
+// The proved library and the proved rehearsal, as WebAssembly, with arrays for pointers; and what the words of a
 // state say. DATA.header has the numbers of include/ocb.h by name, DATA.boards by the nodes of a board where its states
 // have what. Nothing here or in board.js, sums.js, plan.js, words.js and address.js wants a browser.
 
@@ -44,25 +44,18 @@ function libraryOf(instance) {
   };
 }
 
-// The program rehearse: bytes of a script in, what it prints out. Its read and write are here.
+// The rehearsal: bytes of a script in, what the program rehearse prints of it out. What it is lent lies above its own memory.
 async function rehearseOf(module) {
-  let instance, script, given, printed;
-  const octets = (at, count) => new Uint8Array(instance.exports.memory.buffer, at, count);
-  const read = (_, at, count) => {
-    const part = script.subarray(given, given + Number(count));
-    octets(at, part.length).set(part);
-    given += part.length;
-    return BigInt(part.length);
-  };
-  const write = (_, at, count) => {
-    printed += Array.from(octets(at, Number(count)), (byte) => String.fromCharCode(byte)).join("");
-    return count;
-  };
-  instance = await WebAssembly.instantiate(module, { env: { read, write } });
+  const { memory, ocb_rehearse, __heap_base } = (await WebAssembly.instantiate(module, {})).exports;
+  const { script: most, places: room, text: longest } = DATA.lent;
+  const places = __heap_base.value, text = places + room, given = text + longest;
+  memory.grow(Math.ceil((room + longest + most) / 65536));
   return (bytes) => {
-    [script, given, printed] = [bytes, 0, ""];
-    if (instance.exports.main() !== 0) throw new Error("rehearse has not ended well");
-    return printed;
+    const octets = new Uint8Array(memory.buffer), script = bytes.slice(0, most);
+    octets.fill(0, places, given);
+    octets.set(script, given);
+    const count = ocb_rehearse(places, text, given, script.length);
+    return Array.from(octets.subarray(text, text + count), (byte) => String.fromCharCode(byte)).join("");
   };
 }
 

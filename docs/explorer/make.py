@@ -27,6 +27,7 @@ BUILT = tools.OUT / "wasm32" / "Os"
 CODE = ["library.js", "board.js", "sums.js", "plan.js", "address.js", "words.js", "drawing.js"]
 NODES = 16  # of the largest board that rehearse plays
 ROW = re.compile(r"^\| (\d+) \| `OCB_\w+` \| ([a-z ]+) \| (.*) \|$", re.MULTILINE)
+LENT = re.compile(r"^#define OCB_REHEARSE_([A-Z]+) (\d+)", re.MULTILINE)
 LINK = re.compile(r"\[([^\]]*)\]\([^)]*\)")
 
 
@@ -70,13 +71,18 @@ def header():
     return {**played.header(), **dict(zip(more, played.macros(more)))}
 
 
+def lent():
+    """What the rehearsal is lent, in bytes."""
+    return {name.lower(): int(count) for name, count in LENT.findall((tools.HERE / "wasm32" / "rehearse.h").read_text(encoding="utf-8"))}
+
+
 def data():
     answers, refusals = tables()
-    files = {name: played.read(BUILT / name) for name in (wasm.LIBRARY, wasm.PROGRAM)}
+    files = {name: played.read(BUILT / name) for name in (wasm.LIBRARY, wasm.REHEARSAL)}
     sums = [f"{name}: {len(held):,} bytes, SHA-256 {hashlib.sha256(held).hexdigest()}." for name, held in files.items()]
     scripts = {path.name: path.read_text(encoding="utf-8") for path in sorted(played.SCRIPTS.iterdir()) if path.is_file()}
     found = {"header": header(), "boards": boards(), "answers": answers, "refusals": refusals, "scripts": scripts,
-             "made": " ".join(sums)}
+             "lent": lent(), "made": " ".join(sums)}
     found.update((name.split(".")[0], base64.b64encode(held).decode()) for name, held in files.items())
     return "const DATA = " + json.dumps(found, ensure_ascii=False).replace("</", "<\\/") + ";\n"
 
