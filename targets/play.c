@@ -1,6 +1,6 @@
 /*
  * Plays boards through the library, with other calls in between, and prints a hash of all that the calls gave: every
- * answer, frame, word found and state. The same file is compiled for this machine, with the archive of rt staticlib, and
+ * answer, frame, word found and state. The same file is compiled for this machine, with the archive for x86-64, and
  * for each target with its own; what is printed must be the same. -DLONG plays more.
  *
  * A line has a board's nodes, how many calls were made on it, and the hash of the calls since the line before. At the end

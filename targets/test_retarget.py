@@ -216,10 +216,10 @@ def test_rehearsal(target):
     """How many wrong modules were tried; one is a right one, of another kind."""
     text = kept(build.REHEARSAL)
     retarget.retarget(text, target, "O2", "rehearsal")
-    for edit in REHEARSAL_EDITS:
+    for edit in EDITS + REHEARSAL_EDITS:
         try_edit(text, target, "rehearsal", *edit)
     must_refuse(kept(build.LIBRARY), target, "rehearsal", "the library as the rehearsal", "the header does not have")
-    return len(REHEARSAL_EDITS) + 1
+    return len(EDITS + REHEARSAL_EDITS) + 1
 
 
 def test(names):

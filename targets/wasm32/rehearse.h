@@ -1,5 +1,5 @@
 /* The rehearsal of a board, as rehearse.wasm exports it: what the program rehearse prints of a script. The caller lends places for the
-   frames under way and for the text; the answer is how many bytes of the text are printed. */
+   frames under way and for the text; the answer is how many bytes of the text are printed. No pointer is null. */
 #ifndef OCB_REHEARSE_H
 #define OCB_REHEARSE_H
 
