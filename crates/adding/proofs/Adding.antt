@@ -4,7 +4,6 @@ use mathlib.Core.Path.{◌≡◌, refl, sym, ap, ◌∙◌}
 use mathlib.Core.Bool.{Bool, true, false}
 use mathlib.Core.List.{List}
 use Prim.Native.Nat.{ℕ, ◌+◌, ◌-◌, ◌≤◌, ◌<◌}
-use native.Mathlib.Decide.{ℕ_discrete}
 use native.Mathlib.Omega.{arith}
 use lib.ListN.{length, length-set, set}
 use lib.Seq.{get_or-set_same, get_or-set_other}
@@ -73,62 +72,6 @@ module _ (before : List ℕ) (to : ℕ) (ws : List ℕ) (from limit : ℕ) where
     pub done : (j : ℕ) → j < i
         → (word before (to + j) + word ws (from + j) ≤ limit) × (word sums (to + j) ≡ word before (to + j) + word ws (from + j))
     pub others : (j : ℕ) → Apart to i j → word sums j ≡ word before j
-
-  pub none_done : Upto 0 before
-  none_done = record { long = refl; done = λ j h. absurd (omega arith); others = λ j h. refl }
-
-  module _ (count i : ℕ) (sums : List ℕ) (u : Upto i sums) (next : i < count) (wide : to + count ≤ length before)
-      (after : List ℕ) (r : Bool) (a : AddedAt sums (to + i) ws (from + i) limit after r) where
-    same : word sums (to + i) + word ws (from + i) ≡ word before (to + i) + word ws (from + i)
-    same = ap (λ y. y + word ws (from + i)) (u.others (to + i) (λ n. omega arith))
-
-    pub run_length : length after ≡ length before
-    run_length = kept_length sums (to + i) ws (from + i) limit after r a ∙ u.long
-
-    pub run_stopped : r ≡ false → AddedRun before to ws from count limit after false
-    run_stopped e =
-        record {
-          within = λ q. clash (sym q);
-          over = λ q w. (not_added sums (to + i) ws (from + i) limit after r a e).0 (omega (arith, same, w i next));
-          inside = λ q. clash (sym q);
-          others = λ q. clash (sym q);
-          length = run_length;
-        }
-
-    pub run_more : r ≡ true → Upto (i + 1) after
-    run_more e =
-        record {
-          long = run_length;
-          done = λ j h. go j h (ℕ_discrete j i);
-          others = λ j h.
-              other_kept sums (to + i) ws (from + i) limit after r a e j (λ z. out j h z) ∙ u.others j (λ n. omega (arith, h n));
-        }
-      where
-        out : (j : ℕ) → Apart to (i + 1) j → j ≡ to + i → ⊥
-        out j h z = let l = h (λ n. omega arith) in omega arith
-
-        go : (j : ℕ) → j < i + 1 → Dec (j ≡ i)
-            → (word before (to + j) + word ws (from + j) ≤ limit)
-            × (word after (to + j) ≡ word before (to + j) + word ws (from + j))
-        go j h (yes z) =
-            rw z (
-              omega (arith, sum_low sums (to + i) ws (from + i) limit after r a e, same),
-              sum_put sums (to + i) ws (from + i) limit after r a e (omega (arith, u.long)) ∙ same,
-            )
-        go j h (no z) =
-            let d = u.done j (omega arith) in
-            (d.0, other_kept sums (to + i) ws (from + i) limit after r a e (to + j) (λ q. z (omega arith)) ∙ d.1)
-
-  pub run_ended : (count i : ℕ) (sums : List ℕ) → Upto i sums → i ≡ count → AddedRun before to ws from count limit sums true
-  run_ended count i sums u z =
-      let v : Upto count sums = rw z at u in
-      record {
-        within = λ q j h. (v.done j h).0;
-        over = λ q. clash q;
-        inside = λ q j h. (v.done j h).1;
-        others = λ q. v.others;
-        length = v.long;
-      }
 
 module _ (ws before : List ℕ) (p k limit : ℕ) where
   abbrev x : Stored
@@ -286,15 +229,6 @@ module _ (ws before : List ℕ) (p k limit : ℕ) where
                 (λ w. (not_added one _ ws _ limit two t b z).0 (omega (arith, received_sum, w all_taken tt))))
 
   -- ---- Both
-
-  pub totals_over : (mid : List ℕ) → AddedTotals p x limit before mid false → Within limit p k x before → ⊥
-  totals_over mid t w = t.over refl go
-    where
-      go : (f : Field) → IsTotal f → Fine f
-      go (sent_in m) h = elim h [ ]
-      go (taken_in m) h = elim h [ ]
-      go all_sent h = w all_sent tt
-      go all_taken h = w all_taken tt
 
   module _ (mid : List ℕ) (t : AddedTotals p x limit before mid true) where
     -- the sums of the shells are still the own ones

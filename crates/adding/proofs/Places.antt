@@ -116,29 +116,3 @@ above_at p k w n low few long wide =
 
 pub above : (ws sums : List ℕ) (p k : ℕ) → Framed ws sums p k → Above p k (length ws) (length sums)
 above ws sums p k f = above_at p k (length ws) (length sums) f.low f.few f.long f.wide
-
--- ---- sums by themselves, and in runs
-
-pub scaled_fits : {i : ℕ} → Fits w32 i → Fits w64 (i * 4)
-scaled_fits {i} f = let h = f.fits in record { fits = omega arith }
-
--- turn i of a run of `count` numbers, from place `from` of w words to place `to` of n
-pub record Turn (to from count i w n : ℕ) : Type 0 where
-  pub to_fits : Fits w32 (to + i)
-  pub from_fits : Fits w32 (from + i)
-  pub there : (to + i < n) × (from + i < w)
-  pub next : Fits w32 (i + 1)
-  pub less : count - (i + 1) < count - i
-  pub more : i + 1 ≤ count
-
-pub turn_at_lem : (to from count i w n : ℕ) → i < count → to + count ≤ n → from + count ≤ w → to + count ≤ most_words
-    → from + count ≤ most_words → Turn to from count i w n
-turn_at_lem to from count i w n low a b c d =
-    record {
-      to_fits = record { fits = omega arith };
-      from_fits = record { fits = omega arith };
-      there = (omega arith, omega arith);
-      next = record { fits = omega arith };
-      less = omega arith;
-      more = omega arith;
-    }

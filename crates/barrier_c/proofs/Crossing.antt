@@ -3,9 +3,11 @@ use mathlib.Core.Path.{◌≡◌}
 use mathlib.Core.List.{List}
 use Prim.Native.Nat.{ℕ}
 use lib.ListN.{length}
+use Rattle.std.specs.Prelude.{Result}
 use Rattle.base.specs.Limits.{Limits, base}
+use Rattle.base.specs.declared.Refusal.{Refusal}
 use Rattle.node.specs.Answers.{barrier_number, barrier_of}
-use Rattle.node.specs.declared.BarrierAnswer.{BarrierAnswer}
+use Rattle.node.specs.declared.Step.{Step}
 use Rattle.answers.specs.Words.{detail_words}
 use Rattle.barrier_c.specs.Exports.{barrier_on, barrier_state, barrier_buffer}
 
@@ -17,13 +19,13 @@ Crossed ws buf ds x state bytes details =
     × ((bytes ≡ barrier_buffer base ws buf) × (details ≡ detail_words ds (barrier_on base ws (length buf)))))
 
 -- what the call below says
-abbrev pub Stepped : Limits → List ℕ → List ℕ → BarrierAnswer → List ℕ → List ℕ → Type 0
+abbrev pub Stepped : Limits → List ℕ → List ℕ → Result Step Refusal → List ℕ → List ℕ → Type 0
 Stepped L ws buf a state bytes =
     (barrier_of a ≡ barrier_on L ws (length buf))
     × ((state ≡ barrier_state L ws (length buf)) × (bytes ≡ barrier_buffer L ws buf))
 
 pub crossed : (L : Limits) → L ≡ base
-    → (ws buf ds : List ℕ) (a : BarrierAnswer) (x : ℕ) (state bytes details : List ℕ) → Stepped L ws buf a state bytes
+    → (ws buf ds : List ℕ) (a : Result Step Refusal) (x : ℕ) (state bytes details : List ℕ) → Stepped L ws buf a state bytes
     → (x ≡ barrier_number (barrier_of a)) × (details ≡ detail_words ds (barrier_of a))
     → Crossed ws buf ds x state bytes details
 crossed L e ws buf ds a x state bytes details s g =

@@ -4,13 +4,13 @@ use mathlib.Core.List.{List}
 use Prim.Native.Nat.{ℕ}
 use lib.ListN.{length}
 use Rattle.base.specs.Limits.{Limits, base}
+use Rattle.std.specs.Prelude.{⊤}
 use Rattle.base.specs.Refusal.{Answered, refused, found}
 use Rattle.frame.specs.Frame.{read_frame, answer_of}
 use Rattle.frame.specs.declared.Frame.{Frame}
-use Rattle.frame.specs.declared.Outcome.{Outcome}
 use Rattle.field_words.specs.Words.{frame_words}
 use Rattle.fields.specs.Fields.{write_on, written_on}
-use Rattle.lookup_answers.specs.Words.{lookup_number, number_words, read_number}
+use Rattle.lookup_answers.specs.Words.{lookup_number, number_words}
 
 module _ (L : Limits) (e : L ≡ base) (P : ℕ) where
   -- the number, the bytes and the length after a call of the writer below
@@ -23,15 +23,15 @@ module _ (L : Limits) (e : L ≡ base) (P : ℕ) where
       let q : a ≡ write_on base P ws (length buf) = rw e at w.0 in
       (g.0 ∙ ap lookup_number q, (rw e at w.1, g.1 ∙ ap (λ (z : Answered ℕ). number_words z size) q))
 
-  read_number_lem : (a : Answered Frame) → read_number (answer_of a) ≡ lookup_number a
+  read_number_lem : (a : Answered Frame) → lookup_number (answer_of a) ≡ lookup_number a
   read_number_lem (refused x) = refl
   read_number_lem (found f) = refl
 
   -- the number and the words after a call of the reader below
-  pub frame_read : (bs ws after : List ℕ) (o : Outcome) (x : ℕ)
+  pub frame_read : (bs ws after : List ℕ) (o : Answered ⊤) (x : ℕ)
       → (o ≡ answer_of (read_frame L P bs)) × (after ≡ frame_words (read_frame L P bs) ws)
-      → x ≡ read_number o
+      → x ≡ lookup_number o
       → (x ≡ lookup_number (read_frame base P bs)) × (after ≡ frame_words (read_frame base P bs) ws)
   frame_read bs ws after o x r g =
       let q : o ≡ answer_of (read_frame base P bs) = rw e at r.0 in
-      (g ∙ ap read_number q ∙ read_number_lem (read_frame base P bs), rw e at r.1)
+      (g ∙ ap lookup_number q ∙ read_number_lem (read_frame base P bs), rw e at r.1)

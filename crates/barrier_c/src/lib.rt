@@ -15,7 +15,7 @@ ghost use Rattle.answers.specs.Words.{detail_words};
 ghost use Rattle.lookup_answers.specs.Words.{lookup_number, number_words, place_words};
 ghost use Rattle.barrier_c.specs.Exports.{answer_on, words_on, barrier_on, barrier_state, barrier_buffer};
 
-use base::Kind;
+use base::{Bounds, Kind};
 
 // ---- The calls on a state
 
@@ -24,7 +24,7 @@ pub fn ocb_fresh(state: &mut [u32], nodes: u32, number: u32) -> u32
     ensures answer { result ≡ outcome_number (fresh_on base nodes number state.old) }
     ensures memory { state.new ≡ fresh_words base nodes number state.old }
 {
-    answers::number_of(node_calls::fresh(base::of_build(), state, nodes, number))
+    answers::number_of(node_calls::fresh(Bounds::of_build(), state, nodes, number))
 }
 
 // One message more is sent to a node. Refuses 13, 2, 3, 4, 5.
@@ -32,7 +32,7 @@ pub fn ocb_send(state: &mut [u32], to: u32) -> u32
     ensures answer { result ≡ answer_on base (λ n. send base n to) state.old }
     ensures memory { state.new ≡ words_on base (λ n. send base n to) state.old }
 {
-    answers::number_of(calls::send_to(base::of_build(), state, to))
+    answers::number_of(calls::send_to(Bounds::of_build(), state, to))
 }
 
 // A job from a node, with its phase byte, is taken. Refuses 13, 2, 3, 7 or 8, 6.
@@ -40,7 +40,7 @@ pub fn ocb_take(state: &mut [u32], from: u32, phase: u8) -> u32
     ensures answer { result ≡ answer_on base (λ n. take base n Job from phase) state.old }
     ensures memory { state.new ≡ words_on base (λ n. take base n Job from phase) state.old }
 {
-    answers::number_of(calls::take_from(base::of_build(), state, Kind::Job, from, phase))
+    answers::number_of(calls::take_from(Bounds::of_build(), state, Kind::Job, from, phase))
 }
 
 // A note from a node, with its phase byte, is taken. Refuses 13, 2, 3, 7 or 8, 6.
@@ -48,7 +48,7 @@ pub fn ocb_take_note(state: &mut [u32], from: u32, phase: u8) -> u32
     ensures answer { result ≡ answer_on base (λ n. take base n Note from phase) state.old }
     ensures memory { state.new ≡ words_on base (λ n. take base n Note from phase) state.old }
 {
-    answers::number_of(calls::take_from(base::of_build(), state, Kind::Note, from, phase))
+    answers::number_of(calls::take_from(Bounds::of_build(), state, Kind::Note, from, phase))
 }
 
 // The node has run out of work. Refuses 13.
@@ -56,7 +56,7 @@ pub fn ocb_idle(state: &mut [u32]) -> u32
     ensures answer { result ≡ answer_on base (λ n. idle base n) state.old }
     ensures memory { state.new ≡ words_on base (λ n. idle base n) state.old }
 {
-    answers::number_of(calls::go_idle(base::of_build(), state))
+    answers::number_of(calls::go_idle(Bounds::of_build(), state))
 }
 
 // A frame has come. Refuses 13, 9, 10, 2, 3, 11, 7, 8.
@@ -64,7 +64,7 @@ pub fn ocb_frame_in(state: &mut [u32], bytes: &[u8]) -> u32
     ensures answer { result ≡ answer_on base (λ n. frame_in base n bytes.now) state.old }
     ensures memory { state.new ≡ words_on base (λ n. frame_in base n bytes.now) state.old }
 {
-    answers::number_of(calls::frame_in(base::of_build(), state, bytes))
+    answers::number_of(calls::frame_in(Bounds::of_build(), state, bytes))
 }
 
 // ---- The barrier call
@@ -77,7 +77,7 @@ pub fn ocb_barrier(state: &mut [u32], buf: &mut [u8], details: &mut [u32; 5]) ->
     ensures details { details.new
         ≡ detail_words details.old (barrier_on base state.old (length buf.old)) }
 {
-    answers::answer_barrier(calls::step(base::of_build(), state, buf), details)
+    answers::answer_barrier(calls::step(Bounds::of_build(), state, buf), details)
 }
 
 // ---- The lookups
@@ -120,7 +120,7 @@ pub fn ocb_frame_write(
     ensures size { size.new
         ≡ number_words (write_on base nodes fields.now (length buf.old)) size.old }
 {
-    lookup_answers::answer_found(fields::write(base::of_build(), nodes, fields, buf), size)
+    lookup_answers::answer_found(fields::write(Bounds::of_build(), nodes, fields, buf), size)
 }
 
 // Reads a frame. Refuses 1, 9, 10, 2.
@@ -128,5 +128,5 @@ pub fn ocb_frame_read(nodes: u32, bytes: &[u8], fields: &mut [u32; field_words::
     ensures answer { result ≡ lookup_number (read_frame base nodes bytes.now) }
     ensures memory { fields.new ≡ frame_words (read_frame base nodes bytes.now) fields.old }
 {
-    lookup_answers::answer_read(fields_read::read(base::of_build(), nodes, bytes, fields))
+    lookup_answers::answer_read(fields_read::read(Bounds::of_build(), nodes, bytes, fields))
 }

@@ -1,37 +1,59 @@
 -- Refusals: their words and numbers (rule R1), and how they are given in a stated order (rule R2).
-use Rattle.std.specs.Prelude.{Bool, List, [], ◌∷◌, ℕ}
+use Rattle.std.specs.Prelude.{Bool, List, [], ◌∷◌, ℕ, Result, Ok, Err}
 use Rattle.base.specs.Choice.{choose}
-
-pub data Refusal : Type 0 where
-  board stranger self resting sent_out taken_full early foreign length : Refusal
-  field partner working state buffer crowded nothing script : Refusal
-  recording differs : Refusal
+use Rattle.base.specs.declared.Refusal.{Refusal}
+use Rattle.base.specs.declared.Refusal.TheVariants.{
+  Board,
+  Stranger,
+  Itself,
+  Resting,
+  SentOut,
+  TakenFull,
+  Early,
+  Foreign,
+  Length,
+  Field,
+  Partner,
+  Working,
+  State,
+  Buffer,
+  Crowded,
+  Nothing,
+  Script,
+  Recording,
+  Differs,
+}
 
 abbrev pub number : Refusal → ℕ
-number board = 1
-number stranger = 2
-number self = 3
-number resting = 4
-number sent_out = 5
-number taken_full = 6
-number early = 7
-number foreign = 8
-number length = 9
-number field = 10
-number partner = 11
-number working = 12
-number state = 13
-number buffer = 14
-number crowded = 15
-number nothing = 16
-number script = 17
-number recording = 18
-number differs = 19
+number Board = 1
+number Stranger = 2
+number Itself = 3
+number Resting = 4
+number SentOut = 5
+number TakenFull = 6
+number Early = 7
+number Foreign = 8
+number Length = 9
+number Field = 10
+number Partner = 11
+number Working = 12
+number State = 13
+number Buffer = 14
+number Crowded = 15
+number Nothing = 16
+number Script = 17
+number Recording = 18
+number Differs = 19
 
 -- What a lookup answers: a refusal by its number, or a value.
 pub data Answered (A : Type 0) : Type 0 where
   refused : ℕ → Answered A
   found : A → Answered A
+
+-- what an answer in code stands for
+abbrev pub answered : {A : Type 0} → Result A Refusal → Answered A
+answered (Ok a) = found a
+answered (Err r) = refused (number r)
 
 -- A condition, and the refusal that is given where it is met.
 pub record Check : Type 0 where

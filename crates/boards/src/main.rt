@@ -2,19 +2,20 @@
 // of phase bytes; and the frame writer and reader at the limit of a field.
 #![tactic(auto)]
 
-use frame::{Outcome, Timing};
+use base::{Bounds, Refusal};
+use frame::Timing;
 use std::io;
-use tree::{Found, Placed};
+use tree::Placed;
 
-fn print_place(rt: &impl Print, place: Placed) -> io::Result<()> {
+fn print_place(rt: &impl Print, place: Result<Placed, Refusal>) -> io::Result<()> {
     match place {
-        Placed::Alone => print!(rt; " alone"),
-        Placed::Hermit(next) => print!(rt; " hermit, awaits {next}"),
-        Placed::Neighbour(other) => print!(rt; " neighbour of {other}"),
-        Placed::Messenger(other, hermit) => {
+        Ok(Placed::Alone) => print!(rt; " alone"),
+        Ok(Placed::Hermit(next)) => print!(rt; " hermit, awaits {next}"),
+        Ok(Placed::Neighbour(other)) => print!(rt; " neighbour of {other}"),
+        Ok(Placed::Messenger(other, hermit)) => {
             print!(rt; " neighbour of {other} and messenger to {hermit}")
         }
-        Placed::Refused(number) => print!(rt; " refused {number}"),
+        Err(refusal) => print!(rt; " refused {}", refusal.number()),
     }
 }
 
@@ -32,7 +33,7 @@ fn print_node(rt: &impl Print, nodes: u32, node: u32, dimensions: u32) -> io::Re
 }
 
 fn print_board(rt: &impl Print, nodes: u32) -> io::Result<()> {
-    let Found::Is(dimensions) = tree::dimension_of(nodes) else {
+    let Ok(dimensions) = tree::dimension_of(nodes) else {
         return Ok(());
     };
     for node in 0..nodes {
@@ -52,17 +53,17 @@ fn print_timing(rt: &impl Print, node: u8, other: u8) -> io::Result<()> {
     }
 }
 
-fn print_found(rt: &impl Print, answer: Found) -> io::Result<()> {
+fn print_length(rt: &impl Print, answer: Result<u32, Refusal>) -> io::Result<()> {
     match answer {
-        Found::Is(length) => println!(rt; " length {length}"),
-        Found::Refused(number) => println!(rt; " refused {number}"),
+        Ok(length) => println!(rt; " length {length}"),
+        Err(refusal) => println!(rt; " refused {}", refusal.number()),
     }
 }
 
-fn print_outcome(rt: &impl Print, answer: Outcome) -> io::Result<()> {
+fn print_done(rt: &impl Print, answer: Result<(), Refusal>) -> io::Result<()> {
     match answer {
-        Outcome::Done => println!(rt; " done"),
-        Outcome::Refused(number) => println!(rt; " refused {number}"),
+        Ok(()) => println!(rt; " done"),
+        Err(refusal) => println!(rt; " refused {}", refusal.number()),
     }
 }
 
@@ -74,7 +75,10 @@ fn print_written(rt: &impl Print, agreed: u32) -> io::Result<()> {
     words[field_words::SENDER] = 1;
     words[field_words::AGREED] = agreed;
     let mut buffer = [0u8; 12];
-    print_found(rt, fields::write(base::of_build(), 2, &words, &mut buffer))
+    print_length(
+        rt,
+        fields::write(Bounds::of_build(), 2, &words, &mut buffer),
+    )
 }
 
 // The bytes of a pass 2 frame whose T is 6,291,200 = 0x005fff00 with another low byte. With 160 it is the limit.
@@ -82,9 +86,9 @@ fn print_read(rt: &impl Print, low: u8) -> io::Result<()> {
     print!(rt; "field 6291200 and {low} read:")?;
     let bytes = [2, 0, 0, 1, low, 255, 95, 0, 0, 0, 0, 0];
     let mut words = [0u32; field_words::END];
-    print_outcome(
+    print_done(
         rt,
-        fields_read::read(base::of_build(), 2, &bytes, &mut words),
+        fields_read::read(Bounds::of_build(), 2, &bytes, &mut words),
     )
 }
 

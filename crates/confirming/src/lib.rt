@@ -78,7 +78,7 @@ pub fn second_step(
             clause = pass_two::clause(b, frame, is_last(p, k), issued, agreed);
         }
     }
-    let limit = base::field_limit(b);
+    let limit = b.field_limit();
     let received = walked.received;
     Walked {
         ok: scan_tests::may_confirm(frame.mark, frame.agreed, more, awaits, limit),

@@ -7,7 +7,7 @@ use mathlib.Core.List.{List, [], ◌∷◌, ◌++◌, Memᴰ}
 use Prim.Native.Nat.{ℕ, suc, ◌+◌, ◌≤◌, ◌<◌}
 use native.Mathlib.Omega.{arith}
 use Rattle.tree.specs.Tree.{dimension, run_of, awaited, receivers, distance}
-use Rattle.tree.specs.declared.Run.{Run}
+use Rattle.tree.specs.Tree.{Run}
 use Rattle.tree.proofs.Dimension.{positive}
 use Rattle.tree.proofs.Runs.{In, size, run_zero, run_top, run_has, run_same}
 use Rattle.tree.proofs.Halves.{Joined, before, after, joined, awaited_below, alone_keeps, alone_not_last}

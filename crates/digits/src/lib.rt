@@ -16,20 +16,12 @@ pub fn put_digits(out: &mut [u8], at: usize, x: u32) -> usize
     ensures memory { out.new ≡ put out.old at (digits x) }
     ensures place { result ≡ ends out.old at (digits x) }
 {
-    let ones = digit(x);
-    if x < 10 {
-        return printing::put_byte(out, at, ones);
-    }
-    let tens = digit(x / 10);
-    if x < 100 {
-        return printing::put_two(out, at, tens, ones);
-    }
-    let hundreds = digit(x / 100);
-    if x < 1000 {
-        let next = printing::put_byte(&mut *out, at, hundreds);
-        return printing::put_two(&mut *out, next, tens, ones);
-    }
-    let thousands = digit(x / 1000);
-    let next = printing::put_two(&mut *out, at, thousands, hundreds);
-    printing::put_two(&mut *out, next, tens, ones)
+    let four = [digit(x / 1000), digit(x / 100), digit(x / 10), digit(x)];
+    let zeros = match x {
+        0..=9 => 3,
+        10..=99 => 2,
+        100..=999 => 1,
+        _ => 0,
+    };
+    printing::put_bytes(out, at, &four[zeros..])
 }

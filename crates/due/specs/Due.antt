@@ -1,15 +1,14 @@
 -- To whom the frame goes that is due by the words of a state.
-use Rattle.std.specs.Prelude.{List, [], ◌∷◌, ℕ, leb, eqb, length}
+use Rattle.std.specs.Prelude.{List, [], ◌∷◌, ℕ, leb, eqb, length, Option, Some, None}
 use Rattle.base.specs.Choice.{choose, both}
 use Rattle.base.specs.Limits.{Limits}
 use Rattle.base.specs.Refusal.{Answered, refused, found}
 use Rattle.tree.specs.Tree.{Place, sends_to}
 use Rattle.tree.specs.Lookups.{place_lookup}
 use Rattle.node.specs.Answers.{also}
+use Rattle.node.specs.declared.Receivers.{Receivers}
 use Rattle.layout.specs.Places.{at_nodes, at_number, at_dim, at_flag, head_words}
 use Rattle.layout.specs.Held.{word}
-use Rattle.due.specs.declared.Whom.{Whom}
-use Rattle.due.specs.declared.Whom.TheVariants.{Nobody, To}
 
 -- where a place was refused there is nobody to send to
 abbrev pub to_whom : Answered Place → List ℕ
@@ -25,6 +24,6 @@ abbrev pub due_to : Limits → List ℕ → List ℕ
 due_to L ws =
     choose (both (leb head_words (length ws)) (eqb (word ws at_flag) 1)) (to_whom (looked_up L ws)) []
 
-abbrev pub whom_list : Whom → List ℕ
-whom_list Nobody = []
-whom_list (To to) = to.first ∷ also to.extra
+abbrev pub whom_list : Option Receivers → List ℕ
+whom_list None = []
+whom_list (Some to) = to.first ∷ also to.extra

@@ -4,69 +4,50 @@
 ghost use Rattle.std.specs.Prelude.{◌≡◌, ℕ, ◌≤◌, ◌<◌, length};
 ghost use mathlib.Core.List.{Memᴰ};
 ghost use Rattle.base.specs.Limits.{base, limits_of};
-ghost use Rattle.tree.specs.Lookups.{placed_answer};
-ghost use Rattle.node.specs.Barrier.{is_empty};
+ghost use Rattle.tree.specs.Tree.{sends_to};
+ghost use Rattle.tree.specs.Lookups.{place_of as place_of_node, placed_answer};
 ghost use Rattle.layout.specs.Places.{head_words};
-ghost use Rattle.due.specs.Due.{to_whom, looked_up, due_to, whom_list};
+ghost use Rattle.due.specs.Due.{looked_up, due_to, whom_list};
 
-use base::Bounds;
-use node::{Extra, Receivers};
+use base::{Bounds, Refusal};
+use node::Receivers;
 use tree::Placed;
 
-// The receivers of a frame, if any.
-#[derive(Clone, Copy)]
-pub enum Whom {
-    Nobody,
-    To(Receivers),
-}
-
 // The place of the position.
-fn place_of(b: Bounds, s: &[u32]) -> Placed
+fn place_of(b: Bounds, s: &[u32]) -> Result<Placed, Refusal>
     requires { head_words ≤ length s.now }
     ensures { placed_answer result ≡ looked_up (limits_of b) s.now }
 {
     lookups::place_for(b, s[layout::NODES], s[layout::DIM], s[layout::NUMBER])
 }
 
-// The receivers of a node at a place.
-fn whom_of(placed: Placed) -> Whom
-    requires { (b : ℕ) → Memᴰ b (to_whom (placed_answer placed)) → b < base.nodes }
-    ensures { whom_list result ≡ to_whom (placed_answer placed) }
+// The receivers of a node at a place, if any.
+fn whom_of(placed: Placed) -> Option<Receivers>
+    requires { (b : ℕ) → Memᴰ b (sends_to (place_of_node placed)) → b < base.nodes }
+    ensures { whom_list result ≡ sends_to (place_of_node placed) }
 {
     match placed {
-        Placed::Neighbour(b) => Whom::To(Receivers {
+        Placed::Neighbour(b) => Some(Receivers {
             first: b as u8,
-            extra: Extra::Nobody,
+            extra: None,
         }),
-        Placed::Messenger(b, h) => Whom::To(Receivers {
+        Placed::Messenger(b, h) => Some(Receivers {
             first: b as u8,
-            extra: Extra::Also(h as u8),
+            extra: Some(h as u8),
         }),
-        Placed::Alone => Whom::Nobody,
-        Placed::Hermit(_) => Whom::Nobody,
-        Placed::Refused(_) => Whom::Nobody,
+        Placed::Alone | Placed::Hermit(_) => None,
     }
 }
 
-// Those to whom a frame is due: nobody with flag 0, or where the words have no head.
-pub fn to_whom(b: Bounds, s: &[u32]) -> Whom
+// Those to whom a frame is due: nobody with flag 0, or where the words have no head or no place.
+pub fn to_whom(b: Bounds, s: &[u32]) -> Option<Receivers>
     ensures { whom_list result ≡ due_to (limits_of b) s.now }
 {
     if s.len() < layout::HEAD as usize {
-        return Whom::Nobody;
+        return None;
     }
     if s[layout::FLAG] != 1 {
-        return Whom::Nobody;
+        return None;
     }
-    whom_of(place_of(b, s))
-}
-
-// Whether a frame is due to nobody.
-pub fn is_nobody(whom: Whom) -> bool
-    ensures { result ≡ is_empty (whom_list whom) }
-{
-    match whom {
-        Whom::Nobody => true,
-        Whom::To(_) => false,
-    }
+    whom_of(place_of(b, s).ok()?)
 }

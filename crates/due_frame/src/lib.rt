@@ -1,7 +1,7 @@
 // The frame of pass 1, put together from lent words and put into a buffer.
 #![tactic(auto)]
 
-ghost use Rattle.std.specs.Prelude.{◌≡◌, ◌∷◌, ◌+◌, ◌-◌, ◌*◌, ◌%◌, ◌≤◌, length};
+ghost use Rattle.std.specs.Prelude.{◌≡◌, ◌∷◌, ◌+◌, ◌-◌, ◌*◌, ◌%◌, ◌≤◌, length, None};
 ghost use Rattle.base.specs.Choice.{choose};
 ghost use Rattle.frame.specs.Numbers.{bytes_of};
 ghost use Rattle.layout.specs.Places.{sum_words};
@@ -29,8 +29,8 @@ fn put_sums(buf: &mut [u8], p: u8, k: u8, sums: &[u32])
     );
 }
 
-// Puts the frame of pass 1, dimension k. Its length; 0 where there is no room.
-fn put_pass_1(phase: u8, k: u8, sender: u8, p: u8, sums: &[u32], buf: &mut [u8]) -> u32
+// Puts the frame of pass 1, dimension k, where there is room. Its length.
+fn put_pass_1(phase: u8, k: u8, sender: u8, p: u8, sums: &[u32], buf: &mut [u8]) -> Option<u32>
     requires { (k ≤ p) × (sum_words p ≤ length sums.now) }
     ensures answer { result
         ≡ put_length (1 ∷ phase ∷ k ∷ sender ∷ bytes_of (first_numbers sums.now p k))
@@ -40,26 +40,33 @@ fn put_pass_1(phase: u8, k: u8, sender: u8, p: u8, sums: &[u32], buf: &mut [u8])
 {
     let length = 12 + 8 * (p - k) as u32;
     if buf.len() < length as usize {
-        return 0;
+        return None;
     }
     wire::put_head(&mut *buf, 1, phase, k, sender);
     put_sums(&mut *buf, p, k, sums);
-    length
+    Some(length)
 }
 
-// Puts the frame of pass 1. Its length; 0 where there is no room, or the sums of its board are not there.
-pub fn put_first(phase: u8, dim: u32, sender: u8, p: u8, sums: &[u32], buf: &mut [u8]) -> u32
+// Puts the frame of pass 1, where there is room and the sums of its board are there. Its length.
+pub fn put_first(
+    phase: u8,
+    dim: u32,
+    sender: u8,
+    p: u8,
+    sums: &[u32],
+    buf: &mut [u8],
+) -> Option<u32>
     ensures answer { result
         ≡ choose (has_sums p dim (length sums.now))
         (put_length (1 ∷ phase ∷ dim % 256 ∷ sender ∷ bytes_of (first_numbers sums.now p dim))
-        (length buf.old)) 0 }
+        (length buf.old)) None }
     ensures memory { buf.new
         ≡ choose (has_sums p dim (length sums.now))
         (put_bytes (1 ∷ phase ∷ dim % 256 ∷ sender ∷ bytes_of (first_numbers sums.now p dim))
         buf.old) buf.old }
 {
     if !second_frame::has_sums(p, dim, sums.len()) {
-        return 0;
+        return None;
     }
     put_pass_1(phase, (dim % 256) as u8, sender, p, sums, &mut *buf)
 }

@@ -29,8 +29,7 @@ fn put_four(events: &mut [u8], at: usize, letter: u8, first: u32, second: u32, a
     ensures memory { events.new ≡ put events.old at (four_of letter first second answer) }
     ensures place { result ≡ ends events.old at (four_of letter first second answer) }
 {
-    let next = printing::put_two(&mut *events, at, letter, low(first));
-    printing::put_two(&mut *events, next, low(second), low(answer))
+    printing::put_bytes(events, at, &[letter, low(first), low(second), low(answer)])
 }
 
 // Puts the event of a line; nothing where the line is none.

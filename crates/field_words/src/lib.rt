@@ -67,12 +67,7 @@ fn shell_low(limit: u32, p: u32, fields: &[u32; END], m: usize) -> bool
 fn shells_low(limit: u32, p: u32, fields: &[u32; END]) -> bool
     ensures { result ≡ every 0 width (shell_low limit p fields.now) }
 {
-    for m in 0..base::SHELLS {
-        if !shell_low(limit, p, fields, m) {
-            return false;
-        }
-    }
-    true
+    (0..base::SHELLS).all(|m| shell_low(limit, p, fields, m))
 }
 
 // So are the totals and T.
@@ -92,6 +87,6 @@ fn totals_low(limit: u32, fields: &[u32; END]) -> bool
 pub fn numbers_ok(b: Bounds, p: u32, fields: &[u32; END]) -> bool
     ensures { result ≡ numbers_ok (limits_of b) p (frame_from fields.now) }
 {
-    let limit = base::field_limit(b);
+    let limit = b.field_limit();
     shells_low(limit, p, fields) && totals_low(limit, fields)
 }

@@ -10,7 +10,8 @@ use lib.ListN.{length, get_or, length-append}
 use borrow.Author.Tests.{leb-false, lt-ltb, le-ltb}
 use Rattle.base.specs.Choice.{choose, list}
 use Rattle.base.specs.Limits.{Limits, Fits, base, width}
-use Rattle.base.specs.Refusal.{Refusal, Answered, Check, refused, found, when, in_order}
+use Rattle.base.specs.Refusal.{Answered, Check, refused, found, when, in_order}
+use Rattle.base.specs.declared.Refusal.{Refusal}
 use Rattle.base.proofs.Laws.{choose_yes, choose_no, Passes, order_stops, stops_before, checks_stop, checks_known}
 use Rattle.tree.specs.Tree.{dimension}
 use Rattle.tree.specs.Lookups.{bad_board}
@@ -201,7 +202,7 @@ module _ (L : Limits) (P : ℕ) (ws buf : List ℕ) where
   size = frame_length (dimension P) (get_or ws at_pass 0) (get_or ws at_dim 0)
 
   abbrev last : List Check
-  last = when (ltb room size) Refusal.buffer ∷ []
+  last = when (ltb room size) Refusal.Buffer ∷ []
 
   -- the tests made before anything is put, and last the test of the room
   asks : write_on L P ws room ≡ in_order refused (tests L P ws ++ last) (found size)

@@ -1,7 +1,8 @@
 -- What the frame writer answers and leaves, on a frame's fields as words (rule C6).
 use Rattle.std.specs.Prelude.{List, [], ◌∷◌, ℕ, leb, length, get_or}
 use Rattle.base.specs.Limits.{Limits}
-use Rattle.base.specs.Refusal.{Refusal, Answered, refused, when, in_order}
+use Rattle.base.specs.Refusal.{Answered, refused, when, in_order}
+use Rattle.base.specs.declared.Refusal.{Refusal}
 use Rattle.tree.specs.Tree.{dimension}
 use Rattle.tree.specs.Lookups.{bad_board}
 use Rattle.frame.specs.Frame.{frame_bytes, write_frame, over}
@@ -11,7 +12,7 @@ pub use Rattle.field_words.specs.Words.{at_phase, frame_from, frame_words}
 abbrev pub write_on : Limits → ℕ → List ℕ → ℕ → Answered ℕ
 write_on L P ws room =
     in_order refused
-    (when (bad_board L P) Refusal.board ∷ when (leb 256 (get_or ws at_phase 0)) Refusal.field ∷ [])
+    (when (bad_board L P) Refusal.Board ∷ when (leb 256 (get_or ws at_phase 0)) Refusal.Field ∷ [])
     (write_frame L P (frame_from ws) room)
 
 -- the lent bytes after it

@@ -2,15 +2,14 @@
 use mathlib.Core.Path.{◌≡◌, refl, sym, ap, ◌∙◌}
 use mathlib.Core.Logic.{◌⊎◌, inl, inr}
 use mathlib.Core.List.{List}
-use Prim.Native.Nat.{ℕ, ◌-◌, ◌≤◌, ◌<◌}
+use Prim.Native.Nat.{ℕ, ◌≤◌, ◌<◌}
 use native.Mathlib.Omega.{arith}
 use lib.ListN.{length, get_or}
 use Rattle.base.specs.Limits.{Limits, Fits, width}
-use Rattle.base.specs.Refusal.{Answered, found}
+use Rattle.base.specs.Refusal.{Answered, refused, found}
 use Rattle.tree.specs.Tree.{dimension}
 use Rattle.frame.specs.Frame.{frame_length, fields_of, read_frame, answer_of}
 use Rattle.frame.specs.declared.Frame.{Frame}
-use Rattle.frame.specs.declared.Outcome.TheVariants.{Done, Refused}
 use Rattle.frame.proofs.Answers.{answer_refused, answer_done}
 use Rattle.frame.proofs.Writing.{first_length_lem, second_length}
 use Rattle.frame.proofs.RoundTripAccepted.{Read, read_known, head_pass, head_dim}
@@ -19,11 +18,11 @@ use Rattle.field_words.specs.Words.{field_words, frame_words}
 use Rattle.fields_read.specs.Pieces.{dims_by}
 
 -- refused, the words stay
-pub not_read : (r : Answered Frame) (x : ℕ) (ws : List ℕ) → answer_of r ≡ Refused x
-    → (Refused x ≡ answer_of r) × (ws ≡ frame_words r ws)
+pub not_read : (r : Answered Frame) (x : ℕ) (ws : List ℕ) → answer_of r ≡ refused x
+    → (refused x ≡ answer_of r) × (ws ≡ frame_words r ws)
 not_read r x ws e = (sym e, sym (ap (λ a. frame_words a ws) (answer_refused r x e)))
 
-module _ (L : Limits) (P : ℕ) (bs : List ℕ) (good : answer_of (read_frame L P bs) ≡ Done) where
+module _ (L : Limits) (P : ℕ) (bs : List ℕ) (good : answer_of (read_frame L P bs) ≡ found tt) where
   abbrev p : ℕ
   p = dimension P
 
@@ -69,6 +68,6 @@ module _ (L : Limits) (P : ℕ) (bs : List ℕ) (good : answer_of (read_frame L 
   dims_low fit = omega (arith, (sized pass).1, few L fit P p read.accepted.board refl)
 
   pub is_read : (ws after : List ℕ) → after ≡ field_words (fields_of (dims_by bs) bs)
-      → (Done ≡ answer_of (read_frame L P bs)) × (after ≡ frame_words (read_frame L P bs) ws)
+      → (found tt ≡ answer_of (read_frame L P bs)) × (after ≡ frame_words (read_frame L P bs) ws)
   is_read ws after e =
       (sym good, e ∙ ap field_words (sized pass).2 ∙ sym (ap (λ a. frame_words a ws) got))

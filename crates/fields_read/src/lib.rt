@@ -1,18 +1,18 @@
 // The frame reader for tools and tests: from bytes into a frame's fields as words, both lent.
-// Any bytes, words and number of nodes may be handed; what is not allowed is refused with its number (rule R3),
+// Any bytes, words and number of nodes may be handed; what is not allowed is refused (rule R3),
 // and a refused call leaves the words.
 #![tactic(auto)]
 
 ghost use Rattle.std.specs.Prelude.{◌≡◌, ◌+◌, ◌*◌, ◌≤◌, length};
 ghost use Rattle.base.specs.Choice.{list};
 ghost use Rattle.base.specs.Limits.{limits_of, width};
+ghost use Rattle.base.specs.Refusal.{answered};
 ghost use Rattle.frame.specs.Frame.{read_frame, answer_of, first_fields, second_fields, fields_of, shell_at};
 ghost use Rattle.field_words.specs.Words.{field_words, frame_words};
 ghost use Rattle.fields_read.specs.Pieces.{head_words, dims_by};
 
-use base::Bounds;
+use base::{Bounds, Refusal};
 use field_words::{AGREED, DIM, END, ISSUED, PASS, PHASE, RECEIVED, SENDER, SENT, TAKEN};
-use frame::Outcome;
 
 // Puts the words of a head, and no numbers yet.
 fn get_head(bytes: &[u8], fields: &mut [u32; field_words::END])
@@ -68,15 +68,17 @@ fn get_numbers(bytes: &[u8], fields: &mut [u32])
 }
 
 // Reads a frame. Refuses 1, 9, 10, 2.
-pub fn read(b: Bounds, nodes: u32, bytes: &[u8], fields: &mut [u32; field_words::END]) -> Outcome
-    ensures answer { result ≡ answer_of (read_frame (limits_of b) nodes bytes.now) }
+pub fn read(
+    b: Bounds,
+    nodes: u32,
+    bytes: &[u8],
+    fields: &mut [u32; field_words::END],
+) -> Result<(), Refusal>
+    ensures answer { answered result ≡ answer_of (read_frame (limits_of b) nodes bytes.now) }
     ensures memory { fields.new ≡ frame_words (read_frame (limits_of b) nodes bytes.now) fields.old }
 {
-    let answer = wire_read::checked(b, nodes, bytes);
-    if let Outcome::Refused(no) = answer {
-        return Outcome::Refused(no);
-    }
+    wire_read::checked(b, nodes, bytes)?;
     get_head(bytes, &mut *fields);
     get_numbers(bytes, &mut *fields);
-    Outcome::Done
+    Ok(())
 }

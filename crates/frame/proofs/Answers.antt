@@ -1,12 +1,13 @@
 -- Laws of the reader's answers: each refusal in its order, and what is found when none is met.
 use Rattle.std.proofs.Common.{◌≡◌, ℕ, ◌<◌, ◌≤◌, true, false, List, length, get_or, refl, arith, le-ltb, lt-ltb, eq-eqb, ne_eqb, le-leb}
 use borrow.Author.Tests.{lt-leb}
+use mathlib.Core.Path.{sym, ap}
 use Rattle.base.specs.Limits.{Limits}
 use Rattle.base.specs.Refusal.{Answered, refused, found}
 use Rattle.tree.specs.Tree.{dimension}
 use Rattle.tree.specs.Lookups.{bad_board}
+use Rattle.tree.proofs.Lookups.{not_refused, refused_same}
 use Rattle.frame.specs.declared.Frame.{Frame}
-use Rattle.frame.specs.declared.Outcome.TheVariants.{Done, Refused}
 use Rattle.frame.specs.Frame.{bad_step, frame_length, numbers_ok, fields_of, read_frame, answer_of}
 
 module _ (L : Limits) (P : ℕ) (bs : List ℕ) where
@@ -45,10 +46,10 @@ module _ (L : Limits) (P : ℕ) (bs : List ℕ) where
 
 -- ---- what is answered beside the fields
 
-pub answer_refused : (r : Answered Frame) (x : ℕ) → answer_of r ≡ Refused x → r ≡ refused x
-answer_refused (refused y) x q = cc
-answer_refused (found f) x q = let z : ◌≡◌ {A = ℕ} 0 1 = cc in absurd (omega arith)
+pub answer_refused : (r : Answered Frame) (x : ℕ) → answer_of r ≡ refused x → r ≡ refused x
+answer_refused (refused y) x q = ap refused (refused_same q)
+answer_refused (found f) x q = not_refused (sym q)
 
-pub answer_done : (r : Answered Frame) → answer_of r ≡ Done → (f : Frame) × (r ≡ found f)
-answer_done (refused y) q = let z : ◌≡◌ {A = ℕ} 0 1 = cc in absurd (omega arith)
+pub answer_done : (r : Answered Frame) → answer_of r ≡ found tt → (f : Frame) × (r ≡ found f)
+answer_done (refused y) q = not_refused q
 answer_done (found f) q = (f, refl)

@@ -3,7 +3,8 @@
 use Rattle.std.proofs.Common.{◌≡◌, ℕ, ◌+◌, ◌-◌, ◌*◌, ◌^◌, ◌<◌, ◌≤◌, true, false, not, eqb, ltb, leb, ◌⊎◌, List, [], ◌∷◌, length, get_or, sym, refl, ap, ◌∙◌, subst, arith, ltb-false, le-ltb, eq-eqb, ne_eqb, eqb-true, leb-false}
 use borrow.Author.Tests.{lt-leb, not-false}
 use Rattle.base.specs.Limits.{Limits, field_limit, width, base}
-use Rattle.base.specs.Refusal.{Refusal, refused, found, Check, when}
+use Rattle.base.specs.Refusal.{refused, found, Check, when}
+use Rattle.base.specs.declared.Refusal.{Refusal}
 use Rattle.base.proofs.Laws.{choose_yes, choose_no, cases, Passes, order_passes, checks_known}
 use Rattle.tree.specs.Tree.{dimension}
 use Rattle.tree.specs.Lookups.{bad_board}
@@ -67,11 +68,11 @@ pub record Written (L : Limits) (P : ℕ) (f : Frame) (room n : ℕ) : Type 0 wh
 
 write_checks : Limits → ℕ → Frame → ℕ → List Check
 write_checks L P f room =
-    when (bad_board L P) Refusal.board
-    ∷ when (bad_step (dimension P) f.pass f.dim) Refusal.field
-    ∷ when (not (numbers_ok L (dimension P) f)) Refusal.field
-    ∷ when (leb P f.sender) Refusal.stranger
-    ∷ when (ltb room (size P f)) Refusal.buffer
+    when (bad_board L P) Refusal.Board
+    ∷ when (bad_step (dimension P) f.pass f.dim) Refusal.Field
+    ∷ when (not (numbers_ok L (dimension P) f)) Refusal.Field
+    ∷ when (leb P f.sender) Refusal.Stranger
+    ∷ when (ltb room (size P f)) Refusal.Buffer
     ∷ []
 
 module _ (L : Limits) (P : ℕ) (f : Frame) (room : ℕ) where
@@ -140,7 +141,7 @@ module _ (L : Limits) (P : ℕ) (bs : List ℕ) where
   p = dimension P
 
   checks : List Check
-  checks = when (bad_board L P) Refusal.board ∷ read_checks L P bs
+  checks = when (bad_board L P) Refusal.Board ∷ read_checks L P bs
 
   known : Passes checks → Read L P bs (fields_of p bs)
   unfolding checks

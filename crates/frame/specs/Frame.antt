@@ -1,16 +1,15 @@
 -- Frames (rule F1 to rule F4): their length, their bytes, their fields, the writer and the reader.
-use Rattle.std.specs.Prelude.{ℕ, ◌+◌, ◌-◌, ◌*◌, Bool, true, not, List, [], ◌∷◌, ◌++◌, length, drop, ◌==◌, nat_le, nat_lt, slice_index, slice_index_or}
+use Rattle.std.specs.Prelude.{ℕ, ◌+◌, ◌-◌, ◌*◌, Bool, true, not, List, [], ◌∷◌, ◌++◌, length, drop, ◌==◌, nat_le, nat_lt, slice_index, slice_index_or, ⊤}
 use Rattle.base.specs.Choice.{choose, both, either, every, list}
 use Rattle.base.specs.Limits.{Limits, field_limit, width}
-use Rattle.base.specs.Refusal.{Refusal, Answered, refused, found, Check, when, in_order}
+use Rattle.base.specs.Refusal.{Answered, refused, found, Check, when, in_order}
+use Rattle.base.specs.declared.Refusal.{Refusal}
 use Rattle.tree.specs.Tree.{dimension}
 use Rattle.tree.specs.Lookups.{bad_board}
 use Rattle.frame.specs.Numbers.{bytes_of, word_at}
 use Rattle.frame.specs.declared.Sent.{Sent}
 use Rattle.frame.specs.declared.Taken.{Taken}
 use Rattle.frame.specs.declared.Frame.{Frame}
-use Rattle.frame.specs.declared.Outcome.{Outcome}
-use Rattle.frame.specs.declared.Outcome.TheVariants.{Done, Refused}
 
 abbrev pub sent_number : ℕ → Sent
 sent_number x = record { 0 = x }
@@ -113,27 +112,27 @@ numbers_ok L p f =
 abbrev pub read_checks : Limits → ℕ → List ℕ → List Check
 read_checks L P bs =
     let p = dimension P in
-    when (nat_lt (length bs) 4) Refusal.length
-    ∷ when (bad_step p (slice_index bs 0) (slice_index bs 2)) Refusal.field
-    ∷ when (not (length bs == frame_length p (slice_index bs 0) (slice_index bs 2))) Refusal.length
-    ∷ when (not (numbers_ok L p (fields_of p bs))) Refusal.field
-    ∷ when (nat_le P (slice_index bs 3)) Refusal.stranger
+    when (nat_lt (length bs) 4) Refusal.Length
+    ∷ when (bad_step p (slice_index bs 0) (slice_index bs 2)) Refusal.Field
+    ∷ when (not (length bs == frame_length p (slice_index bs 0) (slice_index bs 2))) Refusal.Length
+    ∷ when (not (numbers_ok L p (fields_of p bs))) Refusal.Field
+    ∷ when (nat_le P (slice_index bs 3)) Refusal.Stranger
     ∷ []
 
 unfoldable pub read_frame : Limits → ℕ → List ℕ → Answered Frame
 read_frame L P bs =
-    in_order refused (when (bad_board L P) Refusal.board ∷ read_checks L P bs) (found (fields_of (dimension P) bs))
+    in_order refused (when (bad_board L P) Refusal.Board ∷ read_checks L P bs) (found (fields_of (dimension P) bs))
 
 -- the writer, in the order of rule R3, answers the frame's length
 unfoldable pub write_frame : Limits → ℕ → Frame → ℕ → Answered ℕ
 write_frame L P f room =
     let p = dimension P in
     in_order refused
-    (when (bad_board L P) Refusal.board
-    ∷ when (bad_step p f.pass f.dim) Refusal.field
-    ∷ when (not (numbers_ok L p f)) Refusal.field
-    ∷ when (nat_le P f.sender) Refusal.stranger
-    ∷ when (nat_lt room (frame_length p f.pass f.dim)) Refusal.buffer
+    (when (bad_board L P) Refusal.Board
+    ∷ when (bad_step p f.pass f.dim) Refusal.Field
+    ∷ when (not (numbers_ok L p f)) Refusal.Field
+    ∷ when (nat_le P f.sender) Refusal.Stranger
+    ∷ when (nat_lt room (frame_length p f.pass f.dim)) Refusal.Buffer
     ∷ [])
     (found (frame_length p f.pass f.dim))
 
@@ -147,7 +146,7 @@ written L P f buf = over (frame_bytes (dimension P) f) buf (write_frame L P f (l
 
 -- ---- What the reader returns
 
--- beside the fields: done, or the number of a refusal
-abbrev pub answer_of : Answered Frame → Outcome
-answer_of (refused x) = Refused x
-answer_of (found f) = Done
+-- beside the fields: that there are some, or the number of a refusal
+abbrev pub answer_of : Answered Frame → Answered ⊤
+answer_of (refused x) = refused x
+answer_of (found f) = found tt

@@ -2,17 +2,52 @@
 // and written in place, by the crates above.
 #![tactic(auto)]
 
-ghost use Rattle.std.specs.Prelude.{◌≡◌};
+ghost use Rattle.std.specs.Prelude.{◌≡◌, ℕ};
 ghost use Rattle.frame.specs.Frame.{bad_step};
 ghost use Rattle.frame.specs.Timing.{timing};
+
+// A tally of messages: what is done alike with those sent and those taken is one function over this trait, at one kind a call.
+pub trait Tally: Copy {
+    ghost count: { Self → ℕ };
+
+    fn of(number: u32) -> Self
+        ensures { count result ≡ number };
+
+    fn number(self) -> u32
+        ensures { result ≡ count self };
+}
 
 // A tally of messages sent.
 #[derive(Clone, Copy)]
 pub struct Sent(pub u32);
 
+impl Tally for Sent {
+    ghost count = { λ sent. sent.0 };
+
+    fn of(number: u32) -> Sent {
+        Sent(number)
+    }
+
+    fn number(self) -> u32 {
+        self.0
+    }
+}
+
 // A tally of messages taken.
 #[derive(Clone, Copy)]
 pub struct Taken(pub u32);
+
+impl Tally for Taken {
+    ghost count = { λ taken. taken.0 };
+
+    fn of(number: u32) -> Taken {
+        Taken(number)
+    }
+
+    fn number(self) -> u32 {
+        self.0
+    }
+}
 
 // The fields of a frame of pass 1 or 2. What its pass, dimension or board does not have is 0.
 #[derive(Clone, Copy)]
@@ -30,13 +65,6 @@ pub struct Frame {
     pub received: Taken,
     // pass 2: the agreed total T
     pub agreed: u32,
-}
-
-// What a reader answers: done, or the number of a refusal.
-#[derive(Clone, Copy)]
-pub enum Outcome {
-    Done,
-    Refused(u8),
 }
 
 // A phase byte beside a node's.

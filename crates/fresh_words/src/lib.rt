@@ -27,9 +27,7 @@ fn put_zeros(state: &mut [u32], from: u32, end: u32)
     ensures { state.new
         ≡ take from state.old ++ (list 0 (end - from) (λ i. 0) ++ drop end state.old) }
 {
-    for i in from..end {
-        state[i as usize] = 0;
-    }
+    state[from as usize..end as usize].fill(0);
 }
 
 // Puts the state of a fresh node of a board of p dimensions. Puts none where there is no room.

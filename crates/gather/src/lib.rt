@@ -28,6 +28,7 @@ fn no_tallies() -> Tallies
 }
 
 // Makes the tallies of p shells the first sums and answers their totals, up to the first that comes above the most.
+// Shells count in 32 bits: an iterator over the slices counts in 64, and has more at hand.
 fn copy_tallies(s: &[u32], sums: &mut [u32], p: u32, sends: Sent, takes: Taken) -> Tallies
     requires { has_room p (length s.now) (length sums.old) ≡ true }
     ensures { Copied p s.now sends.0 takes.0 sums.old sums.new result }
@@ -82,7 +83,7 @@ pub fn start(b: Bounds, s: &[u32], sums: &mut [u32], p: u32) -> Tallies
         &mut *sums,
         p,
         Sent(b.sends as u32),
-        Taken(base::taken_limit(b)),
+        Taken(b.taken_limit()),
     );
     if !own.ok {
         return own;

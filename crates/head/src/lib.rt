@@ -13,7 +13,7 @@ ghost use Rattle.layout.specs.Places.{head_words, at_nodes, at_number, at_pass, 
 
 use base::Bounds;
 use survey::Spot;
-use tree::{Found, Placed};
+use tree::Placed;
 
 // Where the node is, if its head passes. Where that does not, all else is 0.
 #[derive(Clone, Copy)]
@@ -108,14 +108,10 @@ fn head_ok(s: &[u32], limit: u32, p: u32) -> bool
 fn is_alone(b: Bounds, nodes: u32, number: u32) -> bool
     ensures { result ≡ lone (limits_of b) nodes number }
 {
-    let place = lookups::place_for(b, nodes, 0, number);
-    match place {
-        Placed::Alone => true,
-        Placed::Hermit(next) => false,
-        Placed::Neighbour(other) => false,
-        Placed::Messenger(other, last) => false,
-        Placed::Refused(no) => false,
-    }
+    let Ok(place) = lookups::place_for(b, nodes, 0, number) else {
+        return false;
+    };
+    matches!(place, Placed::Alone)
 }
 
 fn spot_at(b: Bounds, s: &[u32], p: u32) -> Spot
@@ -138,7 +134,7 @@ fn head_on(b: Bounds, s: &[u32], p: u32) -> Head
     requires { Boarded (limits_of b) s.now p }
     ensures { result ≡ headed (limits_of b) s.now }
 {
-    if !head_ok(s, base::field_limit(b), p) {
+    if !head_ok(s, b.field_limit(), p) {
         return no_head();
     }
     let spot = spot_at(b, s, p);
@@ -155,7 +151,7 @@ pub fn head_of(b: Bounds, s: &[u32]) -> Head
     if s.len() < layout::HEAD as usize {
         return no_head();
     }
-    let Found::Is(p) = tree::dimension_for(b, s[layout::NODES]) else {
+    let Ok(p) = tree::dimension_for(b, s[layout::NODES]) else {
         return no_head();
     };
     if s.len() < layout::state_words(p as u8) as usize {

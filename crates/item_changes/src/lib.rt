@@ -21,13 +21,7 @@ pub fn append_item(items: &mut [Item], at: usize, it: Item)
 fn last_of(n: usize, places: usize) -> usize
     ensures { result ≡ choose (leb n places) (n - 1) 0 }
 {
-    if n == 0 {
-        return 0;
-    }
-    if places < n {
-        return 0;
-    }
-    n - 1
+    if places < n { 0 } else { n.saturating_sub(1) }
 }
 
 // Of n items the one at a place goes, and each after it moves one place down. Nothing moves where there is no such
@@ -35,11 +29,7 @@ fn last_of(n: usize, places: usize) -> usize
 pub fn remove_item(items: &mut [Item], n: usize, at: usize)
     ensures { items.new ≡ removed_within items.old n at }
 {
-    let last = last_of(n, items.len());
-    let mut i = at;
-    while i < last {
-        let it = items::item_at(items, i + 1);
-        append_item(items, i, it);
-        i += 1;
+    for i in at..last_of(n, items.len()) {
+        items[i] = items[i + 1];
     }
 }

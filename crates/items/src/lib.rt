@@ -2,7 +2,7 @@
 // be handed for a place and for how many items there are.
 #![tactic(auto)]
 
-ghost use Rattle.std.specs.Prelude.{◌≡◌, min, get_or};
+ghost use Rattle.std.specs.Prelude.{◌≡◌, get_or};
 ghost use Rattle.items.specs.Places.{mark, no_item, on_link, oldest_within};
 
 use base::Kind;
@@ -32,30 +32,18 @@ pub fn mark_of(kind: Kind) -> u8
 pub fn item_at(items: &[Item], at: usize) -> Item
     ensures { result ≡ get_or items.now at no_item }
 {
-    if at < items.len() {
-        return items[at];
-    }
-    Item {
+    items.get(at).copied().unwrap_or(Item {
         from: 0,
         to: 0,
         kind: 0,
         phase: 0,
-    }
-}
-
-fn least(x: usize, y: usize) -> usize
-    ensures { result ≡ min x y }
-{
-    if x < y {
-        return x;
-    }
-    y
+    })
 }
 
 fn is_on(it: Item, from: u8, to: u8) -> bool
     ensures { result ≡ on_link it from to }
 {
-    (it.from == from) & (it.to == to)
+    it.from == from && it.to == to
 }
 
 // Where the oldest of n items on the link from `from` to `to` stands: n where there is none. Where fewer than n places
@@ -63,14 +51,9 @@ fn is_on(it: Item, from: u8, to: u8) -> bool
 pub fn oldest_at(items: &[Item], n: usize, from: u8, to: u8) -> usize
     ensures { result ≡ oldest_within items.now n from to }
 {
-    let most = least(n, items.len());
-    let mut i = 0;
-    while i < most {
-        let it = item_at(items, i);
-        if is_on(it, from, to) {
-            return i;
-        }
-        i += 1;
-    }
-    i
+    let most = n.min(items.len());
+    items[..most]
+        .iter()
+        .position(|it| is_on(*it, from, to))
+        .unwrap_or(most)
 }

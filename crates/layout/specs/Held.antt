@@ -2,7 +2,8 @@
 use Rattle.std.specs.Prelude.{Bool, not, List, [], ◌∷◌, ◌++◌, ℕ, zero, suc, ◌-◌, ltb, leb, eqb, length, get_or, drop}
 use Rattle.base.specs.Choice.{choose, both, every, list}
 use Rattle.base.specs.Limits.{Limits, width}
-use Rattle.base.specs.Refusal.{Refusal, number}
+use Rattle.base.specs.Refusal.{number}
+use Rattle.base.specs.declared.Refusal.{Refusal}
 use Rattle.tree.specs.Tree.{dimension}
 use Rattle.tree.specs.Lookups.{bad_board}
 use Rattle.frame.specs.Frame.{sent_number, taken_number, sent_at, taken_at, has_shell}
@@ -146,7 +147,7 @@ is_ready L room ws = both (is_whole L ws) (leb (sum_words (dims_of ws)) room)
 
 -- what a call answers, and the words after it: 13 where they hold no state
 abbrev pub answer_on : Limits → ℕ → (Node → Given Outcome) → List ℕ → Outcome
-answer_on L room call ws = choose (is_ready L room ws) (call (unpacked ws)).answer (refused (number Refusal.state))
+answer_on L room call ws = choose (is_ready L room ws) (call (unpacked ws)).answer (refused (number Refusal.State))
 
 abbrev pub words_on : Limits → ℕ → (Node → Given Outcome) → List ℕ → List ℕ
 words_on L room call ws = choose (is_ready L room ws) (holding ws (call (unpacked ws)).node) ws

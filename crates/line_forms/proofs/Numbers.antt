@@ -5,25 +5,24 @@ use mathlib.Core.List.{List}
 use Prim.Native.Nat.{ℕ}
 use Rattle.base.specs.Choice.{choose, both}
 use Rattle.base.proofs.Laws.{choose_no, clash}
-use Rattle.line_parts.specs.declared.Number.{Number}
-use Rattle.line_parts.specs.declared.Number.TheVariants.{Is, None}
+use Rattle.std.proofs.Common.{Option, Some, None}
 use Rattle.line_parts.specs.Parts.{is_number, value_after, is_nodes, is_letter}
 use Rattle.line_forms.specs.declared.Line.TheVariants.{Bad}
 use Rattle.line_forms.specs.Forms.{one_number, two_numbers}
 
 -- what the answer of a reader says of the bytes
-module _ (s : List ℕ) (r : Number) (e : r ≡ choose (is_number s) (Is (value_after 0 s)) None) where
+module _ (s : List ℕ) (r : Option ℕ) (e : r ≡ choose (is_number s) (Some (value_after 0 s)) None) where
   pub number_none : r ≡ None → is_number s ≡ false
   number_none n = go (is_number s) (sym e ∙ n)
     where
-      go : (t : Bool) → choose t (Is (value_after 0 s)) None ≡ None → t ≡ false
+      go : (t : Bool) → choose t (Some (value_after 0 s)) None ≡ None → t ≡ false
       go true q = clash (cc)
       go false q = refl
 
-  pub number_is : (x : ℕ) → r ≡ Is x → (is_number s ≡ true) × (x ≡ value_after 0 s)
+  pub number_is : (x : ℕ) → r ≡ Some x → (is_number s ≡ true) × (x ≡ value_after 0 s)
   number_is x n = go (is_number s) (sym e ∙ n)
     where
-      go : (t : Bool) → choose t (Is (value_after 0 s)) None ≡ Is x → (t ≡ true) × (x ≡ value_after 0 s)
+      go : (t : Bool) → choose t (Some (value_after 0 s)) None ≡ Some x → (t ≡ true) × (x ≡ value_after 0 s)
       go true q = (refl, cc)
       go false q = clash (cc)
 

@@ -1,21 +1,41 @@
--- A walk through bytes by a place: what the search finds from there on.
-use borrow.Author.Tests.{eq-eqb, ne_eqb}
-use mathlib.Core.Path.{◌≡◌}
-use mathlib.Core.List.{List}
-use Prim.Native.Nat.{ℕ, suc, ◌+◌, ◌≤◌, ◌<◌}
-use lib.ListN.{length, get_or, drop, drop_of_length-le}
-use Rattle.line_parts.proofs.Walks.{here}
+-- What the search for a byte finds.
+use borrow.Author.Tests.{ltb-false}
+use native.Mathlib.Omega.{arith}
+use mathlib.Core.Path.{◌≡◌, refl}
+use mathlib.Core.Bool.{Bool, true, false, not, cond}
+use mathlib.Core.List.{List, [], ◌∷◌}
+use Prim.Native.Nat.{ℕ, suc, ◌+◌, ◌≤◌}
+use lib.Dec.{eqb, ltb}
+use lib.ListN.{length}
+use Rattle.std.proofs.Common.{Some, None, unwrap_or}
+use Rattle.std.specs.List.{position, position_or_len}
+use Rattle.base.specs.Choice.{choose}
 use Rattle.line_forms.specs.Forms.{before}
 
-pub found_here : (byte : ℕ) (s : List ℕ) (i : ℕ) → i < length s → get_or s i 0 ≡ byte → before byte (drop i s) ≡ 0
+pub before_within : (byte : ℕ) (s : List ℕ) → before byte s ≤ length s
 unfolding before
-found_here byte s i h e = rw (here s i h, eq-eqb _ _ e)
+before_within byte [] = omega arith
+before_within byte (x ∷ s) = go (eqb x byte) (before_within byte s)
+  where
+    go : (t : Bool) {n m : ℕ} → n ≤ m → choose t 0 (suc n) ≤ suc m
+    go true h = omega arith
+    go false h = omega arith
 
-pub not_here : (byte : ℕ) (s : List ℕ) (i : ℕ) → i < length s → (get_or s i 0 ≡ byte → ⊥)
-    → before byte (drop i s) ≡ suc (before byte (drop (i + 1) s))
+place : (byte : ℕ) (s : List ℕ) → position_or_len (λ x. eqb x byte) s ≡ before byte s
 unfolding before
-not_here byte s i h e = rw (here s i h, ne_eqb _ _ e)
+place byte [] = refl
+place byte (x ∷ s) = go (eqb x byte) (place byte s)
+  where
+    go : (t : Bool) {n m : ℕ} → n ≡ m → cond (not t) (1 + n) 0 ≡ choose t 0 (suc m)
+    go true e = refl
+    go false e = omega arith
 
-pub found_nowhere : (byte : ℕ) (s : List ℕ) (i : ℕ) → length s ≤ i → before byte (drop i s) ≡ 0
-unfolding before
-found_nowhere byte s i h = rw (drop_of_length-le s h)
+pub found : (byte : ℕ) (s : List ℕ) → unwrap_or (position (λ x. eqb x byte) s) (length s) ≡ before byte s
+found byte s =
+    let n = position_or_len (λ x. eqb x byte) s in
+    go (ltb n (length s)) (place byte s) (ltb-false n (length s))
+  where
+    go : (t : Bool) {n : ℕ} → n ≡ before byte s → (t ≡ false → length s ≤ n)
+        → unwrap_or (cond t (Some n) None) (length s) ≡ before byte s
+    go true e h = e
+    go false e h = let w = before_within byte s in let l = h refl in omega arith

@@ -5,7 +5,6 @@ ghost use Rattle.std.specs.Prelude.{◌≡◌, ◌≤◌, length};
 ghost use Rattle.line_forms.specs.Forms.{before, one_number, two_numbers};
 
 use base::Kind;
-use line_parts::Number;
 
 // What a line says.
 #[derive(Clone, Copy)]
@@ -28,21 +27,14 @@ pub enum Line {
 pub fn find(s: &[u8], byte: u8) -> usize
     ensures { (result ≡ before byte s.now) × (result ≤ length s.now) }
 {
-    let mut i = 0;
-    while i < s.len() {
-        if s[i] == byte {
-            return i;
-        }
-        i += 1;
-    }
-    i
+    s.iter().position(|x| *x == byte).unwrap_or(s.len())
 }
 
 // A word and a number.
 pub fn one_number(word: &[u8], first: &[u8]) -> Line
     ensures { result ≡ one_number word.now first.now }
 {
-    let Number::Is(x) = line_parts::number_of(first) else {
+    let Some(x) = line_parts::number_of(first) else {
         return Line::Bad;
     };
     if line_words::is_nodes(word) {
@@ -61,10 +53,10 @@ pub fn one_number(word: &[u8], first: &[u8]) -> Line
 pub fn two_numbers(word: &[u8], first: &[u8], second: &[u8]) -> Line
     ensures { result ≡ two_numbers word.now first.now second.now }
 {
-    let Number::Is(x) = line_parts::number_of(first) else {
+    let Some(x) = line_parts::number_of(first) else {
         return Line::Bad;
     };
-    let Number::Is(y) = line_parts::number_of(second) else {
+    let Some(y) = line_parts::number_of(second) else {
         return Line::Bad;
     };
     if line_words::is_letter(b's', word) {

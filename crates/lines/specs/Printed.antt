@@ -1,7 +1,8 @@
 -- What is printed for a line of a script after the first.
 use Rattle.std.specs.Prelude.{List, ℕ}
 use Rattle.base.specs.Choice.{choose}
-use Rattle.base.specs.Refusal.{Refusal, number}
+use Rattle.base.specs.Refusal.{number}
+use Rattle.base.specs.declared.Refusal.{Refusal}
 use Rattle.node.specs.declared.Node.{Node}
 use Rattle.line_forms.specs.declared.Line.{Line}
 use Rattle.board_states.specs.States.{node_at}
@@ -17,5 +18,5 @@ shown n = record { phase = n.phase; pass = n.pass; dim = n.dim; flag = n.flag; b
 -- what is printed for a line, by what became of it
 abbrev pub line_text : Line → Acted → ℕ → List ℕ
 line_text line r count =
-    choose (stops line) (stop_text (number Refusal.script) count)
+    choose (stops line) (stop_text (number Refusal.Script) count)
     (turn_text r.actor r.answer (node_at r.stage r.actor))

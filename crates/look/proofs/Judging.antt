@@ -23,7 +23,7 @@ use Rattle.stored.specs.Held.{is_low, low_after, held_test}
 use Rattle.stored.proofs.Frames.{first_held_lem, first_low}
 use Rattle.adding.specs.Adding.{Framed}
 use Rattle.look_tests.specs.Tests.{clause_by}
-use Rattle.look_tests.proofs.Excess.{none_over, alone_over, is_none, below_two}
+use Rattle.look_tests.proofs.Excesses.{none_over, alone_over, is_none, below_two}
 use Rattle.look.specs.Pieces.{at_most, shell_at_most, totals_at_most}
 
 -- two tests that hold alike

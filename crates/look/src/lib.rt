@@ -41,12 +41,12 @@ fn shell_excess(limit: u32, s: &[u32], sums: &[u32], p: u32, k: u32, m: u32) -> 
 {
     let sent = Sent(s[(layout::MARK + (m - k)) as usize]);
     let taken = Taken(s[(layout::MARK + (p - k) + (m - k)) as usize]);
-    let one = look_tests::sent_excess(Sent(sums[m as usize]), sent, limit);
-    let other = look_tests::taken_excess(Taken(sums[(p + m) as usize]), taken, limit);
+    let one = look_tests::excess(Sent(sums[m as usize]), sent, limit);
+    let other = look_tests::excess(Taken(sums[(p + m) as usize]), taken, limit);
     scan_tests::larger(one, other)
 }
 
-// The largest excess of the shells above k, 0 for none.
+// The largest excess of the shells above k, 0 for none. It goes by shells, since the numbers of one stand at four places.
 fn weigh(limit: u32, s: &[u32], sums: &[u32], p: u32, k: u32) -> u32
     requires { Framed s.now sums.now p k }
     ensures { Weighed limit p k (sum_of p sums.now) (first_from s.now p k 0) result }
@@ -75,8 +75,9 @@ fn add_totals(limit: u32, s: &[u32], sums: &[u32], p: u32, k: u32) -> Totals
     let received = Taken(s[(at + layout::RECEIVED) as usize]);
     let own_issued = Sent(sums[(2 * p) as usize]);
     let own_received = Taken(sums[(2 * p + layout::RECEIVED) as usize]);
-    let one = look_tests::sent_excess(own_issued, issued, limit);
-    let excess = scan_tests::larger(one, look_tests::taken_excess(own_received, received, limit));
+    let one = look_tests::excess(own_issued, issued, limit);
+    let other = look_tests::excess(own_received, received, limit);
+    let excess = scan_tests::larger(one, other);
     if excess != 0 {
         return Totals {
             excess: excess,
@@ -98,7 +99,7 @@ fn judge(b: Bounds, s: &[u32], sums: &[u32], p: u32, k: u32) -> Look
     requires { Framed s.now sums.now p k × (word s.now 0 ≡ 1) }
     ensures { Judged (limits_of b) s.now sums.now p k result }
 {
-    let limit = base::field_limit(b);
+    let limit = b.field_limit();
     let sent = Sent(s[layout::MARK as usize]);
     let taken = Taken(s[(layout::MARK + (p - k)) as usize]);
     let totals = add_totals(limit, s, sums, p, k);

@@ -1,1 +1,1 @@
-pub mod Excess
+pub mod Excesses

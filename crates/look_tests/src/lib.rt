@@ -4,29 +4,19 @@
 ghost use Rattle.std.specs.Prelude.{◌≡◌};
 ghost use Rattle.look_tests.specs.Tests.{excess, clause_by};
 
-use frame::{Sent, Taken};
+use frame::{Sent, Taken, Tally};
 
 // ---- The excess of a number beside its sum: 0 where the sum with it is within the limit, 1 where it alone is, else 2
 
-pub fn sent_excess(own: Sent, sent: Sent, limit: u32) -> u32
-    ensures { result ≡ excess limit own.0 sent.0 }
+pub fn excess<T: Tally>(own: T, sum: T, limit: u32) -> u32
+    ensures { result ≡ excess limit (T.count own) (T.count sum) }
 {
-    if limit < sent.0 {
+    let own = own.number();
+    let sum = sum.number();
+    if limit < sum {
         return 2;
     }
-    if limit - sent.0 < own.0 {
-        return 1;
-    }
-    0
-}
-
-pub fn taken_excess(own: Taken, taken: Taken, limit: u32) -> u32
-    ensures { result ≡ excess limit own.0 taken.0 }
-{
-    if limit < taken.0 {
-        return 2;
-    }
-    if limit - taken.0 < own.0 {
+    if limit - sum < own {
         return 1;
     }
     0

@@ -2,10 +2,8 @@
 use Rattle.std.specs.Prelude.{List, [], ◌∷◌, ℕ}
 use Rattle.base.specs.Refusal.{Answered, refused, found}
 use Rattle.tree.specs.Tree.{Place, alone, hermit, neighbour, messenger}
-use Rattle.frame.specs.declared.Outcome.{Outcome}
-use Rattle.frame.specs.declared.Outcome.TheVariants.{Done, Refused as NoFrame}
 
--- a lookup: its number, 0 where it is found
+-- a lookup, or the frame reader: its number, 0 where it is found
 abbrev pub lookup_number : {A : Type 0} → Answered A → ℕ
 lookup_number (refused x) = x
 lookup_number (found a) = 0
@@ -23,8 +21,3 @@ place_words (found alone) ws = 0 ∷ 0 ∷ 0 ∷ []
 place_words (found (hermit next)) ws = 1 ∷ next ∷ 0 ∷ []
 place_words (found (neighbour b)) ws = 2 ∷ b ∷ 0 ∷ []
 place_words (found (messenger b h)) ws = 3 ∷ b ∷ h ∷ []
-
--- what the frame reader answers
-abbrev pub read_number : Outcome → ℕ
-read_number Done = 0
-read_number (NoFrame x) = x

@@ -3,58 +3,45 @@
 #![tactic(auto)]
 
 ghost use Rattle.std.specs.Prelude.{◌≡◌};
-ghost use Rattle.tree.specs.Lookups.{found_answer, placed_answer};
-ghost use Rattle.lookup_answers.specs.Words.{lookup_number, number_words, place_words, read_number};
+ghost use Rattle.base.specs.Refusal.{answered};
+ghost use Rattle.tree.specs.Lookups.{placed_answer};
+ghost use Rattle.lookup_answers.specs.Words.{lookup_number, number_words, place_words};
 
-use frame::Outcome;
-use tree::{Found, Placed};
+use base::Refusal;
+use tree::Placed;
 
 // Answers a number that was looked up, and leaves it in lent memory.
-pub fn answer_found(answer: Found, found: &mut [u32; 1]) -> u32
-    ensures answer { result ≡ lookup_number (found_answer answer) }
-    ensures memory { found.new ≡ number_words (found_answer answer) found.old }
+pub fn answer_found(answer: Result<u32, Refusal>, found: &mut [u32; 1]) -> u32
+    ensures answer { result ≡ lookup_number (answered answer) }
+    ensures memory { found.new ≡ number_words (answered answer) found.old }
 {
     match answer {
-        Found::Is(x) => {
+        Ok(x) => {
             *found = [x];
             0
         }
-        Found::Refused(no) => no as u32,
+        Err(refusal) => refusal.number() as u32,
     }
 }
 
 // Answers the place of a node, and leaves it in lent memory.
-pub fn answer_placed(answer: Placed, found: &mut [u32; 3]) -> u32
+pub fn answer_placed(answer: Result<Placed, Refusal>, found: &mut [u32; 3]) -> u32
     ensures answer { result ≡ lookup_number (placed_answer answer) }
     ensures memory { found.new ≡ place_words (placed_answer answer) found.old }
 {
-    match answer {
-        Placed::Alone => {
-            *found = [0, 0, 0];
-            0
-        }
-        Placed::Hermit(next) => {
-            *found = [1, next, 0];
-            0
-        }
-        Placed::Neighbour(b) => {
-            *found = [2, b, 0];
-            0
-        }
-        Placed::Messenger(b, h) => {
-            *found = [3, b, h];
-            0
-        }
-        Placed::Refused(no) => no as u32,
-    }
+    *found = match answer {
+        Ok(Placed::Alone) => [0, 0, 0],
+        Ok(Placed::Hermit(next)) => [1, next, 0],
+        Ok(Placed::Neighbour(b)) => [2, b, 0],
+        Ok(Placed::Messenger(b, h)) => [3, b, h],
+        Err(refusal) => return refusal.number() as u32,
+    };
+    0
 }
 
 // The number of the frame reader's answer.
-pub fn answer_read(answer: Outcome) -> u32
-    ensures { result ≡ read_number answer }
+pub fn answer_read(answer: Result<(), Refusal>) -> u32
+    ensures { result ≡ lookup_number (answered answer) }
 {
-    match answer {
-        Outcome::Done => 0,
-        Outcome::Refused(no) => no as u32,
-    }
+    answer.err().map_or(0, |refusal| refusal.number() as u32)
 }

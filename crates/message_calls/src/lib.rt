@@ -1,5 +1,5 @@
 // The calls send, take and idle in place on the words that the caller lends, each with words of its own for the sums. Words
-// that hold no state are refused with 13.
+// that hold no state are refused.
 #![tactic(auto)]
 
 ghost use Rattle.std.specs.Prelude.{◌≡◌};
@@ -8,14 +8,14 @@ ghost use Rattle.node.specs.Answers.{outcome_of};
 ghost use Rattle.node.specs.Calls.{send, take, idle};
 ghost use Rattle.on_words.specs.OnWords.{answer_on, words_on};
 
-use base::{Bounds, Kind};
-use node::Answer;
+use base::{Bounds, Kind, Refusal};
+use node::Accepted;
 
 // The words in which a call gathers the sums of the largest board.
 pub const SUMS: usize = 2 * base::SHELLS + layout::TOTALS as usize;
 
 // One message more is sent to a node. Refuses 13, 2, 3, 4, 5.
-pub fn send_to(b: Bounds, state: &mut [u32], to: u32) -> Answer
+pub fn send_to(b: Bounds, state: &mut [u32], to: u32) -> Result<Accepted, Refusal>
     ensures answer { outcome_of result ≡ answer_on (limits_of b) (λ n. send (limits_of b) n to) state.old }
     ensures memory { state.new ≡ words_on (limits_of b) (λ n. send (limits_of b) n to) state.old }
 {
@@ -24,7 +24,13 @@ pub fn send_to(b: Bounds, state: &mut [u32], to: u32) -> Answer
 }
 
 // A job or a note from a node, with its phase byte, is taken. Refuses 13, 2, 3, 7 or 8, 6.
-pub fn take_from(b: Bounds, state: &mut [u32], kind: Kind, from: u32, phase: u8) -> Answer
+pub fn take_from(
+    b: Bounds,
+    state: &mut [u32],
+    kind: Kind,
+    from: u32,
+    phase: u8,
+) -> Result<Accepted, Refusal>
     ensures answer { outcome_of result ≡ answer_on (limits_of b) (λ n. take (limits_of b) n kind from phase) state.old }
     ensures memory { state.new ≡ words_on (limits_of b) (λ n. take (limits_of b) n kind from phase) state.old }
 {
@@ -33,7 +39,7 @@ pub fn take_from(b: Bounds, state: &mut [u32], kind: Kind, from: u32, phase: u8)
 }
 
 // The node has run out of work. Refuses 13.
-pub fn go_idle(b: Bounds, state: &mut [u32]) -> Answer
+pub fn go_idle(b: Bounds, state: &mut [u32]) -> Result<Accepted, Refusal>
     ensures answer { outcome_of result ≡ answer_on (limits_of b) (idle (limits_of b)) state.old }
     ensures memory { state.new ≡ words_on (limits_of b) (idle (limits_of b)) state.old }
 {

@@ -12,7 +12,7 @@ use Rattle.base.specs.Limits.{Limits, width}
 use Rattle.base.specs.declared.Kind.{Kind}
 use Rattle.base.proofs.Laws.{clash, choose_yes}
 use Rattle.tree.specs.Tree.{dimension, run_of, awaited}
-use Rattle.tree.specs.declared.Run.{Run}
+use Rattle.tree.specs.Tree.{Run}
 use Rattle.tree.proofs.Dimension.{smallest}
 use Rattle.tree.proofs.Runs.{run_top}
 use Rattle.tree.proofs.Places.{alone_one}

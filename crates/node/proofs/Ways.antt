@@ -12,7 +12,8 @@ use borrow.Author.Tests.{leb-false, ltb-true, ltb-false, eqb-true, eqb-false, no
 use borrow.Author.Tests.{le-ltb, lt-leb, eq-eqb, ne_eqb}
 use Rattle.base.specs.Choice.{choose, both}
 use Rattle.base.specs.Limits.{Limits, taken_limit}
-use Rattle.base.specs.Refusal.{Refusal, refused as unread, found, Check, when}
+use Rattle.base.specs.Refusal.{refused as unread, found, Check, when}
+use Rattle.base.specs.declared.Refusal.{Refusal}
 use Rattle.base.specs.declared.Kind.{Kind}
 use Rattle.base.proofs.Laws.{clash, choose_yes, choose_no, cases}
 use Rattle.base.proofs.Laws.{Passes, Stops, order_passes, order_stops, order_cases, checks_known}
@@ -82,7 +83,7 @@ timing_late other node e = go (timing_is other node)
 
 module _ (L : Limits) (P number : ℕ) where
   abbrev pub fresh_checks : List Check
-  fresh_checks = when (bad_board L P) Refusal.board ∷ when (leb P number) Refusal.stranger ∷ []
+  fresh_checks = when (bad_board L P) Refusal.Board ∷ when (leb P number) Refusal.Stranger ∷ []
 
   pub data FreshWay : Given Outcome → Type 0 where
     refused : (x : ℕ) → Stops fresh_checks x → FreshWay (refusal no_node x)
@@ -110,10 +111,10 @@ module _ (L : Limits) (n : Node) where
   abbrev pub send_checks : ℕ → List Check
   send_checks b =
       bad_state L n
-      ∷ when (leb n.nodes b) Refusal.stranger
-      ∷ when (eqb b n.number) Refusal.self
-      ∷ when (not n.busy) Refusal.resting
-      ∷ when (leb L.sends (tally n all_sent)) Refusal.sent_out
+      ∷ when (leb n.nodes b) Refusal.Stranger
+      ∷ when (eqb b n.number) Refusal.Itself
+      ∷ when (not n.busy) Refusal.Resting
+      ∷ when (leb L.sends (tally n all_sent)) Refusal.SentOut
       ∷ []
 
   pub data SendWay (b : ℕ) : Given Outcome → Type 0 where
@@ -145,11 +146,11 @@ module _ (L : Limits) (n : Node) where
   abbrev pub take_checks : ℕ → ℕ → List Check
   take_checks a phase =
       bad_state L n
-      ∷ when (leb n.nodes a) Refusal.stranger
-      ∷ when (eqb a n.number) Refusal.self
-      ∷ when (is_early (timing phase n.phase)) Refusal.early
-      ∷ when (is_foreign_work (timing phase n.phase)) Refusal.foreign
-      ∷ when (leb (taken_limit L) (tally n all_taken)) Refusal.taken_full
+      ∷ when (leb n.nodes a) Refusal.Stranger
+      ∷ when (eqb a n.number) Refusal.Itself
+      ∷ when (is_early (timing phase n.phase)) Refusal.Early
+      ∷ when (is_foreign_work (timing phase n.phase)) Refusal.Foreign
+      ∷ when (leb (taken_limit L) (tally n all_taken)) Refusal.TakenFull
       ∷ []
 
   pub data TakeWay (kind : Kind) (a phase : ℕ) : Given Outcome → Type 0 where
@@ -209,8 +210,8 @@ module _ (L : Limits) (n : Node) where
   frame_checks bs =
       bad_state L n
       ∷ read_checks L n.nodes bs
-      ++ (when (eqb (frame_of bs).sender n.number) Refusal.self
-      ∷ when (not (is_awaited (awaited n.nodes (frame_of bs).dim n.number) (frame_of bs).sender)) Refusal.partner
+      ++ (when (eqb (frame_of bs).sender n.number) Refusal.Itself
+      ∷ when (not (is_awaited (awaited n.nodes (frame_of bs).dim n.number) (frame_of bs).sender)) Refusal.Partner
       ∷ [])
 
   -- all checks before the phase are passed
@@ -237,7 +238,7 @@ module _ (L : Limits) (n : Node) where
 
   -- the checks of the reader, which is given P
   read_all : List ℕ → List Check
-  read_all bs = when (bad_board L n.nodes) Refusal.board ∷ read_checks L n.nodes bs
+  read_all bs = when (bad_board L n.nodes) Refusal.Board ∷ read_checks L n.nodes bs
 
   comes : (bs : List ℕ) → Passes (frame_checks bs) → Comes bs
   unfolding read_frame read_all
@@ -295,8 +296,8 @@ module _ (L : Limits) (n : Node) where
   abbrev pub call_checks : ℕ → List Check
   call_checks room =
       bad_state L n
-      ∷ when n.busy Refusal.working
-      ∷ when (both (is_due n) (ltb room (length_due n))) Refusal.buffer
+      ∷ when n.busy Refusal.Working
+      ∷ when (both (is_due n) (ltb room (length_due n))) Refusal.Buffer
       ∷ []
 
   -- no frame is due: flag 0, or nobody to send to

@@ -1,12 +1,12 @@
--- What the calls answer, and what each case of an answer enum stands for.
-use Rattle.std.specs.Prelude.{List, [], ◌∷◌, ℕ}
+-- What the calls answer, and what each case of an answer in code stands for.
+use Rattle.std.specs.Prelude.{List, [], ◌∷◌, ℕ, Option, Some, None, Result, Ok, Err}
+use Rattle.base.specs.Refusal.{number}
+use Rattle.base.specs.declared.Refusal.{Refusal}
 use Rattle.node.specs.declared.Node.{Node}
-use Rattle.node.specs.declared.Answer.{Answer}
-use Rattle.node.specs.declared.Answer.TheVariants.{Done, Dropped, Refused}
-use Rattle.node.specs.declared.Extra.{Extra}
-use Rattle.node.specs.declared.Extra.TheVariants.{Nobody, Also}
-use Rattle.node.specs.declared.BarrierAnswer.{BarrierAnswer}
-use Rattle.node.specs.declared.BarrierAnswer.TheVariants.{Sends, Waits, Moved, Left, Refused as NoBarrier}
+use Rattle.node.specs.declared.Accepted.{Accepted}
+use Rattle.node.specs.declared.Accepted.TheVariants.{Done, Dropped}
+use Rattle.node.specs.declared.Step.{Step}
+use Rattle.node.specs.declared.Step.TheVariants.{Sends, Waits, Moved, Left}
 
 -- the state that a call gives back, and its answer
 pub record Given (A : Type 0) : Type 0 where
@@ -40,18 +40,18 @@ barrier_number moved = 22
 barrier_number left = 23
 barrier_number (barred x) = x
 
-abbrev pub outcome_of : Answer → Outcome
-outcome_of Done = done
-outcome_of Dropped = dropped
-outcome_of (Refused x) = refused x
+abbrev pub outcome_of : Result Accepted Refusal → Outcome
+outcome_of (Ok Done) = done
+outcome_of (Ok Dropped) = dropped
+outcome_of (Err r) = refused (number r)
 
-abbrev pub also : Extra → List ℕ
-also Nobody = []
-also (Also b) = b ∷ []
+abbrev pub also : Option ℕ → List ℕ
+also None = []
+also (Some b) = b ∷ []
 
-abbrev pub barrier_of : BarrierAnswer → Barrier
-barrier_of (Sends to length) = sent (to.first ∷ also to.extra) length
-barrier_of (Waits clause) = waits clause
-barrier_of Moved = moved
-barrier_of Left = left
-barrier_of (NoBarrier x) = barred x
+abbrev pub barrier_of : Result Step Refusal → Barrier
+barrier_of (Ok (Sends to length)) = sent (to.first ∷ also to.extra) length
+barrier_of (Ok (Waits clause)) = waits clause
+barrier_of (Ok Moved) = moved
+barrier_of (Ok Left) = left
+barrier_of (Err r) = barred (number r)

@@ -2,7 +2,8 @@
 use Rattle.std.specs.Prelude.{Bool, true, false, not, List, [], ◌∷◌, ◌++◌, ℕ, suc, ◌+◌, ◌%◌, ltb, eqb, length, drop}
 use Rattle.base.specs.Choice.{choose, both, list}
 use Rattle.base.specs.Limits.{Limits, width}
-use Rattle.base.specs.Refusal.{Refusal, when, in_order}
+use Rattle.base.specs.Refusal.{when, in_order}
+use Rattle.base.specs.declared.Refusal.{Refusal}
 use Rattle.tree.specs.Tree.{receivers}
 use Rattle.frame.specs.Frame.{sent_number, taken_number, has_shell, frame_length, frame_bytes}
 use Rattle.frame.specs.declared.Frame.{Frame}
@@ -92,8 +93,8 @@ unfoldable pub barrier : Limits → Node → ℕ → Given Barrier
 barrier L n room =
     in_order (λ x. give n (barred x))
     (bad_state L n
-    ∷ when n.busy Refusal.working
-    ∷ when (both (is_due n) (ltb room (length_due n))) Refusal.buffer
+    ∷ when n.busy Refusal.Working
+    ∷ when (both (is_due n) (ltb room (length_due n))) Refusal.Buffer
     ∷ [])
     (choose (is_due n) (sending n) (looking L n))
 

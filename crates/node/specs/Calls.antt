@@ -3,7 +3,8 @@ use Rattle.std.specs.Prelude.{Bool, true, false, not, List, [], ◌∷◌, ◌++
 use Rattle.std.proofs.Math.Option.{Option, none, some}
 use Rattle.base.specs.Choice.{choose}
 use Rattle.base.specs.Limits.{Limits, taken_limit}
-use Rattle.base.specs.Refusal.{Refusal, Check, when, in_order}
+use Rattle.base.specs.Refusal.{Check, when, in_order}
+use Rattle.base.specs.declared.Refusal.{Refusal}
 use Rattle.base.specs.declared.Kind.{Kind}
 use Rattle.base.specs.declared.Kind.TheVariants.{Job, Note}
 use Rattle.tree.specs.Tree.{awaited, distance}
@@ -27,13 +28,13 @@ refusal n x = give n (refused x)
 
 -- state: the first refusal of every call on a node
 abbrev pub bad_state : Limits → Node → Check
-bad_state L n = when (not (valid L n)) Refusal.state
+bad_state L n = when (not (valid L n)) Refusal.State
 
 -- ---- Fresh (rule N4)
 
 unfoldable pub fresh : Limits → ℕ → ℕ → Given Outcome
 fresh L P number =
-    in_order (refusal no_node) (when (bad_board L P) Refusal.board ∷ when (leb P number) Refusal.stranger ∷ [])
+    in_order (refusal no_node) (when (bad_board L P) Refusal.Board ∷ when (leb P number) Refusal.Stranger ∷ [])
     (give (fresh_in P number 0) done)
 
 -- ---- Send (rule N5)
@@ -46,10 +47,10 @@ unfoldable pub send : Limits → Node → ℕ → Given Outcome
 send L n b =
     in_order (refusal n)
     (bad_state L n
-    ∷ when (leb n.nodes b) Refusal.stranger
-    ∷ when (eqb b n.number) Refusal.self
-    ∷ when (not n.busy) Refusal.resting
-    ∷ when (leb L.sends (tally n all_sent)) Refusal.sent_out
+    ∷ when (leb n.nodes b) Refusal.Stranger
+    ∷ when (eqb b n.number) Refusal.Itself
+    ∷ when (not n.busy) Refusal.Resting
+    ∷ when (leb L.sends (tally n all_sent)) Refusal.SentOut
     ∷ [])
     (give (one_sent n (distance n.nodes n.number b)) done)
 
@@ -85,11 +86,11 @@ unfoldable pub take : Limits → Node → Kind → ℕ → ℕ → Given Outcome
 take L n kind a phase =
     in_order (refusal n)
     (bad_state L n
-    ∷ when (leb n.nodes a) Refusal.stranger
-    ∷ when (eqb a n.number) Refusal.self
-    ∷ when (is_early (timing phase n.phase)) Refusal.early
-    ∷ when (is_foreign_work (timing phase n.phase)) Refusal.foreign
-    ∷ when (leb (taken_limit L) (tally n all_taken)) Refusal.taken_full
+    ∷ when (leb n.nodes a) Refusal.Stranger
+    ∷ when (eqb a n.number) Refusal.Itself
+    ∷ when (is_early (timing phase n.phase)) Refusal.Early
+    ∷ when (is_foreign_work (timing phase n.phase)) Refusal.Foreign
+    ∷ when (leb (taken_limit L) (tally n all_taken)) Refusal.TakenFull
     ∷ [])
     (give (counted n kind (distance n.nodes n.number a)) done)
 
@@ -141,7 +142,7 @@ frame_in L n bs =
     in_order (refusal n)
     (bad_state L n
     ∷ read_checks L n.nodes bs
-    ++ (when (eqb f.sender n.number) Refusal.self
-    ∷ when (not (is_awaited (awaited n.nodes f.dim n.number) f.sender)) Refusal.partner
+    ++ (when (eqb f.sender n.number) Refusal.Itself
+    ∷ when (not (is_awaited (awaited n.nodes f.dim n.number) f.sender)) Refusal.Partner
     ∷ []))
     (by_timing n f (timing f.phase n.phase))

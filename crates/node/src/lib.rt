@@ -48,36 +48,28 @@ pub struct Node {
 // The number that says that no clause of a step fails: the clauses are 0 to 6.
 pub const NO_CLAUSE: u32 = 7;
 
-// What fresh, send, take, idle and frame in answer.
+// What fresh, send, take, idle and frame in have done where they are not refused.
 #[derive(Clone, Copy)]
-pub enum Answer {
+pub enum Accepted {
     Done,
     // a late frame
     Dropped,
-    Refused(u8),
 }
 
-// A second receiver of a frame.
-#[derive(Clone, Copy)]
-pub enum Extra {
-    Nobody,
-    Also(u8),
-}
-
-// The receivers of a frame, the neighbour first.
+// The receivers of a frame: the neighbour, and a hermit where there is one.
 #[derive(Clone, Copy)]
 pub struct Receivers {
     pub first: u8,
-    pub extra: Extra,
+    pub extra: Option<u8>,
 }
 
+// What a barrier call has done where it is not refused.
 #[derive(Clone, Copy)]
-pub enum BarrierAnswer {
+pub enum Step {
     // to these receivers, a frame of this length
     Sends(Receivers, u32),
     // for this clause
     Waits(u8),
     Moved,
     Left,
-    Refused(u8),
 }

@@ -1,12 +1,13 @@
 // What a node's turn in a barrier call makes of the words that the caller lends, and its answer.
 #![tactic(auto)]
 
-ghost use Rattle.std.specs.Prelude.{◌≡◌, ◌+◌, ◌%◌, ◌≤◌, length, nat_lt};
+ghost use Rattle.std.specs.Prelude.{◌≡◌, ◌+◌, ◌%◌, ◌≤◌, length, nat_lt, Ok, Err};
 ghost use Rattle.base.specs.Choice.{choose};
 ghost use Rattle.layout.specs.Places.{head_words};
 ghost use Rattle.node_turn.specs.Turn.{answer_of, positioned, freshened, words_after};
 
-use node::BarrierAnswer;
+use base::Refusal;
+use node::Step;
 use node_turn::Turn;
 
 fn move_to(state: &mut [u32], pass: u32, dim: u32, agreed: u32)
@@ -38,40 +39,39 @@ fn leave(state: &mut [u32], p: u8)
 }
 
 // The words after a turn, and the answer.
-fn write(state: &mut [u32], p: u8, t: Turn) -> BarrierAnswer
+fn write(state: &mut [u32], p: u8, t: Turn) -> Step
     requires { head_words ≤ length state.old }
     ensures answer { result ≡ answer_of t }
     ensures memory { state.new ≡ words_after state.old p t }
 {
     match t {
-        Turn::Refuses(no) => BarrierAnswer::Refused(no),
         Turn::Sends(to, length) => {
             state[layout::FLAG] = 0;
-            BarrierAnswer::Sends(to, length)
+            Step::Sends(to, length)
         }
         Turn::Waits(clause) => {
             state[layout::FLAG] = 0;
-            BarrierAnswer::Waits(clause)
+            Step::Waits(clause)
         }
         Turn::Moves(pass, dim, agreed) => {
             move_to(&mut *state, pass, dim, agreed);
-            BarrierAnswer::Moved
+            Step::Moved
         }
         Turn::Leaves => {
             leave(&mut *state, p);
-            BarrierAnswer::Left
+            Step::Left
         }
     }
 }
 
 // Makes the words of a state of p dimensions what they are after a turn, and answers. Refuses 13.
-pub fn act(state: &mut [u32], p: u8, t: Turn) -> BarrierAnswer
-    ensures answer { result ≡ choose (nat_lt (length state.old) head_words) (BarrierAnswer.Refused 13) (answer_of t) }
+pub fn act(state: &mut [u32], p: u8, t: Turn) -> Result<Step, Refusal>
+    ensures answer { result ≡ choose (nat_lt (length state.old) head_words) (Err Refusal.State) (Ok (answer_of t)) }
     ensures memory { state.new
         ≡ choose (nat_lt (length state.old) head_words) state.old (words_after state.old p t) }
 {
     if state.len() < layout::HEAD as usize {
-        return BarrierAnswer::Refused(13);
+        return Err(Refusal::State);
     }
-    write(&mut *state, p, t)
+    Ok(write(&mut *state, p, t))
 }

@@ -7,6 +7,7 @@ use native.Mathlib.Omega.{arith}
 use lib.Dec.{ltb}
 use lib.ListN.{length, drop}
 use borrow.Author.Tests.{ltb-true, ltb-false}
+use Rattle.std.proofs.Common.{Option, Some, None}
 use Rattle.base.specs.Choice.{choose}
 use Rattle.base.specs.Limits.{Limits, Fits}
 use Rattle.base.proofs.Laws.{choose_yes, choose_no}
@@ -22,12 +23,10 @@ use Rattle.layout.specs.Held.{unpacked}
 use Rattle.second_frame.specs.Putting.{put_length}
 use Rattle.due_bytes.specs.Bytes.{due_bytes, can_send}
 use Rattle.due.specs.Due.{due_to, whom_list}
-use Rattle.due.specs.declared.Whom.{Whom}
-use Rattle.due.specs.declared.Whom.TheVariants.{To, Nobody}
 use Rattle.node_decide.specs.Decides.{sent_turn, decide_turn, decide_lent}
 use Rattle.node_decide.proofs.Turning.{Turns, turns_same, short, sends, looks}
 use Rattle.node_decide.proofs.Handed.{Lent, held}
-use Rattle.node_decide.proofs.Due.{due_is, due_can, due_none, due_some, due_bytes_lem}
+use Rattle.node_decide.proofs.Due.{due_is, due_can, due_none, due_some}
 use Rattle.node_decide.proofs.Looking.{Seen, looked}
 
 module _ (L : Limits) (fit : Fits L) (ws sums : List ℕ) (p total : ℕ) (h : Lent L ws sums p total)
@@ -54,26 +53,25 @@ module _ (L : Limits) (fit : Fits L) (ws sums : List ℕ) (p total : ℕ) (h : L
 
     -- by whether it fits the buffer
     put : (t : Bool) → ltb (length buf) (length bytes) ≡ t
-        → Turns L n buf (choose t buf (bytes ++ drop (length bytes) buf)) (sent_turn to (choose t 0 (length bytes)))
+        → Turns L n buf (choose t buf (bytes ++ drop (length bytes) buf)) (sent_turn to (choose t None (Some (length bytes))))
     put true e =
         short L n buf h.valid idle (rw (flag, whose)) (omega (arith, ltb-true (length buf) (length bytes) e, long))
     put false e =
-        turns_same L n buf refl (choose_no _ _ (due_bytes_lem ws sums p total))
-        (sends L n buf h.valid idle to (length bytes) bytes flag whose long (ltb-false (length buf) (length bytes) e) is)
+        sends L n buf h.valid idle to (length bytes) bytes flag whose long (ltb-false (length buf) (length bytes) e) is
 
-    sending : Turns L n buf (decide_lent ws sums p (To to) total buf)
-        (sent_turn to (choose (can_send ws p (length sums)) (put_length bytes (length buf)) 0))
+    sending : Turns L n buf (decide_lent ws sums p (Some to) total buf)
+        (sent_turn to (choose (can_send ws p (length sums)) (put_length bytes (length buf)) None))
     sending =
         turns_same L n buf (choose_yes _ _ can) (ap (sent_turn to) (choose_yes _ _ can))
         (put (ltb (length buf) (length bytes)) refl)
 
-  pub decided : (clause received : ℕ) (whom : Whom) → whom_list whom ≡ due_to L ws
+  pub decided : (clause received : ℕ) (whom : Option Receivers) → whom_list whom ≡ due_to L ws
       → (is_empty (whom_list whom) ≡ true → Seen L n clause received)
       → Turns L n buf (decide_lent ws sums p whom total buf)
       (decide_turn ws sums p whom total clause received (length buf))
-  decided clause received (To to) e seen =
+  decided clause received (Some to) e seen =
       let q = due_some L fit ws sums p total h _ _ (sym e) in
       sending to q.0 q.1
-  decided clause received Nobody e seen =
+  decided clause received None e seen =
       looks L n buf h.valid idle (due_none L fit ws sums p total h (sym e)) _
       (looked L fit ws sums p total h clause received (seen refl))

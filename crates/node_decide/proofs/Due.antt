@@ -1,7 +1,7 @@
 -- Of a state that is lent with its sums: the bytes that are due by the words are those of the state's frame, and they are due
 -- to those to whom the state has it.
 use mathlib.Core.Path.{◌≡◌, refl, sym, ap, ◌∙◌}
-use mathlib.Core.Logic.{◌≢◌, ◌⊎◌, inl, inr}
+use mathlib.Core.Logic.{◌⊎◌, inl, inr}
 use mathlib.Core.Bool.{Bool, true, false}
 use mathlib.Core.List.{List, [], ◌∷◌, ◌++◌, append_assoc}
 use Prim.Native.Nat.{ℕ, ◌+◌, ◌-◌, ◌*◌, ◌%◌, ◌≤◌, ◌<◌}
@@ -176,9 +176,3 @@ module _ (L : Limits) (fit : Fits L) (ws sums : List ℕ) (p total : ℕ) (h : L
           → (node.flag ≡ true) × (receivers_due node ≡ a ∷ l)
       go true f q = (f, q)
       go false f q = clash (ap is_empty q)
-
--- a frame has bytes
-pub due_bytes_lem : (ws sums : List ℕ) (p issued : ℕ) → eqb (length (due_bytes ws sums p issued)) 0 ≡ false
-due_bytes_lem ws sums p issued =
-    ne_eqb _ 0
-    (cases (λ l. length l ≢ 0) (eqb (word ws at_pass) 1) _ _ (λ e q. omega arith) (λ e q. omega arith))

@@ -8,14 +8,14 @@ use Prim.Native.Nat.{ℕ}
 use lib.ListN.{get_or}
 use borrow.Author.Tests.{eqb-true, eq-eqb, ne_eqb}
 use Rattle.base.specs.Limits.{Limits}
-use Rattle.base.specs.Refusal.{Refusal, refused, Check, when}
+use Rattle.base.specs.Refusal.{refused, found, Check, when}
+use Rattle.base.specs.declared.Refusal.{Refusal}
 use Rattle.base.proofs.Laws.{clash, Passes, Stops, here, later, stops_before, stops_after, checks_stop, checks_known}
 use Rattle.tree.specs.Tree.{awaited}
 use Rattle.tree.specs.Lookups.{bad_board}
 use Rattle.frame.specs.Frame.{fields_of, read_checks, read_frame, answer_of}
 use Rattle.frame.specs.Timing.{timing}
 use Rattle.frame.specs.declared.Frame.{Frame}
-use Rattle.frame.specs.declared.Outcome.TheVariants.{Done, Refused}
 use Rattle.frame.specs.declared.Timing.{Timing}
 use Rattle.frame.proofs.Answers.{answer_refused, answer_done}
 use Rattle.frame.proofs.RoundTripAccepted.{Read, read_known, head_phase, head_dim, head_sender}
@@ -43,7 +43,7 @@ module _ (L : Limits) (n : Node) (bs : List ℕ) (v : valid L n ≡ true) where
   checks = read_checks L n.nodes bs
 
   abbrev all : List Check
-  all = when (bad_board L n.nodes) Refusal.board ∷ checks
+  all = when (bad_board L n.nodes) Refusal.Board ∷ checks
 
   read_stops : (x : ℕ) → read_frame L n.nodes bs ≡ refused x → Stops checks x
   unfolding read_frame
@@ -53,12 +53,12 @@ module _ (L : Limits) (n : Node) (bs : List ℕ) (v : valid L n ≡ true) where
       go (here b) = clash (sym b ∙ (valid_known L n v).board)
       go (later b s) = s
 
-  pub frame_refused : (x : ℕ) → answer_of (read_frame L n.nodes bs) ≡ Refused x → frame_in L n bs ≡ refusal n x
+  pub frame_refused : (x : ℕ) → answer_of (read_frame L n.nodes bs) ≡ refused x → frame_in L n bs ≡ refusal n x
   frame_refused x a =
       frame_refuses L n bs
       (later (ap not v) (stops_before _ (read_stops x (answer_refused (read_frame L n.nodes bs) x a))))
 
-  module _ (a : answer_of (read_frame L n.nodes bs) ≡ Done) where
+  module _ (a : answer_of (read_frame L n.nodes bs) ≡ found tt) where
     read_passes : Passes checks
     unfolding read_frame
     read_passes =

@@ -9,20 +9,19 @@ use native.Mathlib.Omega.{arith}
 use lib.ListN.{length, get_or}
 use borrow.Author.Tests.{eq-eqb, ne_eqb}
 use Rattle.base.specs.Limits.{Limits, Fits, width}
+use Rattle.base.specs.Refusal.{refused, found}
 use Rattle.base.proofs.Laws.{length_list}
 use Rattle.tree.specs.Tree.{awaited}
 use Rattle.tree.specs.Lookups.{bad_board}
 use Rattle.tree.proofs.Lookups.{place_found}
 use Rattle.frame.specs.Frame.{number_at, fields_of, read_frame, answer_of}
 use Rattle.frame.specs.Timing.{timing}
-use Rattle.frame.specs.declared.Outcome.TheVariants.{Done, Refused}
 use Rattle.frame.specs.declared.Timing.{Timing}
 use Rattle.frame.specs.declared.Timing.TheVariants.{Now, Early, Late, Foreign}
 use Rattle.frame.proofs.Writing.{first_length_lem, second_length}
 use Rattle.frame.proofs.RoundTripAccepted.{Read}
 use Rattle.node.specs.Calls.{gotten, is_awaited, by_timing, frame_in}
-use Rattle.node.specs.declared.Answer.{Answer}
-use Rattle.node.specs.declared.Answer.TheVariants.{Refused as Refuses}
+use Rattle.node.specs.Answers.{Outcome, refused as barred}
 use Rattle.node.proofs.Valid.{Valid, valid_known}
 use Rattle.layout.specs.Places.{at_nodes, at_number, at_phase, at_dim, head_words}
 use Rattle.layout.specs.Held.{word, dims_of, unpacked}
@@ -54,11 +53,11 @@ module _ {L : Limits} {ws : List ℕ} (fit : Fits L) (bs : List ℕ) (k : Passed
   unfolding unpacked
   on_board = (held.board, state.number)
 
-  says_refused : (x : ℕ) → answer_of (read_frame L (word ws at_nodes) bs) ≡ Refused x → Judged L ws bs (Refuses x)
+  says_refused : (x : ℕ) → answer_of (read_frame L (word ws at_nodes) bs) ≡ refused x → Judged L ws bs (barred x)
   unfolding unpacked
   says_refused x a = frame_refused L (unpacked ws) bs k.valid x a
 
-  module _ (a : answer_of (read_frame L (word ws at_nodes) bs) ≡ Done) where
+  module _ (a : answer_of (read_frame L (word ws at_nodes) bs) ≡ found tt) where
     read : Read L (word ws at_nodes) bs (fields_of (dims_of ws) bs)
     unfolding unpacked
     read = frame_read L (unpacked ws) bs k.valid a
@@ -104,13 +103,13 @@ module _ {L : Limits} {ws : List ℕ} (fit : Fits L) (bs : List ℕ) (k : Passed
     pub stored : Becomes L ws (stored_words (dims_of ws) ws bs) (gotten (unpacked ws) (fields_of (dims_of ws) bs))
     stored = put_read L ws bs read fit k.whole
 
-    says_self : get_or bs 3 0 ≡ word ws at_number → Judged L ws bs (Refuses 3)
+    says_self : get_or bs 3 0 ≡ word ws at_number → Judged L ws bs (barred 3)
     unfolding unpacked
     says_self e = frame_self L (unpacked ws) bs k.valid a e
 
     module _ (e : get_or bs 3 0 ≢ word ws at_number) where
       says_partner : is_awaited (awaited (word ws at_nodes) (get_or bs 2 0) (word ws at_number)) (get_or bs 3 0) ≡ false
-          → Judged L ws bs (Refuses 11)
+          → Judged L ws bs (barred 11)
       unfolding unpacked
       says_partner h = frame_partner L (unpacked ws) bs k.valid a e h
 
@@ -135,7 +134,7 @@ module _ {L : Limits} {ws : List ℕ} (fit : Fits L) (bs : List ℕ) (k : Passed
     by_time_lem Foreign q = q
 
   -- what is said by the board, the node's number and its phase is said of the state
-  pub judged_known : (r : Answer) → r ≡ judged L (word ws at_nodes) (word ws at_number) (word ws at_phase) bs → Judged L ws bs r
+  pub judged_known : (r : Outcome) → r ≡ judged L (word ws at_nodes) (word ws at_number) (word ws at_phase) bs → Judged L ws bs r
   judged_known r e =
       let when = timing (get_or bs 1 0) (word ws at_phase) in
       subst (Judged L ws bs) (sym e)

@@ -3,25 +3,23 @@
 use Rattle.std.specs.Prelude.{List, ◌∷◌, ◌≡◌, ℕ, ◌+◌, ◌-◌, ◌/◌, ◌≤◌, ◌<◌, ltb, eqb, length, get_or, set}
 use Rattle.base.specs.Choice.{choose, list}
 use Rattle.base.specs.Limits.{Limits, width}
+use Rattle.base.specs.Refusal.{found}
 use Rattle.frame.specs.Frame.{number_at, fields_of, read_frame, answer_of}
 use Rattle.frame.specs.Parts.{pasted}
-use Rattle.frame.specs.declared.Outcome.TheVariants.{Done as Accepted}
 use Rattle.node.specs.Calls.{step_number, refusal, gotten, frame_in}
-use Rattle.node.specs.Answers.{give, done, dropped}
-use Rattle.node.specs.declared.Answer.{Answer}
-use Rattle.node.specs.declared.Answer.TheVariants.{Done, Dropped, Refused}
+use Rattle.node.specs.Answers.{give, Outcome, done, dropped, refused}
 use Rattle.layout.specs.Places.{at_pass, at_dim, at_flag, at_agreed, at_first, at_second, at_nodes, head_words}
 use Rattle.layout.specs.Held.{word, dims_of, unpacked}
 
 -- ---- A frame is judged
 
 -- done: the bytes are a frame, which the state gets
-abbrev pub Judged : Limits → List ℕ → List ℕ → Answer → Type 0
-Judged L ws bs Done =
-    (answer_of (read_frame L (word ws at_nodes) bs) ≡ Accepted)
+abbrev pub Judged : Limits → List ℕ → List ℕ → Outcome → Type 0
+Judged L ws bs done =
+    (answer_of (read_frame L (word ws at_nodes) bs) ≡ found tt)
     × (frame_in L (unpacked ws) bs ≡ give (gotten (unpacked ws) (fields_of (dims_of ws) bs)) done)
-Judged L ws bs Dropped = frame_in L (unpacked ws) bs ≡ give (unpacked ws) dropped
-Judged L ws bs (Refused x) = frame_in L (unpacked ws) bs ≡ refusal (unpacked ws) x
+Judged L ws bs dropped = frame_in L (unpacked ws) bs ≡ give (unpacked ws) dropped
+Judged L ws bs (refused x) = frame_in L (unpacked ws) bs ≡ refusal (unpacked ws) x
 
 -- ---- It is stored
 

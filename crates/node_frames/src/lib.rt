@@ -11,8 +11,8 @@ ghost use Rattle.layout.specs.Pieces.{Passed, Answers};
 ghost use Rattle.node_frames.specs.Pieces.{frame_place, frame_words, back_words, stored_words, Storable};
 ghost use Rattle.layout.specs.Places.{head_words};
 
-use base::Bounds;
-use node::Answer;
+use base::{Bounds, Refusal};
+use node::Accepted;
 
 // The mark before the numbers of a stored frame.
 const MARK: usize = layout::MARK as usize;
@@ -80,30 +80,34 @@ fn store(state: &mut [u32], p: u32, bytes: &[u8])
 }
 
 // A frame has come for a state of p dimensions that passes the test.
-fn frame_on(b: Bounds, state: &mut [u32], p: u32, bytes: &[u8]) -> Answer
+fn frame_on(b: Bounds, state: &mut [u32], p: u32, bytes: &[u8]) -> Result<Accepted, Refusal>
     requires { Passed (limits_of b) state.old × (p ≡ dims_of state.old) }
     ensures { Answers (limits_of b) (λ n. frame_in (limits_of b) n bytes.now) state.old
         state.new result }
 {
-    let answer = frame_refusals::judge(
+    let accepted = frame_refusals::judge(
         b,
         state[layout::NODES],
         state[layout::NUMBER],
         state[layout::PHASE] as u8,
         bytes,
-    );
-    match answer {
-        Answer::Done => {
+    )?;
+    match accepted {
+        Accepted::Done => {
             store(state, p, bytes);
-            Answer::Done
+            Ok(Accepted::Done)
         }
-        Answer::Dropped => Answer::Dropped,
-        Answer::Refused(no) => Answer::Refused(no),
+        Accepted::Dropped => Ok(Accepted::Dropped),
     }
 }
 
 // A frame has come. Refuses 13, 9, 10, 2, 3, 11, 7, 8.
-pub fn frame_in(b: Bounds, state: &mut [u32], sums: &mut [u32], bytes: &[u8]) -> Answer
+pub fn frame_in(
+    b: Bounds,
+    state: &mut [u32],
+    sums: &mut [u32],
+    bytes: &[u8],
+) -> Result<Accepted, Refusal>
     ensures answer { outcome_of result
         ≡ answer_on (limits_of b) (length sums.old) (λ n. frame_in (limits_of b) n bytes.now)
         state.old }
@@ -113,7 +117,7 @@ pub fn frame_in(b: Bounds, state: &mut [u32], sums: &mut [u32], bytes: &[u8]) ->
 {
     let known = scan::scan_of(b, &*state, sums, false);
     if !known.ok {
-        return Answer::Refused(13);
+        return Err(Refusal::State);
     }
     frame_on(b, state, known.dims, bytes)
 }

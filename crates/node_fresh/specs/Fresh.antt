@@ -2,7 +2,8 @@
 use Rattle.std.specs.Prelude.{Bool, List, ◌++◌, ℕ, leb, length, drop}
 use Rattle.base.specs.Choice.{choose}
 use Rattle.base.specs.Limits.{Limits}
-use Rattle.base.specs.Refusal.{Refusal, number}
+use Rattle.base.specs.Refusal.{number}
+use Rattle.base.specs.declared.Refusal.{Refusal}
 use Rattle.tree.specs.Tree.{dimension}
 use Rattle.node.specs.Answers.{Outcome, done, dropped, refused}
 use Rattle.node.specs.Calls.{fresh}
@@ -12,7 +13,7 @@ use Rattle.layout.specs.Held.{packed}
 
 -- words that are too few for the board are 13, after the refusals of the call
 abbrev pub with_room : Bool → Outcome → Outcome
-with_room room done = choose room done (refused (number Refusal.state))
+with_room room done = choose room done (refused (number Refusal.State))
 with_room room dropped = dropped
 with_room room (refused x) = refused x
 

@@ -1,4 +1,4 @@
-// The call fresh: a fresh state in lent words, or a refusal of what is not allowed with its number.
+// The call fresh: a fresh state in lent words, or a refusal of what is not allowed.
 #![tactic(auto)]
 
 ghost use Rattle.std.specs.Prelude.{◌≡◌};
@@ -6,25 +6,22 @@ ghost use Rattle.base.specs.Limits.{limits_of};
 ghost use Rattle.node.specs.Answers.{outcome_of};
 ghost use Rattle.node_fresh.specs.Fresh.{fresh_on, fresh_words};
 
-use base::Bounds;
+use base::{Bounds, Refusal};
 use fresh_words::put_fresh;
-use node::Answer;
-use tree::Found;
+use node::Accepted;
 
 // A node that has just started. Refuses 1, 2, and 13 where the words are too few for the board.
-pub fn fresh(b: Bounds, state: &mut [u32], nodes: u32, number: u32) -> Answer
+pub fn fresh(b: Bounds, state: &mut [u32], nodes: u32, number: u32) -> Result<Accepted, Refusal>
     ensures answer { outcome_of result ≡ fresh_on (limits_of b) nodes number state.old }
     ensures memory { state.new ≡ fresh_words (limits_of b) nodes number state.old }
 {
-    let Found::Is(p) = tree::dimension_for(b, nodes) else {
-        return Answer::Refused(1);
-    };
+    let p = tree::dimension_for(b, nodes)?;
     if nodes <= number {
-        return Answer::Refused(2);
+        return Err(Refusal::Stranger);
     }
     if state.len() < layout::state_words(p as u8) as usize {
-        return Answer::Refused(13);
+        return Err(Refusal::State);
     }
     put_fresh(state, p as u8, nodes, number, 0);
-    Answer::Done
+    Ok(Accepted::Done)
 }

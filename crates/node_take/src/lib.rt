@@ -1,6 +1,6 @@
 // The call take, in place on the words that the caller lends, and the shell in which a message is counted. What is not
-// allowed is refused with its number, and a refused call leaves the words as they were. `sums` is lent for the own sums;
-// what it holds is of no account.
+// allowed is refused, and a refused call leaves the words as they were. `sums` is lent for the own sums; what it holds is of
+// no account.
 #![tactic(auto)]
 
 ghost use Rattle.std.specs.Prelude.{◌≡◌, ◌≤◌, ◌<◌, length, get_or};
@@ -15,19 +15,15 @@ ghost use Rattle.layout.specs.Places.{head_words};
 ghost use Rattle.node_take.specs.Shell.{shell_of};
 ghost use Rattle.node_take.specs.Pieces.{counted_words, woken_words};
 
-use base::{Bounds, Kind};
+use base::{Bounds, Kind, Refusal};
 use frame::Taken;
-use node::Answer;
-use tree::Found;
+use node::Accepted;
 
 // The shell of another node of the board; 0 where there is none.
 pub fn shell_of(b: Bounds, nodes: u32, number: u32, other: u32) -> u32
     ensures { result ≡ shell_of (distance_lookup (limits_of b) nodes number other) }
 {
-    let Found::Is(m) = lookups::distance_for(b, nodes, number, other) else {
-        return 0;
-    };
-    m
+    lookups::distance_for(b, nodes, number, other).unwrap_or(0)
 }
 
 // Counts a message in the taken tally at a place, and puts the node to (1, 0, 1), with T 0.
@@ -63,7 +59,7 @@ fn take_on(
     takes: Taken,
     from: u32,
     phase: u8,
-) -> Answer
+) -> Result<Accepted, Refusal>
     requires { Passed (limits_of b) state.old
         × (p ≡ dims (unpacked state.old))
         × (takes.0 ≡ tally (unpacked state.old) all_taken) }
@@ -72,13 +68,10 @@ fn take_on(
     let nodes = state[layout::NODES];
     let number = state[layout::NUMBER];
     let here = state[layout::PHASE] as u8;
-    let no = refusals::take_no(b, nodes, number, here, takes, from, phase);
-    if no != 0 {
-        return Answer::Refused(no);
-    }
+    refusals::may_take(b, nodes, number, here, takes, from, phase)?;
     count(state, layout::HEAD + p + shell_of(b, nodes, number, from));
     wake(state, kind);
-    Answer::Done
+    Ok(Accepted::Done)
 }
 
 // A job or a note from a node, with its phase byte, is taken. Refuses 13, 2, 3, 7 or 8, 6.
@@ -89,7 +82,7 @@ pub fn take_from(
     kind: Kind,
     from: u32,
     phase: u8,
-) -> Answer
+) -> Result<Accepted, Refusal>
     ensures answer { outcome_of result
         ≡ answer_on (limits_of b) (length sums.old) (λ n. take (limits_of b) n kind from phase) state.old }
     ensures memory { state.new
@@ -97,7 +90,7 @@ pub fn take_from(
 {
     let known = scan::scan_of(b, &*state, sums, false);
     if !known.ok {
-        return Answer::Refused(13);
+        return Err(Refusal::State);
     }
     take_on(b, state, kind, known.dims, known.takes, from, phase)
 }

@@ -3,18 +3,12 @@ use Rattle.std.specs.Prelude.{true, false, List, [], ◌∷◌, ◌++◌, ℕ, s
 use Rattle.base.specs.Choice.{choose, list}
 use Rattle.node.specs.Change.{at, fresh_in}
 use Rattle.node.specs.declared.Node.{Node}
-use Rattle.node.specs.declared.BarrierAnswer.{BarrierAnswer}
-use Rattle.node.specs.declared.BarrierAnswer.TheVariants.{Sends, Waits, Moved, Left, Refused}
+use Rattle.node.specs.declared.Step.{Step}
+use Rattle.node.specs.declared.Step.TheVariants.{Sends, Waits, Moved, Left}
 use Rattle.layout.specs.Places.{at_nodes, at_number, at_phase, at_pass, at_dim, at_flag, at_agreed, state_words, head_words}
 use Rattle.layout.specs.Held.{word}
 use Rattle.node_turn.specs.declared.Turn.{Turn}
-use Rattle.node_turn.specs.declared.Turn.TheVariants.{
-  Refuses,
-  Sends as SendsTo,
-  Waits as WaitsFor,
-  Moves,
-  Leaves,
-}
+use Rattle.node_turn.specs.declared.Turn.TheVariants.{Sends as SendsTo, Waits as WaitsFor, Moves, Leaves}
 
 -- ---- On
 
@@ -27,14 +21,12 @@ onward_turn p pass k agreed total =
 -- ---- After it
 
 abbrev pub node_after : Node → Turn → Node
-node_after n (Refuses x) = n
 node_after n (SendsTo to length) = at n n.pass n.dim false n.agreed
 node_after n (WaitsFor clause) = at n n.pass n.dim false n.agreed
 node_after n (Moves pass k agreed) = at n pass k true agreed
 node_after n Leaves = fresh_in n.nodes n.number ((n.phase + 1) % 256)
 
-abbrev pub answer_of : Turn → BarrierAnswer
-answer_of (Refuses x) = Refused x
+abbrev pub answer_of : Turn → Step
 answer_of (SendsTo to length) = Sends to length
 answer_of (WaitsFor clause) = Waits clause
 answer_of (Moves pass k agreed) = Moved
@@ -52,7 +44,6 @@ freshened ws p =
     ws
 
 abbrev pub words_after : List ℕ → ℕ → Turn → List ℕ
-words_after ws p (Refuses x) = ws
 words_after ws p (SendsTo to length) = set ws at_flag 0
 words_after ws p (WaitsFor clause) = set ws at_flag 0
 words_after ws p (Moves pass k agreed) = positioned ws pass k agreed

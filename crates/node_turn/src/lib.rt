@@ -1,4 +1,4 @@
-// What a node does in a barrier call, and which of it where its step agrees.
+// What a node does in a barrier call that is not refused, and which of it where its step agrees.
 #![tactic(auto)]
 
 ghost use Rattle.std.specs.Prelude.{◌≡◌};
@@ -9,9 +9,9 @@ ghost use Rattle.node_turn.specs.Turn.{onward_turn};
 use frame::Taken;
 use node::Receivers;
 
+// What a node does in a step.
 #[derive(Clone, Copy)]
 pub enum Turn {
-    Refuses(u8),
     // to these receivers, a frame of this length
     Sends(Receivers, u32),
     // for this clause
@@ -25,10 +25,7 @@ pub enum Turn {
 fn word_at(s: &[u32], at: usize) -> u32
     ensures { result ≡ word s.now at }
 {
-    if s.len() <= at {
-        return 0;
-    }
-    s[at]
+    s.get(at).copied().unwrap_or(0)
 }
 
 // The turn of a node whose step in dimension k of p agrees: on, or out after the last step. Total taken, with the frame of that

@@ -8,10 +8,12 @@ use native.Mathlib.Omega.{arith}
 use lib.Dec.{leb}
 use lib.ListN.{length}
 use borrow.Author.Tests.{le-leb}
+use Rattle.std.proofs.Common.{Result}
 use Rattle.base.specs.Choice.{choose, both}
 use Rattle.base.specs.Limits.{Limits, Fits}
+use Rattle.base.specs.declared.Refusal.{Refusal}
 use Rattle.node.specs.Answers.{Given, Outcome, barrier_of}
-use Rattle.node.specs.declared.BarrierAnswer.{BarrierAnswer}
+use Rattle.node.specs.declared.Step.{Step}
 use Rattle.node.specs.declared.Node.{Node}
 use Rattle.layout.specs.Places.{sum_words, most_sums}
 use Rattle.layout.specs.Held as held
@@ -34,15 +36,22 @@ module _ (L : Limits) (fit : Fits L) (ws : List ℕ) where
   always a b e = e ∙ ap (λ t. choose t a b) enough
 
   pub called : (call : Node → Given Outcome) (after : List ℕ) (o : Outcome)
-      → (o ≡ held.answer_on L most_sums call ws) × (after ≡ held.words_on L most_sums call ws)
-      → (o ≡ answer_on L call ws) × (after ≡ words_on L call ws)
-  called call after o q = (always _ _ q.0, always _ _ q.1)
+      → record { answer : o ≡ held.answer_on L most_sums call ws; memory : after ≡ held.words_on L most_sums call ws }
+      → record { answer : o ≡ answer_on L call ws; memory : after ≡ words_on L call ws }
+  called call after o q = record { answer = always _ _ q.answer; memory = always _ _ q.memory }
 
   module _ (buf : List ℕ) where
     -- the answer, the words and the bytes
-    pub stepped : (a : BarrierAnswer) (words after : List ℕ)
-        → (barrier_of a ≡ below.barrier_on L most_sums ws (length buf))
-        × ((words ≡ below.barrier_words L most_sums ws (length buf)) × (after ≡ below.barrier_lent L most_sums ws buf))
-        → (barrier_of a ≡ barrier_on L ws (length buf))
-        × ((words ≡ barrier_state L ws (length buf)) × (after ≡ barrier_buffer L ws buf))
-    stepped a words after q = (always _ _ q.0, (always _ _ q.1.0, always _ _ q.1.1))
+    pub stepped : (a : Result Step Refusal) (words after : List ℕ)
+        → record {
+          answer : barrier_of a ≡ below.barrier_on L most_sums ws (length buf);
+          memory : words ≡ below.barrier_words L most_sums ws (length buf);
+          buffer : after ≡ below.barrier_lent L most_sums ws buf;
+        }
+        → record {
+          answer : barrier_of a ≡ barrier_on L ws (length buf);
+          memory : words ≡ barrier_state L ws (length buf);
+          buffer : after ≡ barrier_buffer L ws buf;
+        }
+    stepped a words after q =
+        record { answer = always _ _ q.answer; memory = always _ _ q.memory; buffer = always _ _ q.buffer }

@@ -2,15 +2,16 @@
 use Rattle.std.specs.Prelude.{List, ℕ}
 use Rattle.base.specs.Choice.{choose}
 use Rattle.base.specs.Limits.{Limits}
-use Rattle.base.specs.Refusal.{Refusal, number}
+use Rattle.base.specs.Refusal.{number}
+use Rattle.base.specs.declared.Refusal.{Refusal}
 use Rattle.node.specs.Answers.{Given, Outcome, refused, Barrier, barred}
 use Rattle.node.specs.Barrier.{barrier, barrier_bytes}
 use Rattle.node.specs.declared.Node.{Node}
 use Rattle.layout.specs.Held.{unpacked, is_whole, holding}
 
--- words that are no state, or too few for the board that they name, give 13
+-- words that are no state, or too few for the board that they name, give this
 abbrev pub no_state : ℕ
-no_state = number Refusal.state
+no_state = number Refusal.State
 
 abbrev pub answer_on : Limits → (Node → Given Outcome) → List ℕ → Outcome
 answer_on L call ws = choose (is_whole L ws) (call (unpacked ws)).answer (refused no_state)

@@ -13,14 +13,12 @@ pub fn open_stage(size: u32) -> Stage
     ensures { result ≡ opening size }
 {
     let mut states = [states::none(); 16];
-    let mut a: u32 = 0;
-    while a < 16 {
+    for a in 0..16 {
         states[a as usize] = states::fresh(size, a);
-        a += 1;
     }
     Stage {
-        states: states,
-        size: size,
+        states,
+        size,
         under: 0,
     }
 }

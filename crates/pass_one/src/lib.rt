@@ -29,7 +29,7 @@ fn last_agree(b: Bounds, s: &[u32], sums: &mut [u32], p: u32, k: u32) -> bool
     ensures { Agreed (limits_of b) p k (first_from s.now p k 0) sums.old sums.new result }
 {
     // the numbers above shell k and the totals, with the frame's added, are within the limit
-    if !adding::add_frame(base::field_limit(b), s, &mut *sums, p, k) {
+    if !adding::add_frame(b.field_limit(), s, &mut *sums, p, k) {
         return false;
     }
     let issued = Sent(sums[(2 * p) as usize]);

@@ -27,7 +27,7 @@ pub fn clause(b: Bounds, frame: Confirmed, last: bool, issued: Sent, agreed: u32
         return 0;
     }
     // with the frame's added, total sent is within the limit
-    if !walk_tests::sent_fits(issued, frame.issued, base::field_limit(b)) {
+    if !walk_tests::fits(issued, frame.issued, b.field_limit()) {
         return 3;
     }
     // the other side has agreed on the same total

@@ -2,11 +2,12 @@
 use mathlib.Core.Path.{◌≡◌, sym, ap, ◌∙◌}
 use mathlib.Core.List.{List, [], ◌∷◌, ◌++◌}
 use Prim.Native.Nat.{ℕ, zero, suc, ◌+◌, ◌-◌, ◌≤◌, ◌<◌, min}
-use native.Mathlib.Numerals.{add-one}
 use native.Mathlib.Omega.{arith}
 use native.Mathlib.Decide.{dec_lt}
-use lib.ListN.{length, get_or, set, take, drop, length-set, length-append, length-take}
-use lib.Seq.{take-nil, drop-nil, take-suc, take_at}
+use lib.ListN.{length, set, take, drop, length-set, length-append, length-take, length-drop, drop_of_length-le}
+use lib.Seq.{take-nil, drop-nil, take_at, take_all, length-take-le}
+use borrow.Rule.Slice.PartMut.{put_mid}
+use Rattle.std.proofs.lemmas.List.{take_min, drop_min, drop-drop, append-nil}
 use Rattle.base.specs.Choice.{list}
 use Rattle.base.proofs.Laws.{length_list, list_more}
 use Rattle.printing.specs.Put.{put, ends}
@@ -101,12 +102,20 @@ then out s t a b at n m w z =
 pub said : (out s a b : List ℕ) (at n : ℕ) → a ≡ b → Written out at a s n → Written out at b s n
 said out s a b at n e w = (rw (← e) w.0, rw (← e) w.1)
 
--- one turn of a loop that puts the bytes of s one by one
-pub turn_more : (out now now' s : List ℕ) (at next next' i : ℕ) → i < length s → Written out at (take i s) now next
-    → Written now next (get_or s i 0 ∷ []) now' next' → Written out at (take (i + 1) s) now' next'
-turn_more out now now' s at next next' i h w z =
-    said out now' (take i s ++ (get_or s i 0 ∷ [])) (take (i + 1) s) at next' (sym (rw add-one (take-suc s i 0 h)))
-    (then out now now' (take i s) (get_or s i 0 ∷ []) at next next' w z)
+-- the bytes that have room, copied into their places
+pub copied : (out : List ℕ) (at start n k : ℕ) (s now : List ℕ) → start ≡ min at (length out)
+    → n ≡ min (length s) (length out - start) → k ≡ start + n - start → now ≡ take k s
+    → put_mid start k out now ≡ put out at s
+unfolding put
+copied out at start n k s now p q r e =
+    let front : take start out ≡ take at out = rw p (take_min at out) in
+    let rest : drop start out ≡ drop at out = rw p (drop_min at out) in
+    let room : k ≡ min (length out - at) (length s) = omega arith in
+    let over : k ≡ min (length s) (length (drop at out)) = omega (arith, length-drop at out) in
+    let middle : now ≡ take (length out - at) s = e ∙ rw room (take_min (length out - at) s) in
+    let last : drop k (drop start out) ≡ drop (at + length s) out =
+    rw (rest, over) (drop_min (length s) (drop at out) ∙ drop-drop (length s) at out) in
+    rw (front, middle, last)
 
 -- a value more put after those that a rule lists
 pub put_next : (l : List ℕ) (i : ℕ) (f : ℕ → ℕ) → set (put l 0 (list 0 i f)) i (f i) ≡ put l 0 (list 0 (i + 1) f)
@@ -116,6 +125,17 @@ put_next l i f =
     put_one_lem _ i (f i)
     ∙ rw z at (put_more l 0 (list 0 i f) (f i ∷ []))
     ∙ ap (put l 0) (sym (rw s at (list_more 0 i f)))
+
+-- what fills the first n values, and those after them
+pub put_front : (l text : List ℕ) (n : ℕ) → n ≤ length l → length text ≡ n → put (take n l) 0 text ++ drop n l ≡ put l 0 text
+unfolding put
+put_front l text n h e =
+    let a : length (take n l) ≡ n = length-take-le n l h in
+    let b : take (length (take n l) - 0) text ≡ text = take_all _ text (omega arith) in
+    let c : drop (0 + length text) (take n l) ≡ [] = drop_of_length-le (take n l) (omega arith) in
+    let d : take (length l - 0) text ≡ text = take_all _ text (omega arith) in
+    let f : 0 + length text ≡ n = omega arith in
+    rw (b, c, d, append-nil, f)
 
 -- what is put from the start on, and no more
 pub taken : (out text : List ℕ) → take (ends out 0 text) (put out 0 text) ≡ take (length out) text

@@ -8,7 +8,8 @@ use lib.Dec.{ltb, leb, eqb}
 use lib.ListN.{length, get_or}
 use Rattle.base.specs.Choice.{choose, both, either}
 use Rattle.base.specs.Limits.{base}
-use Rattle.base.specs.Refusal.{Refusal, Check, number, Answered, refused as noAnswer, found, when, in_order}
+use Rattle.base.specs.Refusal.{Check, number, Answered, refused as noAnswer, found, when, in_order}
+use Rattle.base.specs.declared.Refusal.{Refusal}
 use Rattle.base.specs.declared.Kind.{Kind}
 use Rattle.base.proofs.Laws.{cases, both_true, Stops, order_cases}
 use Rattle.base.proofs.Limits.{fits_base}
@@ -190,15 +191,15 @@ looked_up_lem ns cs r e z = order_cases noAnswer (λ q. OneOf ns (lookup_number 
 
 pub dimensions : (P : ℕ) → OneOf (1 ∷ 0 ∷ []) (lookup_number (dimension_lookup base P))
 unfolding dimension_lookup
-dimensions P = looked_up_lem (1 ∷ 0 ∷ []) (when (bad_board base P) Refusal.board ∷ []) (found (dimension P)) refl refl
+dimensions P = looked_up_lem (1 ∷ 0 ∷ []) (when (bad_board base P) Refusal.Board ∷ []) (found (dimension P)) refl refl
 
 pub places : (P k a : ℕ) → OneOf (1 ∷ 2 ∷ 10 ∷ 0 ∷ []) (lookup_number (place_lookup base P k a))
 unfolding place_lookup
 places P k a =
     looked_up_lem (1 ∷ 2 ∷ 10 ∷ 0 ∷ [])
-    (when (bad_board base P) Refusal.board
-    ∷ when (leb P a) Refusal.stranger
-    ∷ when (leb (dimension P) k) Refusal.field
+    (when (bad_board base P) Refusal.Board
+    ∷ when (leb P a) Refusal.Stranger
+    ∷ when (leb (dimension P) k) Refusal.Field
     ∷ [])
     (found (place P k a)) refl refl
 
@@ -206,16 +207,16 @@ pub distances : (P a b : ℕ) → OneOf (1 ∷ 2 ∷ 3 ∷ 0 ∷ []) (lookup_num
 unfolding distance_lookup
 distances P a b =
     looked_up_lem (1 ∷ 2 ∷ 3 ∷ 0 ∷ [])
-    (when (bad_board base P) Refusal.board
-    ∷ when (either (leb P a) (leb P b)) Refusal.stranger
-    ∷ when (eqb a b) Refusal.self
+    (when (bad_board base P) Refusal.Board
+    ∷ when (either (leb P a) (leb P b)) Refusal.Stranger
+    ∷ when (eqb a b) Refusal.Itself
     ∷ [])
     (found (distance P a b)) refl refl
 
 pub reads : (P : ℕ) (bs : List ℕ) → OneOf (1 ∷ 9 ∷ 10 ∷ 2 ∷ 0 ∷ []) (lookup_number (read_frame base P bs))
 unfolding read_frame
 reads P bs =
-    looked_up_lem (1 ∷ 9 ∷ 10 ∷ 2 ∷ 0 ∷ []) (when (bad_board base P) Refusal.board ∷ read_checks base P bs)
+    looked_up_lem (1 ∷ 9 ∷ 10 ∷ 2 ∷ 0 ∷ []) (when (bad_board base P) Refusal.Board ∷ read_checks base P bs)
     (found (fields_of (dimension P) bs)) refl refl
 
 written : (P room : ℕ) (f : Frame) → OneOf (1 ∷ 10 ∷ 2 ∷ 14 ∷ 0 ∷ []) (lookup_number (write_frame base P f room))
@@ -223,18 +224,18 @@ unfolding write_frame
 written P room f =
     let p = dimension P in
     looked_up_lem (1 ∷ 10 ∷ 2 ∷ 14 ∷ 0 ∷ [])
-    (when (bad_board base P) Refusal.board
-    ∷ when (bad_step p f.pass f.dim) Refusal.field
-    ∷ when (not (numbers_ok base p f)) Refusal.field
-    ∷ when (leb P f.sender) Refusal.stranger
-    ∷ when (ltb room (frame_length p f.pass f.dim)) Refusal.buffer
+    (when (bad_board base P) Refusal.Board
+    ∷ when (bad_step p f.pass f.dim) Refusal.Field
+    ∷ when (not (numbers_ok base p f)) Refusal.Field
+    ∷ when (leb P f.sender) Refusal.Stranger
+    ∷ when (ltb room (frame_length p f.pass f.dim)) Refusal.Buffer
     ∷ [])
     (found (frame_length p f.pass f.dim)) refl refl
 
 pub writes : (P room : ℕ) (ws : List ℕ) → OneOf (1 ∷ 10 ∷ 2 ∷ 14 ∷ 0 ∷ []) (lookup_number (write_on base P ws room))
 writes P room ws =
     looked_up_lem (1 ∷ 10 ∷ 2 ∷ 14 ∷ 0 ∷ [])
-    (when (bad_board base P) Refusal.board ∷ when (leb 256 (get_or ws at_phase 0)) Refusal.field ∷ [])
+    (when (bad_board base P) Refusal.Board ∷ when (leb 256 (get_or ws at_phase 0)) Refusal.Field ∷ [])
     (write_frame base P (frame_from ws) room) refl (written P room (frame_from ws))
 
 -- what stays in each refusal, stays where the number is not 0

@@ -8,7 +8,8 @@ use lib.Dec.{ltb}
 use lib.ListN.{length}
 use borrow.Author.Tests.{eq-eqb}
 use Rattle.base.specs.Choice.{choose}
-use Rattle.base.specs.Refusal.{Refusal, found, when}
+use Rattle.base.specs.Refusal.{found, when}
+use Rattle.base.specs.declared.Refusal.{Refusal}
 use Rattle.base.proofs.Laws.{choose_yes, cases}
 use Rattle.items.specs.declared.Item.{Item}
 use Rattle.recording.specs.Recording.{Recording, event_count, bytes_of, recording_in}
@@ -25,13 +26,13 @@ use Rattle.promises.proofs.AnyInput.{looked_up_lem, refused_stays, number_stays}
 reads : (bs : List ℕ) (counts events : ℕ) → OneOf (18 ∷ 14 ∷ 0 ∷ []) (lookup_number (read_answer bs counts events))
 reads bs counts events =
     looked_up_lem (18 ∷ 14 ∷ 0 ∷ [])
-    (when (is_bad_in bs) Refusal.recording ∷ when (is_short (recording_in bs) counts events) Refusal.buffer ∷ [])
+    (when (is_bad_in bs) Refusal.Recording ∷ when (is_short (recording_in bs) counts events) Refusal.Buffer ∷ [])
     (found (head_of (recording_in bs))) refl refl
 
 writes : (r : Recording) (room : ℕ) → OneOf (18 ∷ 14 ∷ 0 ∷ []) (lookup_number (write_answer r room))
 writes r room =
     looked_up_lem (18 ∷ 14 ∷ 0 ∷ [])
-    (when (is_bad r) Refusal.recording ∷ when (ltb room (length (bytes_of r))) Refusal.buffer ∷ [])
+    (when (is_bad r) Refusal.Recording ∷ when (ltb room (length (bytes_of r))) Refusal.Buffer ∷ [])
     (found (length (bytes_of r))) refl refl
 
 -- ---- replays

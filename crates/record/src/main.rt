@@ -5,7 +5,6 @@ ghost use Rattle.std.specs.Prelude.{◌≡◌, ◌≤◌, length};
 ghost use Rattle.text.specs.Text.{text_room};
 
 use std::io;
-use tree::Found;
 
 // Plays a script, and answers how much of `out` is printed. Every text fits the bytes that it asks for (rule S1).
 fn play(bytes: &mut [u8], out: &mut [u8], script: &[u8]) -> usize
@@ -19,7 +18,7 @@ fn play(bytes: &mut [u8], out: &mut [u8], script: &[u8]) -> usize
 fn recorded(script: &[u8], text: &[u8], buf: &mut [u8]) -> usize
     ensures { result ≤ length buf.new }
 {
-    let Found::Is(size) = recorder::put_recording(script, text, &mut *buf) else {
+    let Ok(size) = recorder::put_recording(script, text, &mut *buf) else {
         return 0;
     };
     size as usize

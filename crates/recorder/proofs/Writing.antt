@@ -9,7 +9,8 @@ use borrow.Author.Tests.{ltb-false}
 use lib.Dec.{ltb}
 use lib.ListN.{length, take}
 use lib.Seq.{take_all, length-take-le}
-use Rattle.base.specs.Refusal.{Answered, Refusal, found, when}
+use Rattle.base.specs.Refusal.{Answered, found, when}
+use Rattle.base.specs.declared.Refusal.{Refusal}
 use Rattle.base.proofs.Laws.{length_list, checks_known}
 use Rattle.script.specs.Script.{line_at}
 use Rattle.printing.specs.Put.{put, ends}
@@ -103,7 +104,7 @@ pub inside : (r : Recording) (buf now : List ℕ) (n : ℕ) → found n ≡ writ
     → n ≤ length now
 inside r buf now n e w =
     let short = ltb (length buf) (length (bytes_of r)) in
-    let checks = when (is_bad r) Refusal.recording ∷ when short Refusal.buffer ∷ [] in
+    let checks = when (is_bad r) Refusal.Recording ∷ when short Refusal.Buffer ∷ [] in
     let k = checks_known checks (length (bytes_of r)) n (sym e) in
     let l : length now ≡ length buf = ap length (w ∙ ap (left_by r buf) (sym e)) ∙ length_put buf 0 (bytes_of r) in
     omega (arith, ltb-false (length buf) (length (bytes_of r)) k.0.1.0)

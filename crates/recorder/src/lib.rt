@@ -2,13 +2,13 @@
 #![tactic(auto)]
 
 ghost use Rattle.std.specs.Prelude.{◌≡◌, ◌*◌, ◌≤◌, length};
-ghost use Rattle.tree.specs.Lookups.{found_answer};
+ghost use Rattle.base.specs.Refusal.{answered};
 ghost use Rattle.printing.specs.Put.{put};
 ghost use Rattle.recording_write.specs.Write.{write_answer, written_on};
 ghost use Rattle.script_counts.specs.Counts.{sections_for};
 ghost use Rattle.recorder.specs.Recorded.{size_of, counts_for, recording_of};
 
-use tree::Found;
+use base::Refusal;
 
 // ---- Sections
 
@@ -31,8 +31,8 @@ fn put_counts(counts: &mut [u32], events: usize) -> usize
     ensures sections { result ≡ sections_for events }
 {
     let n = script_counts::sections_for(events);
-    for i in 0..n {
-        counts[i] = size_of(events, i);
+    for (i, count) in counts[..n].iter_mut().enumerate() {
+        *count = size_of(events, i);
     }
     n
 }
@@ -40,18 +40,17 @@ fn put_counts(counts: &mut [u32], events: usize) -> usize
 // ---- A recording
 
 // Writes the recording of a script with the answers that were printed. Answers its length. Refuses 18, 14.
-pub fn put_recording(script: &[u8], text: &[u8], buf: &mut [u8]) -> Found
-    ensures answer { found_answer result ≡ write_answer (recording_of script.now text.now) (length buf.old) }
+pub fn put_recording(script: &[u8], text: &[u8], buf: &mut [u8]) -> Result<u32, Refusal>
+    ensures answer { answered result ≡ write_answer (recording_of script.now text.now) (length buf.old) }
     ensures memory { buf.new ≡ written_on (recording_of script.now text.now) buf.old }
 {
     let first = script::line_at(script, 0);
-    let line = first.line;
-    let mut events: [u8; 60000] = [0; 60000];
+    let mut events = [0; 60000];
     let end = script_events::put_events(&mut events, script, text);
-    let mut counts: [u32; 32] = [0; 32];
+    let mut counts = [0; 32];
     let sections = put_counts(&mut counts, end / 4);
     recording_write::write(
-        script_counts::nodes_by(line),
+        script_counts::nodes_by(first.line),
         &counts[..sections],
         &events[..end],
         buf,

@@ -3,24 +3,25 @@
 #![tactic(auto)]
 
 ghost use Rattle.std.specs.Prelude.{◌≡◌};
+ghost use Rattle.base.specs.Refusal.{answered};
 ghost use Rattle.lookup_answers.specs.Words.{lookup_number};
-ghost use Rattle.recording_read.specs.Read.{held_answer};
 ghost use Rattle.recording_answers.specs.Words.{head_words, position_words};
 
-use recording_read::Held;
+use base::Refusal;
+use recording_read::Head;
 use replay_ends::Replayed;
 
 // The number of the reader's answer, and what a recording has.
-pub fn answer_held(answer: Held, found: &mut [u32; 3]) -> u32
-    ensures answer { result ≡ lookup_number (held_answer answer) }
-    ensures memory { found.new ≡ head_words (held_answer answer) found.old }
+pub fn answer_held(answer: Result<Head, Refusal>, found: &mut [u32; 3]) -> u32
+    ensures answer { result ≡ lookup_number (answered answer) }
+    ensures memory { found.new ≡ head_words (answered answer) found.old }
 {
     match answer {
-        Held::Is(h) => {
+        Ok(h) => {
             *found = [h.nodes, h.sections, h.events];
             0
         }
-        Held::Refused(no) => no as u32,
+        Err(refusal) => refusal.number() as u32,
     }
 }
 

@@ -1,46 +1,37 @@
 // Whether lent bytes are a recording. Any bytes may be handed.
 #![tactic(auto)]
 
-ghost use Rattle.std.specs.Prelude.{◌≡◌, not, ◌+◌, ◌≤◌, ◌<◌, length, drop};
+ghost use Rattle.std.specs.Prelude.{◌≡◌, not, ◌≤◌, ◌<◌, get_or};
 ghost use Rattle.base.specs.Choice.{list};
 ghost use Rattle.recording.specs.Recording.{number_at, bodies, sections_in, count_at};
 ghost use Rattle.recording.specs.Test.{sum, placed, is_bad_in};
 
-fn wide(x: u8) -> u32
-    ensures { (result ≡ x) × (result < 256) }
+// The byte at a place; 0 where there is no such place.
+pub fn byte_at(bytes: &[u8], at: usize) -> u8
+    ensures { result ≡ get_or bytes.now at 0 }
 {
-    x as u32
+    bytes.get(at).copied().unwrap_or(0)
 }
 
-// The number of two bytes at a place.
-fn number_at(bytes: &[u8], at: usize) -> u32
-    requires { at + 2 ≤ length bytes.now }
+// The number of the two bytes from a place on, the low one first; a byte past the end counts as 0.
+pub fn number_at(bytes: &[u8], at: usize) -> u32
     ensures { (result ≡ number_at bytes.now at) × (result < 65536) }
 {
-    let low = wide(bytes[at]);
-    let high = wide(bytes[at + 1]);
+    let low = byte_at(bytes, at) as u32;
+    let high = byte_at(bytes, at.saturating_add(1)) as u32;
     low + 256 * high
 }
 
 // How many sections the bytes are to have.
-fn sections_of(bytes: &[u8]) -> usize
-    requires { 2 ≤ length bytes.now }
+pub fn sections_of(bytes: &[u8]) -> usize
     ensures { (result ≡ sections_in bytes.now) × (result < 256) }
 {
-    wide(bytes[1]) as usize
-}
-
-// The bytes from a place on.
-fn from(bytes: &[u8], at: usize) -> &[u8]
-    requires { at ≤ length bytes.now }
-    ensures { result.now ≡ drop at bytes.now }
-{
-    &bytes[at..]
+    byte_at(bytes, 1) as usize
 }
 
 // The bodies of so many sections stand one after the other behind the table.
 fn is_placed(bytes: &[u8], sections: usize) -> bool
-    requires { (sections ≤ 32) × (bodies sections ≤ length bytes.now) }
+    requires { sections ≤ 32 }
     ensures { result ≡ placed bytes.now (bodies sections) 0 sections }
 {
     let mut at: u32 = 2 + 4 * sections as u32;
@@ -55,7 +46,7 @@ fn is_placed(bytes: &[u8], sections: usize) -> bool
 
 // How many events so many sections have in all.
 fn total_of(bytes: &[u8], sections: usize) -> u64
-    requires { (sections ≤ 32) × (bodies sections ≤ length bytes.now) }
+    requires { sections ≤ 32 }
     ensures { result ≡ sum (list 0 sections (count_at bytes.now)) }
 {
     let mut total: u64 = 0;
@@ -84,5 +75,5 @@ pub fn is_recording(bytes: &[u8]) -> bool
         return false;
     }
     let total = total_of(bytes, sections);
-    !recording_bad::is_bad(wide(bytes[0]), sections, total, from(bytes, head))
+    !recording_bad::is_bad(byte_at(bytes, 0) as u32, sections, total, &bytes[head..])
 }

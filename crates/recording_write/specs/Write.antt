@@ -1,6 +1,7 @@
 -- What the writer of recordings answers and leaves (rule K4).
 use Rattle.std.specs.Prelude.{List, [], ◌∷◌, ℕ, ltb, length}
-use Rattle.base.specs.Refusal.{Refusal, Answered, refused, found, when, in_order}
+use Rattle.base.specs.Refusal.{Answered, refused, found, when, in_order}
+use Rattle.base.specs.declared.Refusal.{Refusal}
 use Rattle.printing.specs.Put.{put}
 use Rattle.recording.specs.Recording.{Recording, bytes_of}
 use Rattle.recording.specs.Test.{is_bad}
@@ -9,7 +10,7 @@ use Rattle.recording.specs.Test.{is_bad}
 abbrev pub write_answer : Recording → ℕ → Answered ℕ
 write_answer r room =
     in_order refused
-    (when (is_bad r) Refusal.recording ∷ when (ltb room (length (bytes_of r))) Refusal.buffer ∷ [])
+    (when (is_bad r) Refusal.Recording ∷ when (ltb room (length (bytes_of r))) Refusal.Buffer ∷ [])
     (found (length (bytes_of r)))
 
 -- the lent buffer after it; refused, it stays

@@ -2,13 +2,13 @@
 #![tactic(auto)]
 
 ghost use Rattle.std.specs.Prelude.{◌≡◌, ◌≤◌, length};
-ghost use Rattle.tree.specs.Lookups.{found_answer};
+ghost use Rattle.base.specs.Refusal.{answered};
 ghost use Rattle.printing.specs.Put.{put, ends};
 ghost use Rattle.recording.specs.Recording.{made, bodies, table};
 ghost use Rattle.recording.specs.Test.{sum};
 ghost use Rattle.recording_write.specs.Write.{write_answer, written_on};
 
-use tree::Found;
+use base::Refusal;
 
 // Puts the table of contents.
 fn put_table(buf: &mut [u8], at: usize, counts: &[u32]) -> usize
@@ -19,10 +19,9 @@ fn put_table(buf: &mut [u8], at: usize, counts: &[u32]) -> usize
 {
     let mut next = at;
     let mut start = 2 + 4 * counts.len() as u32;
-    for i in 0..counts.len() {
-        let n = counts[i];
-        next = write_parts::put_number(&mut *buf, next, start);
-        next = write_parts::put_number(&mut *buf, next, n);
+    for &n in counts {
+        next = write_parts::put_number(buf, next, start);
+        next = write_parts::put_number(buf, next, n);
         start += 4 * n;
     }
     next
@@ -30,19 +29,19 @@ fn put_table(buf: &mut [u8], at: usize, counts: &[u32]) -> usize
 
 // Writes a recording: its node count, how many events each section has, and the events, four bytes each. Answers its
 // length. Refuses 18, 14.
-pub fn write(nodes: u32, counts: &[u32], events: &[u8], buf: &mut [u8]) -> Found
-    ensures answer { found_answer result ≡ write_answer (made nodes counts.now events.now) (length buf.old) }
+pub fn write(nodes: u32, counts: &[u32], events: &[u8], buf: &mut [u8]) -> Result<u32, Refusal>
+    ensures answer { answered result ≡ write_answer (made nodes counts.now events.now) (length buf.old) }
     ensures memory { buf.new ≡ written_on (made nodes counts.now events.now) buf.old }
 {
     if write_parts::is_refused(nodes, counts, events) {
-        return Found::Refused(18);
+        return Err(Refusal::Recording);
     }
     let size = 2 + 4 * counts.len() + events.len();
     if buf.len() < size {
-        return Found::Refused(14);
+        return Err(Refusal::Buffer);
     }
-    let at = printing::put_two(&mut *buf, 0, nodes as u8, counts.len() as u8);
-    let after = put_table(&mut *buf, at, counts);
-    let end = printing::put_bytes(&mut *buf, after, events);
-    Found::Is(end as u32)
+    let at = printing::put_two(buf, 0, nodes as u8, counts.len() as u8);
+    let after = put_table(buf, at, counts);
+    let end = printing::put_bytes(buf, after, events);
+    Ok(end as u32)
 }

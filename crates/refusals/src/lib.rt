@@ -1,34 +1,42 @@
-// Whether a message may be sent or taken, by the numbers of a state: the number of the refusal, 0 for none.
+// Whether a message may be sent or taken, by the numbers of a state.
 #![tactic(auto)]
 
 ghost use Rattle.std.specs.Prelude.{◌≡◌};
 ghost use Rattle.base.specs.Limits.{limits_of};
+ghost use Rattle.base.specs.Refusal.{answered};
 ghost use Rattle.refusals.specs.Tests.{first_met, send_tests, take_tests};
 
-use base::Bounds;
+use base::{Bounds, Refusal};
 use frame::{Sent, Taken, Timing};
 
 // A message to a node, by so many sent. Refuses 2, 3, 4, 5.
-pub fn send_no(b: Bounds, nodes: u32, number: u32, busy: u32, sends: Sent, to: u32) -> u8
-    ensures { result ≡ first_met (send_tests (limits_of b) nodes number busy sends.0 to) }
+pub fn may_send(
+    b: Bounds,
+    nodes: u32,
+    number: u32,
+    busy: u32,
+    sends: Sent,
+    to: u32,
+) -> Result<(), Refusal>
+    ensures { answered result ≡ first_met (send_tests (limits_of b) nodes number busy sends.0 to) }
 {
     if nodes <= to {
-        return 2;
+        return Err(Refusal::Stranger);
     }
     if to == number {
-        return 3;
+        return Err(Refusal::Itself);
     }
     if busy != 1 {
-        return 4;
+        return Err(Refusal::Resting);
     }
     if b.sends as u32 <= sends.0 {
-        return 5;
+        return Err(Refusal::SentOut);
     }
-    0
+    Ok(())
 }
 
 // A message from a node, with its phase byte, by so many taken. Refuses 2, 3, 7 or 8, 6.
-pub fn take_no(
+pub fn may_take(
     b: Bounds,
     nodes: u32,
     number: u32,
@@ -36,24 +44,24 @@ pub fn take_no(
     takes: Taken,
     from: u32,
     phase: u8,
-) -> u8
-    ensures { result ≡ first_met (take_tests (limits_of b) nodes number here takes.0 from phase) }
+) -> Result<(), Refusal>
+    ensures { answered result
+        ≡ first_met (take_tests (limits_of b) nodes number here takes.0 from phase) }
 {
     if nodes <= from {
-        return 2;
+        return Err(Refusal::Stranger);
     }
     if from == number {
-        return 3;
+        return Err(Refusal::Itself);
     }
-    let when = frame::timing_of(phase, here);
-    match when {
+    match frame::timing_of(phase, here) {
         Timing::Now => {}
-        Timing::Early => return 7,
-        Timing::Late => return 8,
-        Timing::Foreign => return 8,
+        Timing::Early => return Err(Refusal::Early),
+        Timing::Late => return Err(Refusal::Foreign),
+        Timing::Foreign => return Err(Refusal::Foreign),
     }
-    if base::taken_limit(b) <= takes.0 {
-        return 6;
+    if b.taken_limit() <= takes.0 {
+        return Err(Refusal::TakenFull);
     }
-    0
+    Ok(())
 }

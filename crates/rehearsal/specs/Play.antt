@@ -1,7 +1,8 @@
 -- A script played from its first line to its end or to the line that stops it (rule S4).
 use Rattle.std.specs.Prelude.{List, [], ◌++◌, ℕ, zero, suc, ◌+◌, ltb, leb, eqb, length}
 use Rattle.base.specs.Choice.{choose, both, either}
-use Rattle.base.specs.Refusal.{Refusal, number}
+use Rattle.base.specs.Refusal.{number}
+use Rattle.base.specs.declared.Refusal.{Refusal}
 use Rattle.script.specs.Script.{line_at}
 use Rattle.line_forms.specs.declared.Line.{Line}
 use Rattle.line_forms.specs.declared.Line.TheVariants.{Nodes, Sends, Delivers, Idles, Calls, Bad}
@@ -54,25 +55,25 @@ play_from script (suc most) at line st items bytes =
       | event t ↦
           printed_before (turn_text t.actor t.answer (node_at t.stage t.actor))
           (play_from script most p.next (line + 1) t.stage t.items t.bytes)
-      | stop ↦ stopped (number Refusal.script) line items bytes
+      | stop ↦ stopped (number Refusal.Script) line items bytes
     ] in
     choose (leb (length script) at) (ended [] items bytes) rest
 
 -- the first line says nodes P, for a board of 1 to 16
 abbrev pub play_opened : List ℕ → ℕ → List Item → List ℕ → Line → Played
 play_opened script next items bytes (Nodes P) =
-    choose (either (eqb P 0) (ltb 16 P)) (stopped (number Refusal.board) 1 items bytes)
+    choose (either (eqb P 0) (ltb 16 P)) (stopped (number Refusal.Board) 1 items bytes)
     (play_from script (length script) next 2 (opening P) items bytes)
-play_opened script next items bytes (Sends kind a b) = stopped (number Refusal.script) 1 items bytes
-play_opened script next items bytes (Delivers a b) = stopped (number Refusal.script) 1 items bytes
-play_opened script next items bytes (Idles a) = stopped (number Refusal.script) 1 items bytes
-play_opened script next items bytes (Calls a) = stopped (number Refusal.script) 1 items bytes
-play_opened script next items bytes Bad = stopped (number Refusal.script) 1 items bytes
+play_opened script next items bytes (Sends kind a b) = stopped (number Refusal.Script) 1 items bytes
+play_opened script next items bytes (Delivers a b) = stopped (number Refusal.Script) 1 items bytes
+play_opened script next items bytes (Idles a) = stopped (number Refusal.Script) 1 items bytes
+play_opened script next items bytes (Calls a) = stopped (number Refusal.Script) 1 items bytes
+play_opened script next items bytes Bad = stopped (number Refusal.Script) 1 items bytes
 
 -- the header stands first, also before a stop at line 0, of a script that is too long
 unfoldable pub play : List ℕ → List Item → List ℕ → Played
 play script items bytes =
     let first = line_at script 0 in
     printed_before header
-    (choose (ltb 4096 (length script)) (stopped (number Refusal.script) 0 items bytes)
+    (choose (ltb 4096 (length script)) (stopped (number Refusal.Script) 0 items bytes)
     (play_opened script first.next items bytes first.line))

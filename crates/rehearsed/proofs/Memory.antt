@@ -7,7 +7,7 @@ use native.Mathlib.Omega.{arith}
 use lib.Dec.{eqb}
 use lib.ListN.{length, get_or, set, take, drop, length-drop, length-set, take-append-drop}
 use lib.ListN.{get_or-append}
-use lib.Seq.{length-take-le, take-append-le, take-take, take_at, drop-append-le, drop-drop, drop_at}
+use lib.Seq.{length-paste, length-take-le, take-append-le, take-take, take_at, drop-append-le, drop-drop, drop_at}
 use lib.Seq.{get_or-take, get_or-set_same, get_or-set_other}
 use Rattle.base.specs.Limits.{width}
 use Rattle.base.proofs.Laws.{cases}
@@ -17,7 +17,7 @@ use Rattle.items.specs.Places.{no_item}
 use Rattle.item_changes.specs.Places.{moved, removed}
 use Rattle.items.specs.declared.Item.{Item}
 use Rattle.under_way.specs.Frames.{place_size, closed, framed, frame_held}
-use Rattle.under_way.proofs.Parts.{length_moving, all_moved}
+use Rattle.under_way.proofs.Parts.{gap_closed}
 
 -- ---- the headers: those before the gap stay, those after it come one place down
 
@@ -62,8 +62,10 @@ header_after items n at j l h m = moved_after items at (n - (at + 1)) j (omega a
 pub length_closed : (bytes : List ℕ) (n at : ℕ) → at < n → place_size * n ≤ length bytes
     → length (closed bytes n at) ≡ length bytes
 length_closed bytes n at h l =
-    ap length (sym (all_moved bytes n at h))
-    ∙ length_moving bytes (place_size * at) (place_size * (n - 1)) (omega arith) (omega arith)
+    let a = place_size * at in
+    ap length (sym (gap_closed bytes n at h))
+    ∙ length-paste bytes a (drop (a + place_size) bytes) (place_size * n - (a + place_size)) (omega arith)
+    (rw length-drop (omega arith))
 
 -- ---- the bytes of one place
 

@@ -9,7 +9,8 @@ use lib.ListN.{replicate}
 use borrow.Author.Tests.{le-ltb, ne_eqb}
 use Rattle.base.specs.Choice.{choose}
 use Rattle.base.specs.Limits.{base}
-use Rattle.base.specs.Refusal.{Refusal, number}
+use Rattle.base.specs.Refusal.{number}
+use Rattle.base.specs.declared.Refusal.{Refusal}
 use Rattle.base.specs.declared.Kind.{Kind}
 use Rattle.base.proofs.Laws.{choose_yes}
 use Rattle.base.proofs.Limits.{mul_low, fits_base}
@@ -64,7 +65,7 @@ module _ (s : State) (n : Node) (b : Bears s n) where
   on_state_lem : (call : Node → Given Outcome) → Holds base s.words (call (unpacked s.words)).node
       → Makes (on_state call s) (call n)
   unfolding on_state
-  on_state_lem call now = makes call (refused (number Refusal.state)) s n b now
+  on_state_lem call now = makes call (refused (number Refusal.State)) s n b now
 
   pub send_makes : (to : ℕ) → Makes (on_state (λ m. send base m to) s) (send base n to)
   send_makes to = on_state_lem (λ m. send base m to) (send_holds base fits_base s.words b.whole to)
@@ -83,7 +84,7 @@ module _ (s : State) (n : Node) (b : Bears s n) where
   pub step_makes : (room : ℕ) → Makes (step_on s room) (barrier base n room)
   unfolding step_on
   step_makes room =
-      makes (λ m. barrier base m room) (barred (number Refusal.state)) s n b
+      makes (λ m. barrier base m room) (barred (number Refusal.State)) s n b
       (step_holds base fits_base s.words b.whole room)
 
 -- a state by value has room for a board of 16 nodes

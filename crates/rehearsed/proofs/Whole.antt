@@ -7,7 +7,8 @@ use native.Mathlib.Omega.{arith}
 use lib.Dec.{ltb, leb, eqb}
 use lib.ListN.{length}
 use Rattle.base.specs.Choice.{choose, either}
-use Rattle.base.specs.Refusal.{Refusal, number}
+use Rattle.base.specs.Refusal.{number}
+use Rattle.base.specs.declared.Refusal.{Refusal}
 use Rattle.base.proofs.Laws.{cases}
 use Rattle.events.specs.Board.{Board}
 use Rattle.script.specs.Script.{line_at}
@@ -61,7 +62,7 @@ module _ (script : List ℕ) (most count : ℕ) (p : Parsed) where
         | event t ↦
             printed_before (turn_text t.actor t.answer (node_at t.stage t.actor))
             (play_from script most p.next (count + 1) t.stage t.items t.bytes)
-        | stop ↦ stopped (number Refusal.script) count items bytes
+        | stop ↦ stopped (number Refusal.Script) count items bytes
       ]
 
   by_act : (items : List Item) (bytes : List ℕ) (t : Bool) (x : Act)

@@ -2,7 +2,8 @@
 use Rattle.std.specs.Prelude.{◌≡◌, List, [], ◌∷◌, ◌++◌, map, ℕ, zero, suc, ◌≤◌, leb, eqb, length, take}
 use Rattle.base.specs.Choice.{choose}
 use Rattle.base.specs.Limits.{base}
-use Rattle.base.specs.Refusal.{Refusal, number}
+use Rattle.base.specs.Refusal.{number}
+use Rattle.base.specs.declared.Refusal.{Refusal}
 use Rattle.node.specs.declared.Node.{Node}
 use Rattle.events.specs.Board.{Event, sends, idles, calls, delivers, start, run}
 use Rattle.runs.specs.Claim.{Safe, Lives}
@@ -49,7 +50,7 @@ told script P items bytes = told_from script (length script) (line_at script 0).
 -- no run answers 15: such events are left out
 abbrev pub kept : List Told → List Told
 kept [] = []
-kept (t ∷ ts) = choose (eqb t.answer (number Refusal.crowded)) (kept ts) (t ∷ kept ts)
+kept (t ∷ ts) = choose (eqb t.answer (number Refusal.Crowded)) (kept ts) (t ∷ kept ts)
 
 -- a barrier call has the bytes of a place; the first line, and a line that stops the play, is no event
 abbrev pub events_of : Line → List Event

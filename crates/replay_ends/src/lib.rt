@@ -1,10 +1,11 @@
 // How a replay starts and how it ends; and a byte of a recording. Any bytes and numbers may be handed.
 #![tactic(auto)]
 
-ghost use Rattle.std.specs.Prelude.{◌≡◌, get_or};
+ghost use Rattle.std.specs.Prelude.{◌≡◌};
 ghost use Rattle.replay_ends.specs.Ends.{start_of, end_of};
 
 use board_states::Stage;
+pub use recording_test::byte_at;
 
 // How a replay starts: the board, how many events are to be played, and why it is refused (0 where it is not).
 #[derive(Clone, Copy)]
@@ -21,16 +22,6 @@ pub struct Replayed {
     pub at: u32,
 }
 
-// The byte at a place; 0 where there is no such place.
-pub fn byte_at(bytes: &[u8], at: usize) -> u8
-    ensures { result ≡ get_or bytes.now at 0 }
-{
-    if at < bytes.len() {
-        return bytes[at];
-    }
-    0
-}
-
 // How a replay starts.
 pub fn start_of(recording: &[u8]) -> Start
     ensures { result ≡ start_of recording.now }
@@ -42,7 +33,7 @@ pub fn start_of(recording: &[u8]) -> Start
             why: 18,
         };
     }
-    let head = 2 + 4 * byte_at(recording, 1) as usize;
+    let head = 2 + 4 * recording_test::sections_of(recording);
     let nodes = byte_at(recording, 0);
     Start {
         stage: opening_parts::open_stage(nodes as u32),

@@ -1,7 +1,8 @@
 -- A recording played again on a fresh board, each answer held to the recorded one (rule K7).
 use Rattle.std.specs.Prelude.{List, ℕ, zero, suc, ◌+◌, ltb, eqb}
 use Rattle.base.specs.Choice.{choose}
-use Rattle.base.specs.Refusal.{Refusal, number}
+use Rattle.base.specs.Refusal.{number}
+use Rattle.base.specs.declared.Refusal.{Refusal}
 use Rattle.recording.specs.Recording.{Recording, event_count, recording_in}
 use Rattle.recording.specs.Test.{is_bad_in}
 use Rattle.items.specs.declared.Item.{Item}
@@ -38,6 +39,6 @@ replay bs items bytes =
 unfoldable pub replay_answer : List ℕ → List Item → List ℕ → Replayed
 replay_answer bs items bytes =
     let same = (replay bs items bytes).same in
-    choose (is_bad_in bs) (record { why = number Refusal.recording; at = 0 })
-    (choose (ltb same (event_count (recording_in bs))) (record { why = number Refusal.differs; at = same })
+    choose (is_bad_in bs) (record { why = number Refusal.Recording; at = 0 })
+    (choose (ltb same (event_count (recording_in bs))) (record { why = number Refusal.Differs; at = same })
     (record { why = 0; at = same }))

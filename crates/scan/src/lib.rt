@@ -22,8 +22,9 @@ use survey::Spot;
 
 // ---- What is stored for a step
 
-// The largest of the numbers after the mark, 0 for none. A loop that stops at the first above a bound has fewer instructions and takes
-// more cycles.
+// The largest of the numbers after the mark, 0 for none. Places count in 32 bits: a `for` over the slice counts in 64, which takes
+// twice the instructions on a small controller. A loop that stops at the first above a bound has fewer instructions and takes more
+// cycles.
 fn largest(s: &[u32]) -> u32
     requires { length s.now ≤ most_words }
     ensures { (limit : ℕ) → leb result limit ≡ low_after limit s.now 0 (length s.now) }
@@ -86,7 +87,7 @@ fn first_step(
     }
     let received = walked.received;
     Walked {
-        ok: first_ok(s, base::field_limit(b), awaits),
+        ok: first_ok(s, b.field_limit(), awaits),
         issued: issued,
         clause: clause,
         received: received,

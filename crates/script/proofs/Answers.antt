@@ -7,12 +7,17 @@ use Prim.Native.Nat.{ℕ, zero, suc, ◌+◌, ◌-◌, ◌≤◌, ◌<◌}
 use native.Mathlib.Omega.{arith}
 use lib.Dec.{ltb}
 use lib.ListN.{length, take, drop, length-drop}
+use lib.Seq.{take_all}
 use Rattle.base.specs.Choice.{choose}
 use Rattle.base.proofs.Laws.{choose_yes, choose_no, cases}
 use Rattle.line_forms.specs.Forms.{before, one_number, two_numbers}
 use Rattle.line_forms.specs.declared.Line.TheVariants.{Bad}
 use Rattle.script.specs.declared.Parsed.{Parsed}
 use Rattle.script.specs.Script.{parts_within, by_parts, line_of, line_at}
+
+-- the bytes from a place on
+pub after : (at : ℕ) (s : List ℕ) → take (length s - at) (drop at s) ≡ drop at s
+after at s = take_all (length s - at) (drop at s) (omega (arith, length-drop at s))
 
 -- ---- Parts
 

@@ -1,7 +1,7 @@
 // The lines of a rehearsal's script. Any bytes may be handed, and any place in them.
 #![tactic(auto)]
 
-ghost use Rattle.std.specs.Prelude.{◌≡◌, ◌≤◌, length, drop};
+ghost use Rattle.std.specs.Prelude.{◌≡◌};
 ghost use Rattle.script.specs.Script.{line_of, line_at};
 
 use line_forms::{Line, find};
@@ -13,14 +13,6 @@ pub struct Parsed {
     pub next: usize,
 }
 
-// The bytes from a place on.
-fn from(s: &[u8], at: usize) -> &[u8]
-    requires { at ≤ length s.now }
-    ensures { result.now ≡ drop at s.now }
-{
-    &s[at..]
-}
-
 // What the bytes of a line say, its newline left out.
 fn line_of(line: &[u8]) -> Line
     ensures { result ≡ line_of line.now }
@@ -29,12 +21,12 @@ fn line_of(line: &[u8]) -> Line
     if line.len() <= a {
         return Line::Bad;
     }
-    let rest = from(line, a + 1);
+    let rest = &line[a + 1..];
     let b = find(rest, b' ');
     if rest.len() <= b {
         return line_forms::one_number(&line[..a], rest);
     }
-    let last = from(rest, b + 1);
+    let last = &rest[b + 1..];
     if find(last, b' ') < last.len() {
         return Line::Bad;
     }
@@ -46,7 +38,7 @@ pub fn line_at(text: &[u8], at: usize) -> Parsed
     ensures { result ≡ line_at text.now at }
 {
     if at < text.len() {
-        let rest = from(text, at);
+        let rest = &text[at..];
         let n = find(rest, b'\n');
         if n < rest.len() {
             return Parsed {

@@ -10,18 +10,15 @@ use line_forms::Line;
 pub fn sections_for(events: usize) -> usize
     ensures { result ≡ sections_for events }
 {
-    if events == 0 {
-        return 1;
-    }
-    (events - 1) / 500 + 1
+    events.saturating_sub(1) / 500 + 1
 }
 
 // The node count that a first line tells.
 pub fn nodes_by(line: Line) -> u32
     ensures { result ≡ nodes_by line }
 {
-    let Line::Nodes(size) = line else {
-        return 0;
-    };
-    size
+    match line {
+        Line::Nodes(size) => size,
+        _ => 0,
+    }
 }

@@ -1,14 +1,15 @@
 -- The events of a script line by line, and the parts of a printed line.
 use mathlib.Core.Path.{◌≡◌, refl, sym, ap, ◌∙◌}
-use mathlib.Core.Bool.{true, false}
+use mathlib.Core.Bool.{Bool, true, false}
+use Rattle.std.proofs.Common.{Option, Some, None, unwrap_or}
+use Rattle.base.specs.Choice.{choose}
 use mathlib.Core.List.{List, [], ◌++◌}
 use Prim.Native.Nat.{ℕ, zero, suc, ◌+◌, ◌-◌, ◌≤◌, ◌<◌}
 use native.Mathlib.Decide.{dec_lt}
 use native.Mathlib.Omega.{arith}
 use borrow.Author.Tests.{ltb-true, lt-ltb, le-ltb, le-leb, lt-leb}
 use lib.Dec.{ltb}
-use lib.ListN.{length, take, drop, length-drop, drop_of_length-le}
-use lib.Seq.{take_all}
+use lib.ListN.{length, take, drop, length-drop}
 use Rattle.base.proofs.Laws.{choose_yes, choose_no, cases}
 use Rattle.line_parts.specs.Parts.{is_number, value_after}
 use Rattle.printing.specs.Put.{put, ends}
@@ -19,16 +20,6 @@ use Rattle.script.specs.declared.Parsed.{Parsed}
 use Rattle.script.proofs.Answers.{next_on}
 use Rattle.event_bytes.specs.Bytes.{event_bytes}
 use Rattle.script_events.specs.Events.{answer_of, line_from, next_from, stop_at, events_from}
-
--- ---- Parts of bytes
-
-pub rest_of : (s : List ℕ) (at : ℕ) → take (length s - at) (drop at s) ≡ drop at s
-rest_of s at = take_all (length s - at) (drop at s) (omega (arith, length-drop at s))
-
-pub rest_past : (s : List ℕ) (at : ℕ) → length s ≤ at → take (length s - length s) (drop (length s) s) ≡ drop at s
-rest_past s at h =
-    let n : length s ≤ length s = omega arith in
-    rest_of s (length s) ∙ drop_of_length-le s n ∙ sym (drop_of_length-le s h)
 
 -- ---- A printed text
 
@@ -61,13 +52,14 @@ module _
     (e : rest ≡ drop (before 32 line + 1) line)
     (f : part ≡ take (before 32 rest) rest)
   where
-    pub none_told : is_number part ≡ false → 0 ≡ answer_of line
+    pub told : (r : Option ℕ) → r ≡ choose (is_number part) (Some (value_after 0 part)) None
+        → unwrap_or r 0 ≡ answer_of line
     unfolding answer_of
-    none_told h = rw (← e, ← f, h)
-
-    pub told : (x : ℕ) → is_number part ≡ true → x ≡ value_after 0 part → x ≡ answer_of line
-    unfolding answer_of
-    told x h q = rw (← e, ← f, h, q)
+    told r q = rw (q, ← e, ← f) (go (is_number part) (value_after 0 part))
+      where
+        go : (t : Bool) (v : ℕ) → unwrap_or (choose t (Some v) None) 0 ≡ choose t v 0
+        go true v = refl
+        go false v = refl
 
 -- ---- All events
 

@@ -8,7 +8,6 @@ ghost use Rattle.printing.specs.Put.{put, ends};
 ghost use Rattle.script_events.specs.Events.{answer_of, line_from, next_from, stop_at, events_of};
 
 use event_bytes::put_event;
-use line_parts::Number;
 
 // ---- The answers of a text
 
@@ -16,48 +15,36 @@ use line_parts::Number;
 fn from(s: &[u8], at: usize) -> &[u8]
     ensures { result.now ≡ drop at s.now }
 {
-    if s.len() <= at {
-        return &s[s.len()..];
-    }
-    &s[at..]
+    &s[at.min(s.len())..]
 }
 
-// The bytes before the first of a kind, and those after it.
+// The bytes before the first of a kind.
 fn up_to(s: &[u8], byte: u8) -> &[u8]
     ensures { result.now ≡ take (before byte s.now) s.now }
 {
-    let n = line_forms::find(s, byte);
-    &s[..n]
+    &s[..line_forms::find(s, byte)]
 }
 
+// The bytes after the first of a kind.
 fn after(s: &[u8], byte: u8) -> &[u8]
     ensures { result.now ≡ drop (before byte s.now + 1) s.now }
 {
-    let n = line_forms::find(s, byte);
-    if s.len() <= n {
-        return &s[s.len()..];
-    }
-    &s[n + 1..]
+    from(s, line_forms::find(s, byte) + 1)
 }
 
 // The answer that a printed line tells.
 fn answer_of(line: &[u8]) -> u32
     ensures { result ≡ answer_of line.now }
 {
-    let rest = after(line, b' ');
-    let part = up_to(rest, b' ');
-    let Number::Is(x) = line_parts::number_of(part) else {
-        return 0;
-    };
-    x
+    let part = up_to(after(line, b' '), b' ');
+    line_parts::number_of(part).unwrap_or(0)
 }
 
 // The answer that the line of a text at a place tells.
 fn answer_at(text: &[u8], at: usize) -> u32
     ensures { result ≡ answer_of (line_from text.now at) }
 {
-    let rest = from(text, at);
-    answer_of(up_to(rest, b'\n'))
+    answer_of(up_to(from(text, at), b'\n'))
 }
 
 // Where the next line of a text begins; its end where there is none.
@@ -89,14 +76,12 @@ pub fn put_events(events: &mut [u8], script: &[u8], text: &[u8]) -> usize
     ensures memory { events.new ≡ put events.old 0 (events_of script.now text.now) }
     ensures place { result ≡ ends events.old 0 (events_of script.now text.now) }
 {
-    let first = script::line_at(script, 0);
-    let mut at = first.next;
+    let mut at = script::line_at(script, 0).next;
     let mut from = next_from(text, 0);
     let mut end = 0;
     while at < script.len() {
         let p = script::line_at(script, at);
-        let line = p.line;
-        end = put_event(&mut *events, end, line, answer_at(text, from));
+        end = put_event(events, end, p.line, answer_at(text, from));
         at = p.next;
         from = next_from(text, from);
     }

@@ -10,6 +10,9 @@ use frame::Sent;
 // Total sent and total taken, after the sums by shell.
 const TOTALS: usize = layout::TOTALS as usize;
 
+// The bytes of a frame of pass 2: its head, T and total sent.
+const LENGTH: u32 = 12;
+
 // Whether so many words have the sums of a board of p dimensions, which has dimension k.
 pub fn has_sums(p: u8, k: u32, words: usize) -> bool
     ensures { result ≡ has_sums p k words }
@@ -20,17 +23,24 @@ pub fn has_sums(p: u8, k: u32, words: usize) -> bool
     2 * p as usize + TOTALS <= words
 }
 
-// Puts the frame of pass 2, dimension k. Its length; 0 where there is no room.
-pub fn put_second(phase: u8, k: u8, sender: u8, issued: Sent, agreed: u32, buf: &mut [u8]) -> u32
+// Puts the frame of pass 2, dimension k, where there is room. Its length.
+pub fn put_second(
+    phase: u8,
+    k: u8,
+    sender: u8,
+    issued: Sent,
+    agreed: u32,
+    buf: &mut [u8],
+) -> Option<u32>
     ensures answer { result ≡ put_length (2 ∷ phase ∷ k ∷ sender ∷ bytes_of (agreed ∷ issued.0 ∷ [])) (length buf.old) }
     ensures memory { buf.new
         ≡ put_bytes (2 ∷ phase ∷ k ∷ sender ∷ bytes_of (agreed ∷ issued.0 ∷ [])) buf.old }
 {
-    if buf.len() < 12 {
-        return 0;
+    if buf.len() < LENGTH as usize {
+        return None;
     }
     let numbers = [agreed, issued.0];
     wire::put_head(&mut *buf, 2, phase, k, sender);
     wire::put_numbers(&mut *buf, 4, &numbers);
-    12
+    Some(LENGTH)
 }

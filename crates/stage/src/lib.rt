@@ -2,9 +2,11 @@
 #![tactic(auto)]
 
 ghost use Rattle.std.specs.Prelude.{◌≡◌, List, ℕ, length};
+ghost use Rattle.base.specs.Refusal.{number};
 ghost use Rattle.items.specs.Places.{no_item};
-ghost use Rattle.stage.specs.Board.{is_there, still};
+ghost use Rattle.stage.specs.Board.{is_there, still, quiet};
 
+use base::Refusal;
 use board_states::Stage;
 use items::Item;
 
@@ -49,6 +51,13 @@ pub fn quiet(under: usize, headers: usize, after: Stage, actor: u32, answer: u32
         next: headers,
         second: none,
     }
+}
+
+// The line is refused: the board stays as it was.
+pub fn refused(st: Stage, headers: usize, actor: u32, why: Refusal) -> Acted
+    ensures { result ≡ quiet st headers st actor (number why) }
+{
+    quiet(st.under, headers, st, actor, why.number() as u32)
 }
 
 // An item stands at a place.

@@ -1,7 +1,8 @@
 -- The boards to try (rule T8) and the limits of the largest build (rule N3), as the rows of one table.
 use Rattle.std.specs.Prelude.{◌≡◌, List, [], ◌∷◌, ℕ}
 use Rattle.base.specs.Limits.{base, field_limit, taken_limit, width}
-use Rattle.base.specs.Refusal.{Refusal, number, Answered, refused, found}
+use Rattle.base.specs.Refusal.{number, Answered, refused, found}
+use Rattle.base.specs.declared.Refusal.{Refusal}
 use Rattle.tree.specs.Tree.{Place, alone, hermit, neighbour, messenger}
 use Rattle.tree.specs.Lookups.{dimension_lookup, place_lookup, distance_lookup}
 use Rattle.frame.specs.Frame.{frame_length}
@@ -50,8 +51,8 @@ table =
     ∷ dimension 3 (found 2)
     ∷ dimension 5 (found 3)
     ∷ dimension 96 (found 7)
-    ∷ dimension 0 (refused (number Refusal.board))
-    ∷ dimension 97 (refused (number Refusal.board))
+    ∷ dimension 0 (refused (number Refusal.Board))
+    ∷ dimension 97 (refused (number Refusal.Board))
     -- node 2 of 6 in each dimension
     ∷ place 6 0 2 (found alone)
     ∷ place 6 1 2 (found (messenger 0 1))

@@ -6,6 +6,8 @@ ghost use Rattle.base.specs.Limits.{base};
 ghost use Rattle.layout.specs.Held.{is_whole, unpacked};
 ghost use Rattle.states.specs.Words.{no_state, fresh_state};
 
+use base::Bounds;
+
 // The words of a state of a board of 16 nodes.
 pub const WORDS: usize = 60;
 
@@ -26,8 +28,9 @@ pub fn fresh(nodes: u32, number: u32) -> State
     ensures { result ≡ fresh_state nodes number }
 {
     let mut words = [0u32; WORDS];
-    node_fresh::fresh(base::of_build(), &mut words, nodes, number);
-    State { words: words }
+    // what it answers is not told: the words of a refusal hold no state
+    let _ = node_fresh::fresh(Bounds::of_build(), &mut words, nodes, number);
+    State { words }
 }
 
 // The phase byte of a state.

@@ -19,9 +19,9 @@ pub fn put_stop(out: &mut [u8], at: usize, why: u32, line: u32) -> usize
     ensures memory { out.new ≡ put out.old at (stop_text why line) }
     ensures place { result ≡ ends out.old at (stop_text why line) }
 {
-    let a = printing::put_bytes(&mut *out, at, b"stop ");
-    let b = digits::put_digits(&mut *out, a, why);
-    let c = printing::put_bytes(&mut *out, b, b" at line ");
-    let d = digits::put_digits(&mut *out, c, line);
-    printing::put_byte(&mut *out, d, b'\n')
+    let a = printing::put_bytes(out, at, b"stop ");
+    let b = digits::put_digits(out, a, why);
+    let c = printing::put_bytes(out, b, b" at line ");
+    let d = digits::put_digits(out, c, line);
+    printing::put_byte(out, d, b'\n')
 }

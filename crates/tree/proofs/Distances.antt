@@ -10,7 +10,7 @@ use borrow.Author.Tests.{le-leb, lt-leb}
 use Rattle.base.specs.Choice.{choose}
 use Rattle.base.proofs.Laws.{clash, choose_yes, choose_no}
 use Rattle.tree.specs.Tree.{dimension, part, run_below, run_of, awaited, inside, distance_below, distance, InShell}
-use Rattle.tree.specs.declared.Run.{Run}
+use Rattle.tree.specs.Tree.{Run}
 use Rattle.tree.proofs.Runs.{In, below_step, run_zero, run_top, run_has, run_same, run_grows}
 use Rattle.tree.proofs.Halves.{joined_other, joined_apart, joined_has, joined, awaited_below, alone_keeps}
 

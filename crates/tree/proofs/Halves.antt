@@ -9,7 +9,7 @@ use native.Mathlib.Omega.{arith}
 use lib.Pow.{pow_mono}
 use Rattle.base.proofs.Laws.{clash}
 use Rattle.tree.specs.Tree.{dimension, root, left, part, run_of, Place, sends_to, awaited, receivers}
-use Rattle.tree.specs.declared.Run.{Run}
+use Rattle.tree.specs.Tree.{Run}
 use Rattle.tree.proofs.Runs.{In, size, run_is, part_left, part_right, run_has, run_same, run_step, run_top}
 use Rattle.tree.proofs.Runs.{run_large}
 use Rattle.tree.proofs.Places.{PlaceIs, is_alone, is_hermit, is_messenger, is_left, is_right, here}

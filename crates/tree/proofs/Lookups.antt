@@ -9,7 +9,8 @@ use lib.Dec.{ltb, leb, eqb}
 use borrow.Author.Tests.{ltb-false, leb-false, eqb-false, lt-leb, ne_eqb}
 use Rattle.base.specs.Choice.{choose, either}
 use Rattle.base.specs.Limits.{Limits}
-use Rattle.base.specs.Refusal.{Refusal, Answered, refused, found, when}
+use Rattle.base.specs.Refusal.{Answered, refused, found, when}
+use Rattle.base.specs.declared.Refusal.{Refusal}
 use Rattle.base.proofs.Laws.{clash, checks_known}
 use Rattle.tree.specs.Tree.{dimension, Place, place, distance}
 use Rattle.tree.specs.Lookups.{bad_board, dimension_lookup, place_lookup, distance_lookup}
@@ -21,6 +22,9 @@ not_refused e = let z : ◌≡◌ {A = ℕ} 0 1 = cc in absurd (omega arith)
 pub found_same : {A : Type 0} {a b : A} → ◌≡◌ {A = Answered A} (found a) (found b) → a ≡ b
 found_same e = cc
 
+pub refused_same : {A : Type 0} {x y : ℕ} → ◌≡◌ {A = Answered A} (refused x) (refused y) → x ≡ y
+refused_same e = cc
+
 -- a board within the limits
 pub board_good : (L : Limits) (P : ℕ) → bad_board L P ≡ false → (0 < P) × (P ≤ L.nodes)
 board_good L P e = go (eqb P 0) refl e
@@ -29,19 +33,19 @@ board_good L P e = go (eqb P 0) refl e
     go true f q = clash q
     go false f q = (omega (arith, eqb-false P 0 f), ltb-false L.nodes P q)
 
-pub dimension_refused : (L : Limits) (P x : ℕ) → dimension_lookup L P ≡ refused x → bad_board L P ≡ true
+pub dimension_refused : (L : Limits) (P x : ℕ) → dimension_lookup L P ≡ refused x → (bad_board L P ≡ true) × (x ≡ 1)
 unfolding dimension_lookup
 dimension_refused L P x e = go (bad_board L P) e
   where
-    go : (t : Bool) → ◌≡◌ {A = Answered ℕ} (choose t (refused 1) (found (dimension P))) (refused x) → t ≡ true
-    go true q = refl
+    go : (t : Bool) → ◌≡◌ {A = Answered ℕ} (choose t (refused 1) (found (dimension P))) (refused x) → (t ≡ true) × (x ≡ 1)
+    go true q = (refl, refused_same (sym q))
     go false q = not_refused (sym q)
 
 pub dimension_found : (L : Limits) (P p : ℕ) → dimension_lookup L P ≡ found p → (bad_board L P ≡ false)
     × (p ≡ dimension P)
 unfolding dimension_lookup
 dimension_found L P p e =
-    let r = checks_known (when (bad_board L P) Refusal.board ∷ []) (dimension P) p e in (r.0.0, sym r.1)
+    let r = checks_known (when (bad_board L P) Refusal.Board ∷ []) (dimension P) p e in (r.0.0, sym r.1)
 
 -- ---- of nodes on a good board the lookups find what they look for
 
@@ -57,9 +61,9 @@ unfolding place_lookup
 place_known L P k a x e =
     let r =
     checks_known
-    (when (bad_board L P) Refusal.board
-    ∷ when (leb P a) Refusal.stranger
-    ∷ when (leb (dimension P) k) Refusal.field
+    (when (bad_board L P) Refusal.Board
+    ∷ when (leb P a) Refusal.Stranger
+    ∷ when (leb (dimension P) k) Refusal.Field
     ∷ [])
     (place P k a) x e in
     (r.0.0, leb-false P a r.0.1.0, sym r.1)

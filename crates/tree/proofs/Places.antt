@@ -11,7 +11,7 @@ use borrow.Author.Tests.{le-leb, lt-leb, lt-ltb, le-ltb, eq-eqb, ne_eqb}
 use Rattle.base.proofs.Laws.{clash, choose_yes, choose_no}
 use Rattle.tree.specs.Tree.{middle, left, right, left_size, right_size, across, Place, alone, hermit, neighbour}
 use Rattle.tree.specs.Tree.{messenger, place_in, place, awaits, sends_to, awaited, receivers, run_of}
-use Rattle.tree.specs.declared.Run.{Run}
+use Rattle.tree.specs.Tree.{Run}
 use Rattle.tree.proofs.Runs.{In, run_has, run_same}
 
 module _ (r : Run) (a : ℕ) where

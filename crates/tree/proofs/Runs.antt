@@ -7,7 +7,7 @@ use native.Mathlib.Omega.{arith}
 use borrow.Author.Tests.{le-leb, lt-leb}
 use Rattle.base.proofs.Laws.{choose_yes, choose_no}
 use Rattle.tree.specs.Tree.{dimension, root, middle, left, right, part, run_below, run_of}
-use Rattle.tree.specs.declared.Run.{Run}
+use Rattle.tree.specs.Tree.{Run}
 use Rattle.tree.proofs.Dimension.{fits, above_half}
 
 -- node a is in the run

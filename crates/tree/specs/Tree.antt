@@ -2,7 +2,6 @@
 use Rattle.std.specs.Prelude.{◌≡◌, ◌≢◌, Bool, List, [], ◌∷◌, ℕ, zero, suc, ◌+◌, ◌-◌, ◌/◌, ◌^◌, ◌<◌, ltb, leb, eqb}
 use Rattle.std.proofs.Math.Option.{Option, none, some}
 use Rattle.base.specs.Choice.{choose, both}
-use Rattle.tree.specs.declared.Run.{Run}
 
 -- ---- The dimension of a board of P nodes (rule T2)
 
@@ -16,6 +15,10 @@ unfoldable pub dimension : ℕ → ℕ
 dimension P = smallest_from P 0 P
 
 -- ---- Runs: the nodes low to high (rule T3)
+
+pub record Run : Type 0 where
+  pub low : ℕ
+  pub high : ℕ
 
 -- the whole board, the run of dimension p
 abbrev pub root : ℕ → Run

@@ -1,19 +1,16 @@
-// Who talks to whom on a board: the dimension of a board, and what the lookups of places and distances answer.
-// Any number may be handed; what is not allowed is refused with its number (rule R3).
+// Who talks to whom on a board: the dimension of a board, runs of nodes, and what the lookups of places and distances answer.
+// Any number may be handed; what is not allowed is refused (rule R3).
 #![tactic(auto)]
 
 ghost use Rattle.std.specs.Prelude.{◌≡◌};
 ghost use Rattle.base.specs.Limits.{base, limits_of};
-ghost use Rattle.tree.specs.Lookups.{dimension_lookup, found_answer};
+ghost use Rattle.base.specs.Refusal.{answered};
+ghost use Rattle.tree.specs.Lookups.{dimension_lookup};
 
-use base::Bounds;
+mod parts;
 
-// A number, or the number of a refusal.
-#[derive(Clone, Copy)]
-pub enum Found {
-    Is(u32),
-    Refused(u8),
-}
+use base::{Bounds, Refusal};
+pub use parts::Run;
 
 // The place of a node in a dimension.
 #[derive(Clone, Copy)]
@@ -26,36 +23,28 @@ pub enum Placed {
     Neighbour(u32),
     // Sends to the first node and awaits it; sends to the second too, a hermit.
     Messenger(u32, u32),
-    Refused(u8),
-}
-
-// The nodes low to high.
-#[derive(Clone, Copy)]
-pub struct Run {
-    pub low: u32,
-    pub high: u32,
 }
 
 // The smallest p with nodes <= 2^p. Refuses 1.
-pub fn dimension_for(b: Bounds, nodes: u32) -> Found
-    ensures { found_answer result ≡ dimension_lookup (limits_of b) nodes }
+pub fn dimension_for(b: Bounds, nodes: u32) -> Result<u32, Refusal>
+    ensures { answered result ≡ dimension_lookup (limits_of b) nodes }
 {
-    let most = base::last(b) + 1;
+    let most = b.last() + 1;
     if nodes == 0 {
-        return Found::Refused(1);
+        return Err(Refusal::Board);
     }
     if most < nodes {
-        return Found::Refused(1);
+        return Err(Refusal::Board);
     }
     if nodes == 1 {
-        return Found::Is(0);
+        return Ok(0);
     }
-    Found::Is(32 - u32::leading_zeros(nodes - 1))
+    Ok(32 - u32::leading_zeros(nodes - 1))
 }
 
 // The same with the limits of this build.
-pub fn dimension_of(nodes: u32) -> Found
-    ensures { found_answer result ≡ dimension_lookup base nodes }
+pub fn dimension_of(nodes: u32) -> Result<u32, Refusal>
+    ensures { answered result ≡ dimension_lookup base nodes }
 {
-    dimension_for(base::of_build(), nodes)
+    dimension_for(Bounds::of_build(), nodes)
 }

@@ -9,13 +9,15 @@ use lib.ListN.{length, drop, length-drop}
 use lib.Seq.{length-take-le}
 use borrow.Author.Tests.{ltb-true}
 use borrow.Rule.Slice.PartMut.{put_mid}
+use Rattle.std.proofs.Common.{Result}
 use Rattle.base.specs.Choice.{choose}
 use Rattle.base.specs.Limits.{base}
+use Rattle.base.specs.declared.Refusal.{Refusal}
 use Rattle.base.proofs.Laws.{clash, choose_yes}
 use Rattle.node.specs.Answers.{Given, Barrier, barred, barrier_of}
 use Rattle.node.specs.Barrier.{barrier, barrier_bytes, lent_after, sending, length_due}
 use Rattle.node.specs.declared.Node.{Node}
-use Rattle.node.specs.declared.BarrierAnswer.{BarrierAnswer}
+use Rattle.node.specs.declared.Step.{Step}
 use Rattle.node.proofs.Valid.{valid_known}
 use Rattle.node.proofs.Bound.{due_length}
 use Rattle.node.proofs.Ways.{CallWay, call_way}
@@ -32,7 +34,7 @@ use Rattle.turn_call.specs.Calling.{call_acted, call_acted_bytes, call_act, call
 use Rattle.turn_call.specs.Pieces.{is_sent, call_sends, due}
 
 -- a reply whose answer is known
-pub called_as : (r : StepReply) (x : BarrierAnswer) (g : Kept Barrier) → step_replied r ≡ g → r.answer ≡ x
+pub called_as : (r : StepReply) (x : Result Step Refusal) (g : Kept Barrier) → step_replied r ≡ g → r.answer ≡ x
     → g ≡ keep r.state (barrier_of x)
 called_as r x g e q = sym e ∙ ap (λ y. keep r.state (barrier_of y)) q
 

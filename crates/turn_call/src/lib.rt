@@ -13,7 +13,7 @@ ghost use Rattle.turn_call.specs.Pieces.{is_sent, call_sends, frames_in, to_list
 
 use board_states::Stage;
 use items::Item;
-use node::{BarrierAnswer, Extra, Receivers};
+use node::{Receivers, Step};
 use stage::Acted;
 use state_calls::StepReply;
 use states::State;
@@ -54,53 +54,41 @@ fn frame_act(
     ensures memory { bytes.new ≡ frames_in st headers bytes.old a (to_list to) }
 {
     let it = frame_item(st, a, to.first);
-    let extra = to.extra;
-    match extra {
-        Extra::Nobody => turn_frames::one_frame(st, a, after, it, headers, bytes),
-        Extra::Also(c) => {
-            let other = frame_item(st, a, c);
+    match to.extra {
+        None => turn_frames::one_frame(st, a, after, it, headers, bytes),
+        Some(hermit) => {
+            let other = frame_item(st, a, hermit);
             turn_frames::two_frames(st, a, after, it, other, headers, bytes)
         }
     }
 }
 
-// The number of the call's answer.
-fn number_of(answer: BarrierAnswer) -> u32
-    ensures { result ≡ barrier_number (barrier_of answer) }
+// The number of what the call did.
+fn number_of(step: Step) -> u32
+    ensures { result ≡ barrier_number (barrier_of (Ok step)) }
 {
-    match answer {
-        BarrierAnswer::Sends(to, length) => 20,
-        BarrierAnswer::Waits(clause) => 21,
-        BarrierAnswer::Moved => 22,
-        BarrierAnswer::Left => 23,
-        BarrierAnswer::Refused(x) => x as u32,
+    match step {
+        Step::Sends(_, _) => 20,
+        Step::Waits(_) => 21,
+        Step::Moved => 22,
+        Step::Left => 23,
     }
 }
 
-// What the call does where it sends no frame. A refusal leaves the board as it was.
-fn quiet_act(st: Stage, a: u32, r: StepReply, headers: usize) -> Acted
-    requires { is_sent (barrier_of r.answer) ≡ false }
-    ensures { (bs : List ℕ) → result ≡ call_acted st headers bs a (step_replied r) (barrier_of r.answer) }
-{
-    let under = st.under;
-    let answer = r.answer;
-    if let BarrierAnswer::Refused(x) = answer {
-        return stage::quiet(under, headers, st, a, x as u32);
-    }
-    let m = r.state;
-    let after = board_states::with_state(st, a, m, under);
-    stage::quiet(under, headers, after, a, number_of(answer))
-}
-
-// What the call does. A frame's bytes are written only where there is a place for each receiver.
+// What the call does. A frame's bytes are written only where there is a place for each receiver, and a refusal leaves the
+// board as it was.
 pub fn call_act(st: Stage, a: u32, headers: usize, bytes: &mut [u8]) -> Acted
     ensures answer { result ≡ call_act st headers bytes.old a }
     ensures memory { bytes.new ≡ call_act_bytes st headers bytes.old a }
 {
     let r = tried(board_states::state_at(st, a));
-    let answer = r.answer;
-    if let BarrierAnswer::Sends(to, length) = answer {
+    let step = match r.answer {
+        Ok(step) => step,
+        Err(why) => return stage::refused(st, headers, a, why),
+    };
+    if let Step::Sends(to, _) = step {
         return frame_act(st, a, to, r.state, headers, bytes);
     }
-    quiet_act(st, a, r, headers)
+    let after = board_states::with_state(st, a, r.state, st.under);
+    stage::quiet(st.under, headers, after, a, number_of(step))
 }

@@ -6,6 +6,7 @@ ghost use Rattle.std.specs.Prelude.{◌≡◌, ◌+◌, ◌*◌, ◌≤◌, leng
 ghost use Rattle.under_way.specs.Frames.{place_size};
 ghost use Rattle.turn_frames.specs.Framing.{called_at, one_frame, one_frame_bytes, two_frames, two_frames_bytes};
 
+use base::Refusal;
 use board_states::Stage;
 use items::Item;
 use stage::Acted;
@@ -35,7 +36,7 @@ pub fn one_frame(
 {
     let under = st.under;
     if under_way::room_for(headers, bytes.len()) <= under {
-        return stage::quiet(under, headers, st, a, 15);
+        return stage::refused(st, headers, a, Refusal::Crowded);
     }
     let n = board_states::state_at(st, a);
     write_at(n, under, &mut *bytes);
@@ -61,11 +62,8 @@ pub fn two_frames(
 {
     let under = st.under;
     let room = under_way::room_for(headers, bytes.len());
-    if room <= under {
-        return stage::quiet(under, headers, st, a, 15);
-    }
-    if room <= under + 1 {
-        return stage::quiet(under, headers, st, a, 15);
+    if room.saturating_sub(under) < 2 {
+        return stage::refused(st, headers, a, Refusal::Crowded);
     }
     let n = board_states::state_at(st, a);
     write_at(n, under, &mut *bytes);

@@ -4,14 +4,16 @@ use mathlib.Core.Bool.{Bool, true, false}
 use mathlib.Core.List.{List}
 use Prim.Native.Nat.{ℕ, ◌<◌}
 use native.Mathlib.Omega.{arith}
+use Rattle.std.proofs.Common.{Result}
 use Rattle.base.specs.Choice.{choose}
 use Rattle.base.specs.Limits.{base}
 use Rattle.base.specs.declared.Kind.{Kind}
+use Rattle.base.specs.declared.Refusal.{Refusal}
 use Rattle.tree.proofs.Lookups.{board_good}
 use Rattle.node.specs.Answers.{Given, Outcome, done, refused, outcome_of, outcome_number}
 use Rattle.node.specs.Calls.{send, idle}
 use Rattle.node.specs.declared.Node.{Node}
-use Rattle.node.specs.declared.Answer.{Answer}
+use Rattle.node.specs.declared.Accepted.{Accepted}
 use Rattle.node.proofs.Valid.{valid_known}
 use Rattle.node.proofs.Ways.{SendWay, send_way}
 use Rattle.layout.specs.Held.{is_whole, unpacked}
@@ -25,7 +27,7 @@ use Rattle.turn_send.specs.Sending.{send_acted, send_act}
 use Rattle.turn_send.specs.Idling.{idle_act}
 
 -- a reply whose answer is known
-pub given_as : (r : Reply) (x : Answer) (g : Kept Outcome) → replied r ≡ g → r.answer ≡ x
+pub given_as : (r : Reply) (x : Result Accepted Refusal) (g : Kept Outcome) → replied r ≡ g → r.answer ≡ x
     → g ≡ keep r.state (outcome_of x)
 given_as r x g e q = sym e ∙ ap (λ y. keep r.state (outcome_of y)) q
 

@@ -7,10 +7,10 @@ ghost use Rattle.under_way.specs.Frames.{room_for};
 ghost use Rattle.turn_send.specs.Sending.{send_act};
 ghost use Rattle.turn_send.specs.Idling.{idle_act};
 
-use base::Kind;
+use base::{Kind, Refusal};
 use board_states::Stage;
 use items::Item;
-use node::Answer;
+use node::Accepted;
 use stage::Acted;
 
 // A job or a note goes from a to b, where there is room for so many items.
@@ -20,28 +20,23 @@ pub fn send_act(st: Stage, kind: Kind, a: u32, b: u32, headers: usize, room: usi
     let under = st.under;
     let n = board_states::state_at(st, a);
     let r = value_calls::send_to(n, b);
-    let answer = r.answer;
-    match answer {
-        Answer::Done => {
-            if room <= under {
-                return stage::quiet(under, headers, st, a, 15);
-            }
-            let m = r.state;
-            let after = board_states::with_state(st, a, m, under + 1);
-            let it = Item {
-                from: a as u8,
-                to: b as u8,
-                kind: items::mark_of(kind),
-                phase: states::phase_of(n),
-            };
-            let mut acted = stage::quiet(under, headers, after, a, 0);
-            acted.at = under;
-            acted.first = it;
-            acted
-        }
-        Answer::Dropped => stage::quiet(under, headers, st, a, 24),
-        Answer::Refused(x) => stage::quiet(under, headers, st, a, x as u32),
+    let Ok(Accepted::Done) = r.answer else {
+        return stage::quiet(under, headers, st, a, answers::number_of(r.answer));
+    };
+    if room <= under {
+        return stage::refused(st, headers, a, Refusal::Crowded);
     }
+    let after = board_states::with_state(st, a, r.state, under + 1);
+    let it = Item {
+        from: a as u8,
+        to: b as u8,
+        kind: items::mark_of(kind),
+        phase: states::phase_of(n),
+    };
+    let mut acted = stage::quiet(under, headers, after, a, 0);
+    acted.at = under;
+    acted.first = it;
+    acted
 }
 
 // Node a goes idle.
@@ -51,8 +46,6 @@ pub fn idle_act(st: Stage, a: u32, headers: usize) -> Acted
     let under = st.under;
     let n = board_states::state_at(st, a);
     let r = value_calls::go_idle(n);
-    let m = r.state;
-    let answer = r.answer;
-    let after = board_states::with_state(st, a, m, under);
-    stage::quiet(under, headers, after, a, answers::number_of(answer))
+    let after = board_states::with_state(st, a, r.state, under);
+    stage::quiet(under, headers, after, a, answers::number_of(r.answer))
 }

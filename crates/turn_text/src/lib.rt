@@ -22,8 +22,8 @@ fn put_field(out: &mut [u8], at: usize, x: u32) -> usize
     ensures memory { out.new ≡ put out.old at (digits x ++ (32 ∷ [])) }
     ensures place { result ≡ ends out.old at (digits x ++ (32 ∷ [])) }
 {
-    let next = digits::put_digits(&mut *out, at, x);
-    printing::put_byte(&mut *out, next, b' ')
+    let next = digits::put_digits(out, at, x);
+    printing::put_byte(out, next, b' ')
 }
 
 fn bit_of(b: bool) -> u8
@@ -37,8 +37,7 @@ fn put_bits(out: &mut [u8], at: usize, a: bool, b: bool) -> usize
     ensures memory { out.new ≡ put out.old at (bit a ∷ 32 ∷ bit b ∷ 10 ∷ []) }
     ensures place { result ≡ ends out.old at (bit a ∷ 32 ∷ bit b ∷ 10 ∷ []) }
 {
-    let next = printing::put_two(&mut *out, at, bit_of(a), b' ');
-    printing::put_two(&mut *out, next, bit_of(b), b'\n')
+    printing::put_bytes(out, at, &[bit_of(a), b' ', bit_of(b), b'\n'])
 }
 
 // The line of an event: the acting node's number, the answer, and the node's state after it.
@@ -46,10 +45,10 @@ pub fn put_turn(out: &mut [u8], at: usize, actor: u32, answer: u32, n: Shown) ->
     ensures memory { out.new ≡ put out.old at (shown_text actor answer n) }
     ensures place { result ≡ ends out.old at (shown_text actor answer n) }
 {
-    let a = put_field(&mut *out, at, actor);
-    let b = put_field(&mut *out, a, answer);
-    let c = put_field(&mut *out, b, n.phase);
-    let d = put_field(&mut *out, c, n.pass);
-    let e = put_field(&mut *out, d, n.dim);
-    put_bits(&mut *out, e, n.flag, n.busy)
+    let a = put_field(out, at, actor);
+    let b = put_field(out, a, answer);
+    let c = put_field(out, b, n.phase);
+    let d = put_field(out, c, n.pass);
+    let e = put_field(out, d, n.dim);
+    put_bits(out, e, n.flag, n.busy)
 }

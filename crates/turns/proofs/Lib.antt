@@ -1,3 +1,2 @@
-pub mod Acting
 pub mod Turning
 pub mod Keeping

@@ -2,7 +2,8 @@
 use Rattle.std.specs.Prelude.{List, [], ◌∷◌, ℕ, ◌+◌, ◌-◌, ltb, eqb, length, get_or, set}
 use Rattle.base.specs.Choice.{choose}
 use Rattle.base.specs.Limits.{base}
-use Rattle.base.specs.Refusal.{Refusal, number}
+use Rattle.base.specs.Refusal.{number}
+use Rattle.base.specs.declared.Refusal.{Refusal}
 use Rattle.base.specs.declared.Kind.TheVariants.{Job, Note}
 use Rattle.base.specs.declared.Kind.{Kind}
 use Rattle.frame.specs.Frame.{frame_bytes}
@@ -38,7 +39,7 @@ unchanged st items bytes actor answer =
 
 -- too few places are left (rule S7)
 abbrev pub crowded : Stage → List Item → List ℕ → ℕ → Turn
-crowded st items bytes actor = unchanged st items bytes actor (number Refusal.crowded)
+crowded st items bytes actor = unchanged st items bytes actor (number Refusal.Crowded)
 
 module _ (st : Stage) (items : List Item) (bytes : List ℕ) where
   -- ---- s a b and t a b: a sends a job or a note to b
@@ -137,15 +138,15 @@ module _ (st : Stage) (items : List Item) (bytes : List ℕ) where
   deliver_turn a b =
       let at = oldest_at items st.under a b in
       let r = called a b at in
-      choose (eqb at st.under) (unchanged st items bytes b (number Refusal.nothing))
+      choose (eqb at st.under) (unchanged st items bytes b (number Refusal.Nothing))
       (delivered_at b at r (outcome_number r.answer))
 
   -- ---- The event of a line; a line that is none changes nothing, and is answered 17
 
   abbrev pub turn_of : Line → Turn
-  turn_of (Nodes P) = unchanged st items bytes 0 (number Refusal.script)
+  turn_of (Nodes P) = unchanged st items bytes 0 (number Refusal.Script)
   turn_of (Sends kind a b) = send_turn kind a b
   turn_of (Delivers a b) = deliver_turn a b
   turn_of (Idles a) = idle_turn a
   turn_of (Calls a) = call_turn a
-  turn_of Bad = unchanged st items bytes 0 (number Refusal.script)
+  turn_of Bad = unchanged st items bytes 0 (number Refusal.Script)

@@ -5,19 +5,19 @@
 ghost use Rattle.std.specs.Prelude.{◌≡◌};
 ghost use Rattle.turns.specs.Acts.{acted, acted_bytes};
 
+use base::Refusal;
 use board_states::Stage;
 use items::Item;
 use line_forms::Line;
 use stage::Acted;
 
 // What a line does. `at` and `it` are the place of the oldest item of a delivery's link, and that item.
+#[tactic(auto, unfolding(crate::specs::Acts::acted, crate::specs::Acts::acted_bytes))]
 pub fn act(st: Stage, line: Line, at: usize, it: Item, headers: usize, bytes: &mut [u8]) -> Acted
     ensures answer { result ≡ acted st headers bytes.old line at it }
     ensures memory { bytes.new ≡ acted_bytes st headers bytes.old line at it }
 {
-    let under = st.under;
     match line {
-        Line::Nodes(p) => stage::quiet(under, headers, st, 0, 17),
         Line::Sends(kind, a, b) => turn_send::send_act(
             st,
             kind,
@@ -29,6 +29,6 @@ pub fn act(st: Stage, line: Line, at: usize, it: Item, headers: usize, bytes: &m
         Line::Delivers(a, b) => turn_deliver::deliver_act(st, a, b, at, it, headers, bytes),
         Line::Idles(a) => turn_send::idle_act(st, a, headers),
         Line::Calls(a) => turn_call::call_act(st, a, headers, bytes),
-        Line::Bad => stage::quiet(under, headers, st, 0, 17),
+        Line::Nodes(_) | Line::Bad => stage::refused(st, headers, 0, Refusal::Script),
     }
 }

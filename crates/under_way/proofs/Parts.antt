@@ -1,12 +1,10 @@
--- The bytes of the places: a frame written at one, a frame held at one, and the gap closed byte after byte.
+-- The bytes of the places: a frame written at one, a frame held at one, and the gap closed.
 use mathlib.Core.Path.{◌≡◌, sym, ap, ◌∙◌}
-use mathlib.Core.List.{List, [], ◌∷◌, ◌++◌, append_assoc}
-use Prim.Native.Nat.{ℕ, suc, ◌+◌, ◌-◌, ◌*◌, ◌≤◌, ◌<◌}
-use native.Mathlib.Numerals.{add-one}
+use mathlib.Core.List.{List, ◌++◌, append_assoc}
+use Prim.Native.Nat.{ℕ, ◌+◌, ◌-◌, ◌*◌, ◌≤◌, ◌<◌}
 use native.Mathlib.Omega.{arith}
-use lib.ListN.{length, get_or, set, take, drop, length-append, length-drop, take-append-drop}
-use lib.Seq.{drop-drop, drop-append-le, drop-cons, take-suc, append_snoc, length-take-le, get_or-append-add, get_or-drop}
-use lib.Seq.{set_at}
+use lib.ListN.{length, get_or, take, drop, length-append, length-drop, take-append-drop}
+use lib.Seq.{paste, drop-drop, drop-append-le, length-take-le, get_or-drop}
 use borrow.Rule.Slice.PartMut.{put_mid, mid_of}
 use Rattle.tree.specs.Tree.{dimension}
 use Rattle.frame.specs.Frame.{frame_length}
@@ -52,72 +50,17 @@ held s size at n e =
 
 -- ---- the gap
 
--- of the places from `start` on, the bytes up to i are moved down by a place
-unfoldable pub moving : List ℕ → ℕ → ℕ → List ℕ
-moving s start i = take start s ++ (take (i - start) (drop (start + place_size) s) ++ drop i s)
-
-pub none_moved : (s : List ℕ) (start : ℕ) → s ≡ moving s start start
-unfolding moving
-none_moved s start = let e : start - start ≡ 0 = omega arith in rw e (sym (take-append-drop start s))
-
-module _ (s : List ℕ) (start i : ℕ) (h : start ≤ i) (l : i + place_size ≤ length s) where
-  abbrev moved : List ℕ
-  moved = take (i - start) (drop (start + place_size) s)
-
-  -- what stands before the byte to move next
-  abbrev front : List ℕ
-  front = take start s ++ moved
-
-  length_front : length front ≡ i
-  length_front =
-      let d = length-drop (start + place_size) s in
-      let t = length-take-le (i - start) (drop (start + place_size) s) (omega arith) in
-      let p = length-take-le start s (omega arith) in
-      omega (arith, length-append (take start s) moved)
-
-  parted : moving s start i ≡ front ++ drop i s
-  unfolding moving
-  parted = sym (append_assoc (take start s) moved (drop i s))
-
-  pub length_moving : length (moving s start i) ≡ length s
-  length_moving =
-      ap length parted
-      ∙ length-append front (drop i s)
-      ∙ omega (arith, length_front, length-drop i s)
-
-  -- what is still to be moved stands where it stood
-  still_there : get_or (moving s start i) (i + place_size) 0 ≡ get_or s (i + place_size) 0
-  still_there =
-      rw parted
-      (ap (λ j. get_or (front ++ drop i s) (j + place_size) 0) (sym length_front)
-      ∙ get_or-append-add front (drop i s) place_size 0
-      ∙ get_or-drop i s place_size 0)
-
-  pub one_moved : i + place_size < length s
-      → set (moving s start i) i (get_or (moving s start i) (i + place_size) 0) ≡ moving s start (i + 1)
-  unfolding moving
-  one_moved m =
-      let d = length-drop (start + place_size) s in
-      let x = get_or s (i + place_size) 0 in
-      let e : start + place_size + (i - start) ≡ i + place_size = omega arith in
-      let f : i + 1 - start ≡ suc (i - start) = omega arith in
-      let next : take (i + 1 - start) (drop (start + place_size) s) ≡ moved ++ (x ∷ []) =
-      rw f
-      (take-suc (drop (start + place_size) s) (i - start) 0 (omega arith)
-      ∙ ap (λ y. moved ++ (y ∷ []))
-      (get_or-drop (start + place_size) s (i - start) 0 ∙ ap (λ j. get_or s j 0) e)) in
-      ap (set (moving s start i) i) still_there
-      ∙ ap (λ r. set r i x) (parted ∙ ap (λ r. front ++ r) (drop-cons s i 0 (omega arith)))
-      ∙ set_at front (get_or s i 0) (drop (suc i) s) x i length_front
-      ∙ append_assoc (take start s) moved (x ∷ drop (suc i) s)
-      ∙ ap (λ r. take start s ++ r)
-      (sym (append_snoc moved x (drop (suc i) s))
-      ∙ ap (λ r. r ++ drop (suc i) s) (sym next)
-      ∙ ap (λ j. take (i + 1 - start) (drop (start + place_size) s) ++ drop j s) (sym (add-one i)))
-
-pub all_moved : (s : List ℕ) (n at : ℕ) → at < n → moving s (place_size * at) (place_size * (n - 1)) ≡ closed s n at
-unfolding moving closed
-all_moved s n at h =
-    let e : place_size * (n - 1) - place_size * at ≡ place_size * (n - (at + 1)) = omega arith in
-    let f : place_size * at + place_size ≡ place_size * (at + 1) = omega arith in
-    rw (e, f)
+-- the places after it, copied one place down
+pub gap_closed : (s : List ℕ) (n at : ℕ) → at < n
+    → paste s (place_size * at) (drop (place_size * at + place_size) s)
+    (place_size * n - (place_size * at + place_size))
+    ≡ closed s n at
+unfolding closed
+gap_closed s n at h =
+    let a = place_size * at in
+    let m : place_size * n - (a + place_size) ≡ place_size * (n - (at + 1)) = omega arith in
+    let f : a + place_size ≡ place_size * (at + 1) = omega arith in
+    let e : a + place_size * (n - (at + 1)) ≡ place_size * (n - 1) = omega arith in
+    rw (m, f, e)
+    (append_assoc (take a s) (take (place_size * (n - (at + 1))) (drop (place_size * (at + 1)) s))
+    (drop (place_size * (n - 1)) s))

@@ -6,6 +6,7 @@ ghost use Rattle.base.specs.Limits.{base};
 ghost use Rattle.node.specs.Calls.{send, idle, frame_in};
 ghost use Rattle.state_calls.specs.On.{replied, on_state, step_replied, step_on, step_bytes};
 
+use base::Bounds;
 use state_calls::{Reply, StepReply};
 use states::State;
 
@@ -13,10 +14,10 @@ pub fn send_to(s: State, to: u32) -> Reply
     ensures { replied result ≡ on_state (λ n. send base n to) s }
 {
     let mut words = s.words;
-    let answer = calls::send_to(base::of_build(), &mut words, to);
+    let answer = calls::send_to(Bounds::of_build(), &mut words, to);
     Reply {
-        state: State { words: words },
-        answer: answer,
+        state: State { words },
+        answer,
     }
 }
 
@@ -24,10 +25,10 @@ pub fn go_idle(s: State) -> Reply
     ensures { replied result ≡ on_state (λ n. idle base n) s }
 {
     let mut words = s.words;
-    let answer = calls::go_idle(base::of_build(), &mut words);
+    let answer = calls::go_idle(Bounds::of_build(), &mut words);
     Reply {
-        state: State { words: words },
-        answer: answer,
+        state: State { words },
+        answer,
     }
 }
 
@@ -35,10 +36,10 @@ pub fn frame_in(s: State, bytes: &[u8]) -> Reply
     ensures { replied result ≡ on_state (λ n. frame_in base n bytes.now) s }
 {
     let mut words = s.words;
-    let answer = calls::frame_in(base::of_build(), &mut words, bytes);
+    let answer = calls::frame_in(Bounds::of_build(), &mut words, bytes);
     Reply {
-        state: State { words: words },
-        answer: answer,
+        state: State { words },
+        answer,
     }
 }
 
@@ -47,9 +48,9 @@ pub fn step(s: State, buf: &mut [u8]) -> StepReply
     ensures memory { buf.new ≡ step_bytes s buf.old }
 {
     let mut words = s.words;
-    let answer = calls::step(base::of_build(), &mut words, buf);
+    let answer = calls::step(Bounds::of_build(), &mut words, buf);
     StepReply {
-        state: State { words: words },
-        answer: answer,
+        state: State { words },
+        answer,
     }
 }

@@ -4,26 +4,18 @@
 ghost use Rattle.std.specs.Prelude.{◌≡◌, ◌+◌, leb};
 ghost use Rattle.walk_tests.specs.Tests.{first_fits};
 
-use frame::{Sent, Taken};
+use frame::Tally;
 
-// A sum of numbers sent is within a limit.
-pub fn sent_fits(sent: Sent, more: Sent, limit: u32) -> bool
-    ensures { result ≡ leb (sent.0 + more.0) limit }
+// The sum of two tallies of one kind is within a limit.
+pub fn fits<T: Tally>(own: T, more: T, limit: u32) -> bool
+    ensures { result ≡ leb (T.count own + T.count more) limit }
 {
-    if limit < sent.0 {
+    let own = own.number();
+    let more = more.number();
+    if limit < own {
         return false;
     }
-    more.0 <= limit - sent.0
-}
-
-// A sum of numbers taken is within a limit.
-pub fn taken_fits(taken: Taken, more: Taken, limit: u32) -> bool
-    ensures { result ≡ leb (taken.0 + more.0) limit }
-{
-    if limit < taken.0 {
-        return false;
-    }
-    more.0 <= limit - taken.0
+    more <= limit - own
 }
 
 // So many words are those of a pass 1 frame of dimension k on a board of p dimensions, and so many have its sums.

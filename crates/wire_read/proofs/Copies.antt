@@ -1,15 +1,15 @@
 -- Laws of a frame's numbers copied into words, number by number.
-use mathlib.Core.Path.{◌≡◌, sym, ◌∙◌}
-use mathlib.Core.List.{List, [], ◌∷◌, ◌++◌, append_assoc, append-nil}
+use mathlib.Core.Path.{◌≡◌, ◌∙◌}
+use mathlib.Core.List.{List, [], ◌∷◌, ◌++◌, append_assoc}
 use Prim.Native.Nat.{ℕ, suc, ◌+◌, ◌*◌, ◌≤◌, ◌<◌}
 use native.Mathlib.Nat.{zero-add}
 use native.Mathlib.Numerals.{add-one}
 use native.Mathlib.Omega.{arith}
 use lib.ListN.{length, get_or, set, drop, length-drop}
-use lib.Seq.{drop-cons, set_at, drop-length, length-take-le}
-use borrow.Author.Tests.{le-leb, lt-leb}
+use lib.Seq.{drop-cons, set_at, length-take-le}
+use borrow.Author.Tests.{le-leb}
 use Rattle.base.specs.Choice.{list}
-use Rattle.base.proofs.Laws.{choose_yes, choose_no, length_list, list_more}
+use Rattle.base.proofs.Laws.{choose_yes, length_list, list_more}
 use Rattle.frame.specs.Frame.{number_at}
 use Rattle.wire.specs.Wire.{part}
 use Rattle.wire_read.specs.Read.{numbers_from}
@@ -22,20 +22,6 @@ copy_more g ws l i h e =
     let w : list 0 (i + 1) g ≡ list 0 i g ++ (g i ∷ []) = list_more 0 i g ∙ rw z in
     rw (e, w, append_assoc (list 0 i g) (g i ∷ []) (drop (i + 1) ws), drop-cons ws i 0 h, add-one)
     (set_at (list 0 i g) (get_or ws i 0) (drop (suc i) ws) (g i) i (length_list 0 i g))
-
--- all are
-copy_all : (g : ℕ → ℕ) (ws l : List ℕ) (i : ℕ) → i ≡ length ws → l ≡ list 0 i g ++ drop i ws
-    → l ≡ list 0 (length ws) g
-copy_all g ws l i h e = e ∙ rw (h, drop-length, append-nil)
-
--- none are, or all
-pub copy_no : (bs ws : List ℕ) → length bs < 4 + 4 * length ws → ws ≡ numbers_from bs ws
-copy_no bs ws h = sym (choose_no _ _ (lt-leb (4 + 4 * length ws) (length bs) h))
-
-pub copy_yes : (bs ws l : List ℕ) (i : ℕ) → i ≡ length ws → 4 + 4 * length ws ≤ length bs
-    → l ≡ list 0 i (number_at bs) ++ drop i ws → l ≡ numbers_from bs ws
-copy_yes bs ws l i h r e =
-    copy_all (number_at bs) ws l i h e ∙ sym (choose_yes _ _ (le-leb (4 + 4 * length ws) (length bs) r))
 
 -- a part of words that got numbers
 pub part_copied : (bs ws ys : List ℕ) (at n : ℕ) → at + n ≤ length ws → 4 + 4 * n ≤ length bs

@@ -1,6 +1,5 @@
 -- What the reader asks of places and of bytes, over numbers alone: arithmetic is dear where all that a function knows is in scope.
-use Prim.Native.Nat.{ℕ, ◌+◌, ◌*◌, ◌-◌, ◌≤◌, ◌<◌}
-use mathlib.Core.Path.{◌≡◌}
+use Prim.Native.Nat.{ℕ, ◌+◌, ◌*◌, ◌≤◌, ◌<◌}
 use native.Mathlib.Omega.{arith}
 use mir.Syntax.{w32, w64}
 use mir.Val.{Fits}
@@ -57,21 +56,3 @@ pub record Sized (count : ℕ) : Type 0 where
 pub sized : (count : ℕ) → count ≤ most_numbers → Sized count
 sized count h =
     record { scaled = record { fits = omega arith }; whole = record { fits = omega arith }; wide = record { fits = omega arith } }
-
--- number i of `count`, at a place of n bytes
-pub record Turn (count at i n : ℕ) : Type 0 where
-  pub wide : Fits w64 at
-  pub there : at + 4 ≤ n
-  pub further : Fits w32 (at + 4)
-  pub next : Fits w32 (i + 1)
-  pub less : count - (i + 1) < count - i
-
-pub turn_at_lem : (count at i n : ℕ) → i < count → at ≡ 4 + 4 * i → 4 + 4 * count ≤ n → count ≤ most_numbers → Turn count at i n
-turn_at_lem count at i n low e h m =
-    record {
-      wide = record { fits = omega arith };
-      there = omega arith;
-      further = record { fits = omega arith };
-      next = record { fits = omega arith };
-      less = omega arith;
-    }

@@ -4,13 +4,12 @@
 ghost use Rattle.std.specs.Prelude.{◌≡◌, ◌+◌, ◌*◌, ◌≤◌, ◌<◌, leb, length};
 ghost use Rattle.base.specs.Choice.{every};
 ghost use Rattle.base.specs.Limits.{limits_of, width};
+ghost use Rattle.base.specs.Refusal.{answered};
 ghost use Rattle.frame.specs.Numbers.{word_at};
 ghost use Rattle.frame.specs.Frame.{frame_length, number_at, read_frame, answer_of};
 ghost use Rattle.wire_read.specs.Read.{most_numbers, numbers_from};
 
-use base::Bounds;
-use frame::Outcome;
-use tree::Found;
+use base::{Bounds, Refusal};
 
 // ---- Bytes
 
@@ -48,42 +47,33 @@ fn numbers_within(limit: u32, bytes: &[u8], count: u32) -> bool
     requires { (4 + 4 * count ≤ length bytes.now) × (count ≤ most_numbers) }
     ensures { result ≡ every 0 count (λ i. leb (number_at bytes.now i) limit) }
 {
-    let mut at: u32 = 4;
-    for i in 0..count {
-        if limit < word_at(bytes, at as usize) {
-            return false;
-        }
-        at += 4;
-    }
-    true
+    (0..count).all(|i| word_at(bytes, 4 + 4 * i as usize) <= limit)
 }
 
 // Whether the bytes are a frame of the board. Refuses 1, 9, 10, 2.
-pub fn checked(b: Bounds, nodes: u32, bytes: &[u8]) -> Outcome
-    ensures { result ≡ answer_of (read_frame (limits_of b) nodes bytes.now) }
+pub fn checked(b: Bounds, nodes: u32, bytes: &[u8]) -> Result<(), Refusal>
+    ensures { answered result ≡ answer_of (read_frame (limits_of b) nodes bytes.now) }
 {
-    let Found::Is(p) = tree::dimension_for(b, nodes) else {
-        return Outcome::Refused(1);
-    };
+    let p = tree::dimension_for(b, nodes)?;
     if bytes.len() < 4 {
-        return Outcome::Refused(9);
+        return Err(Refusal::Length);
     }
     let pass = wide(bytes[0]);
     let k = wide(bytes[2]);
     if frame::step_bad(p, pass, k) {
-        return Outcome::Refused(10);
+        return Err(Refusal::Field);
     }
     let count = count_of(p, pass, k);
     if bytes.len() != (4 + 4 * count) as usize {
-        return Outcome::Refused(9);
+        return Err(Refusal::Length);
     }
-    if !numbers_within(base::field_limit(b), bytes, count) {
-        return Outcome::Refused(10);
+    if !numbers_within(b.field_limit(), bytes, count) {
+        return Err(Refusal::Field);
     }
     if nodes <= wide(bytes[3]) {
-        return Outcome::Refused(2);
+        return Err(Refusal::Stranger);
     }
-    Outcome::Done
+    Ok(())
 }
 
 // ---- Copies
@@ -98,9 +88,7 @@ pub fn copy_numbers(bytes: &[u8], words: &mut [u32])
     if (bytes.len() - 4) / 4 < words.len() {
         return;
     }
-    let mut at: usize = 4;
-    for i in 0..words.len() {
-        words[i] = word_at(bytes, at);
-        at += 4;
+    for (i, word) in words.iter_mut().enumerate() {
+        *word = word_at(bytes, 4 + 4 * i);
     }
 }

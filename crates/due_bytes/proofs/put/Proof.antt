@@ -7,6 +7,7 @@ use mathlib.Core.List.{List}
 use Prim.Native.Nat.{ℕ}
 use lib.Dec.{eqb}
 use lib.ListN.{length}
+use Rattle.std.proofs.Common.{Option, None}
 use Rattle.base.specs.Choice.{choose, both}
 use Rattle.base.proofs.Laws.{choose_yes, choose_no}
 use Rattle.layout.specs.Places.{at_pass, at_dim, head_words}
@@ -34,12 +35,12 @@ module _ (s : tie.Start) where
   abbrev there : Bool
   there = choose (eqb (word ws at_pass) 1) (has_sums s.args.p (word ws at_dim) (length s.args.sums.now)) true
 
-  put : (t : Bool) (bytes after : List ℕ) (r : ℕ) → fit ≡ t → due ≡ bytes
-      → r ≡ choose t (put_length bytes (length buf)) 0
+  put : (t : Bool) (bytes after : List ℕ) (r : Option ℕ) → fit ≡ t → due ≡ bytes
+      → r ≡ choose t (put_length bytes (length buf)) None
       → after ≡ choose t (put_bytes bytes buf) buf
-      → (r ≡ choose fit (put_length due (length buf)) 0) × (after ≡ choose fit (put_bytes due buf) buf)
+      → (r ≡ choose fit (put_length due (length buf)) None) × (after ≡ choose fit (put_bytes due buf) buf)
   put t bytes after r can e f g = (
-    f ∙ sym (λ i. choose (can i) (put_length (e i) (length buf)) 0),
+    f ∙ sym (λ i. choose (can i) (put_length (e i) (length buf)) None),
     g ∙ sym (λ i. choose (can i) (put_bytes (e i) buf) buf),
   )
 

@@ -1,24 +1,19 @@
--- Each turn looks at one item: where it is on the link its place is the answer, and otherwise the place is looked for
--- in those after it.
-use Rattle.std.proofs.Common.{◌≡◌, get_or, true, false, arith, ◌∙◌}
-use Rattle.items.specs.Places.{no_item, on_link}
-use Rattle.items.proofs.Lists.{place_here, place_later, place_none}
+-- `oldest_at` is `oldest_within`: where the search finds an item on the link, or as many as are looked at.
+use Rattle.std.proofs.Common.{rules, tests, ◌∙◌, ap, take, unwrap_or, arith}
+use Rattle.std.proofs.lemmas.Iterator.{YieldsList-from_slice}
+use Rattle.std.proofs.lemmas.Iterator.Search.{position_from_yields_List}
+use Rattle.items.specs.Places.{on_link, place_from}
+use Rattle.items.proofs.Lists.{found}
 use Rattle.items.proofs.oldest_at.Goals as goal
-
-pub returns-then-is_on : goal.returns-then-is_on
-returns-then-is_on c =
-    let h : on_link (get_or c.args.items.now c.loop-i.i no_item) c.args.from c.args.to ≡ true = cc in
-    let e = place_here c.args.items.now c.args.from c.args.to c.loop-i.i c.least-most.result c.loop-i-test.true h in
-    cc
-
-pub loop-i-preserved : goal.loop-i-preserved
-loop-i-preserved c =
-    let h : on_link (get_or c.args.items.now c.loop-i.i no_item) c.args.from c.args.to ≡ false = cc in
-    let e = place_later c.args.items.now c.args.from c.args.to c.loop-i.i c.least-most.result c.loop-i-test.true h in
-    record { within = omega arith; same = c.loop-i.invariant.same ∙ e }
 
 pub returns : goal.returns
 returns c =
-    let e = place_none c.args.items.now c.args.from c.args.to c.loop-i.i c.least-most.result c.loop-i.invariant.within
-    c.loop-i-test.false in
-    cc
+    let ys = c.args.items.now in
+    let a = c.args.from in
+    let b = c.args.to in
+    let p =
+    position_from_yields_List (λ it. on_link it a b) _ _ c.position.result c.position.ensures.ran
+    (YieldsList-from_slice (take c.min-most.result ys) (search rules))
+    (λ x b q k. search (rules, tests)) in
+    c.unwrap_or.ensures ∙ ap (λ o. unwrap_or o c.min-most.result) p ∙ found a b ys c.min-most.result (omega (arith, c.min-most.ensures))
+    ∙ ap (λ n. place_from ys a b 0 n) c.min-most.ensures

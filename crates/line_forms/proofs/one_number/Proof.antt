@@ -16,12 +16,12 @@ returns c =
     sym (one_bad x.word.now x.first.now e)
 
 -- the number read
-known : (c : tie.In-Is)
+known : (c : tie.In-Some)
     → let s = c.args.first.now in
-    (is_number s ≡ true) × (c.in-Is.x ≡ value_after 0 s)
+    (is_number s ≡ true) × (c.in-Some.x ≡ value_after 0 s)
 known c =
     let n = c in
-    number_is n.args.first.now _ n.number_of.ensures _ c.in-Is.is
+    number_is n.args.first.now _ n.number_of.ensures _ c.in-Some.is
 
 returns_2 : tie.Need-returns-then-is_nodes
 returns_2 c =

@@ -17,12 +17,12 @@ returns c =
     sym (two_bad x.word.now x.first.now x.second.now (rw e))
 
 -- the first number read
-first : (c : tie.In-Is)
+first : (c : tie.In-Some)
     → let s = c.args.first.now in
-    (is_number s ≡ true) × (c.in-Is.x ≡ value_after 0 s)
+    (is_number s ≡ true) × (c.in-Some.x ≡ value_after 0 s)
 first c =
     let n = c in
-    number_is n.args.first.now _ n.number_of.ensures _ c.in-Is.is
+    number_is n.args.first.now _ n.number_of.ensures _ c.in-Some.is
 
 returns_2 : tie.Need-returns-in_default-number_of
 returns_2 c =
@@ -32,14 +32,14 @@ returns_2 c =
     sym (two_bad x.word.now x.first.now x.second.now (rw ((first n.before.before).0, e)))
 
 -- the second number read
-second : (c : tie.In-Is-number_of)
+second : (c : tie.In-Some-number_of)
     → let n = c in
     let s = n.args.second.now in
-    (is_number s ≡ true) × (c.in-Is-number_of.y ≡ value_after 0 s)
+    (is_number s ≡ true) × (c.in-Some-number_of.y ≡ value_after 0 s)
 second c =
     let n = c in
     let x = n.args in
-    number_is x.second.now _ n.number_of-2.ensures _ c.in-Is-number_of.is
+    number_is x.second.now _ n.number_of-2.ensures _ c.in-Some-number_of.is
 
 returns_3 : tie.Need-returns-then-is_letter
 returns_3 c =

@@ -5,11 +5,12 @@ use mathlib.Core.Bool.{false}
 use mathlib.Core.List.{List}
 use Prim.Native.Nat.{ℕ}
 use lib.ListN.{length}
+use Rattle.std.proofs.Common.{Ok}
 use Rattle.base.specs.Limits.{Limits, Fits, limits_of}
 use Rattle.base.proofs.Limits.{fits_of}
 use Rattle.base.proofs.Laws.{here}
 use Rattle.node.specs.Calls.{idle}
-use Rattle.node.specs.declared.Answer.TheVariants.{Done}
+use Rattle.node.specs.declared.Accepted.TheVariants.{Done}
 use Rattle.node.proofs.Ways.{idle_refuses, idle_does}
 use Rattle.layout.proofs.Writes.{put_busy}
 use Rattle.layout.proofs.Answers.{gives}
@@ -50,7 +51,7 @@ slice_write_state c = omega (arith, tallies_room (limits c) (ws c) (known c).who
 
 returns_2 : tie.Need-returns
 returns_2 c =
-    (gives (limits c) (fit (start c)) (λ n. idle (limits c) n) (ws c) Done _ _ (idle_does (limits c) _ (known c).valid)
+    (gives (limits c) (fit (start c)) (λ n. idle (limits c) n) (ws c) (Ok Done) _ _ (idle_does (limits c) _ (known c).valid)
     (put_busy (limits c) (ws c) (known c).whole false)
     ).on (room c) (known c).ready
 

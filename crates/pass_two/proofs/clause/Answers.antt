@@ -15,12 +15,12 @@ use Rattle.pass_two.proofs.clause.Goals.{else-last-via-then-last+else-issued-fra
 pub returns-then-frame-ne1 : goal.returns-then-frame-ne1
 returns-then-frame-ne1 c = sym (stops (ne_eqb _ _ c.if-frame-ne1.true)).first
 
-pub returns-then-not-sent_fits : goal.returns-then-not-sent_fits
-returns-then-not-sent_fits c =
+pub returns-then-not-fits : goal.returns-then-not-fits
+returns-then-not-fits c =
     let sum = c.args.issued.0 + c.args.frame.issued.0 in
     let stored = eq-eqb _ _ c.if-frame-ne1.false in
     let over : is_within (limits_of c.args.b) sum ≡ false =
-    ap (leb sum) (sym c.field_limit.ensures) ∙ sym c.sent_fits.ensures ∙ c.if-not-sent_fits.true in
+    ap (leb sum) (sym c.field_limit.ensures) ∙ sym c.fits.ensures ∙ c.if-not-fits.true in
     sym (passes stored (passes refl (passes refl (stops over)))).first
 
 pub returns-then-frame-agreed : goal.returns-then-frame-agreed
@@ -28,7 +28,7 @@ returns-then-frame-agreed c =
     let sum = c.args.issued.0 + c.args.frame.issued.0 in
     let stored = eq-eqb _ _ c.if-frame-ne1.false in
     let good : is_within (limits_of c.args.b) sum ≡ true =
-    ap (leb sum) (sym c.field_limit.ensures) ∙ sym c.sent_fits.ensures ∙ c.if-not-sent_fits.false in
+    ap (leb sum) (sym c.field_limit.ensures) ∙ sym c.fits.ensures ∙ c.if-not-fits.false in
     sym
     (passes stored
     (passes refl (passes refl (passes good (passes refl (stops (ne_eqb _ _ c.if-frame-agreed.true))))))).first
@@ -38,7 +38,7 @@ returns-then-issued-frame c =
     let sum = c.args.issued.0 + c.args.frame.issued.0 in
     let stored = eq-eqb _ _ c.if-frame-ne1.false in
     let good : is_within (limits_of c.args.b) sum ≡ true =
-    ap (leb sum) (sym c.field_limit.ensures) ∙ sym c.sent_fits.ensures ∙ c.if-not-sent_fits.false in
+    ap (leb sum) (sym c.field_limit.ensures) ∙ sym c.fits.ensures ∙ c.if-not-fits.false in
     let same = eq-eqb _ _ c.if-frame-agreed.false in
     sym
     (passes stored
@@ -52,7 +52,7 @@ returns c =
     let sum = c.args.issued.0 + c.args.frame.issued.0 in
     let stored = eq-eqb _ _ c.if-frame-ne1.false in
     let good : is_within (limits_of c.args.b) sum ≡ true =
-    ap (leb sum) (sym c.field_limit.ensures) ∙ sym c.sent_fits.ensures ∙ c.if-not-sent_fits.false in
+    ap (leb sum) (sym c.field_limit.ensures) ∙ sym c.fits.ensures ∙ c.if-not-fits.false in
     let same = eq-eqb _ _ c.if-frame-agreed.false in
     let ok : choose c.args.last (eqb sum c.args.agreed) true ≡ true =
     elim c.else-last.branch [

@@ -4,7 +4,7 @@ use native.Mathlib.Omega.{arith}
 use mathlib.Core.Path.{◌≡◌, ap, ◌∙◌}
 use Prim.Native.Nat.{ℕ, ◌≤◌}
 use lib.ListN.{length, take, replicate, length-replicate}
-use Rattle.tree.specs.Lookups.{found_answer}
+use Rattle.base.specs.Refusal.{answered}
 use Rattle.script.specs.declared.Parsed.{Parsed}
 use Rattle.printing.proofs.Putting.{length_put}
 use Rattle.script_counts.specs.Counts.{nodes_by}
@@ -61,7 +61,7 @@ returns c =
     let put = counts_put (replicate 32 0) _ _ k.put_counts-sections.ensures.1 (counts_within k.before.before.before.before.before.before) in
     let counts = ap (take k.put_counts-sections.result) k.put_counts-sections.ensures.0 ∙ put in
     let e = p.put_events-end.ensures in
-    written _ _ _ _ buf _ _ _ e.0 e.1 (memory_size p.before.before.before.before.before.before) nodes counts (found_answer w.write.result) _
+    written _ _ _ _ buf _ _ _ e.0 e.1 (memory_size p.before.before.before.before.before.before) nodes counts (answered w.write.result) _
     w.write.ensures
 
 pub put_recording_spec : {M : Type 1} → statement M

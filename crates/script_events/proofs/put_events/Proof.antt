@@ -22,7 +22,7 @@ decreases-loop events₀ script text at₀ from₀ end₀ events at from end = l
 
 loop_holds : tie.Need-loop-at-init invariant-loop decreases-loop
 unfolding events_of
-loop_holds c = (omega arith, refl, rw (c.line_at-first.ensures, c.next_from-from.ensures) (refl, refl))
+loop_holds c = (omega arith, refl, rw (c.line_at-at.ensures, c.next_from-from.ensures) (refl, refl))
 
 loop-less : tie.Need-loop-at-smaller invariant-loop decreases-loop
 loop-less c =

@@ -6,7 +6,7 @@ use Prim.Native.Nat.{◌≤◌}
 use Rattle.base.specs.Limits.{base, width}
 use Rattle.base.proofs.Laws.{clash}
 use Rattle.tree.specs.Tree.{dimension}
-use Rattle.tree.specs.Lookups.{found_answer}
+use Rattle.base.specs.Refusal.{answered}
 use Rattle.tree.proofs.Dimension.{smallest}
 use Rattle.tree.proofs.Lookups.{board_good, dimension_refused, dimension_found}
 use Rattle.frame.specs.Frame.{frame_length}
@@ -16,15 +16,15 @@ use Rattle.under_way.proofs.stated_on.Tie as tie
 returns : tie.Need-returns-in_default
 returns c =
     let d = c.dimension_of in
-    let bad = dimension_refused base _ _ (sym d.ensures ∙ ap found_answer c.in_default.is) in
+    let bad = (dimension_refused base _ _ (sym d.ensures ∙ ap answered c.in_default.is)).0 in
     (λ g. clash (sym bad ∙ g), omega arith)
 
 -- a board that has a dimension is within the limits
-found : (c : tie.In-Is)
-    → (c.in-Is.d ≡ dimension c.args.size) × (c.in-Is.d ≤ width)
+found : (c : tie.In-Ok)
+    → (c.in-Ok.d ≡ dimension c.args.size) × (c.in-Ok.d ≤ width)
 found c =
     let d = c.dimension_of in
-    let e = dimension_found base _ _ (sym d.ensures ∙ ap found_answer c.in-Is.is) in
+    let e = dimension_found base _ _ (sym d.ensures ∙ ap answered c.in-Ok.is) in
     let b = board_good base c.args.size e.0 in
     (e.1, omega (arith, e.1, smallest c.args.size width (omega arith)))
 

@@ -1,0 +1,12 @@
+-- `go_idle` answers `idle` on the words.
+use Rattle.std.proofs.Common.{arith}
+use Rattle.base.specs.Limits.{limits_of}
+use Rattle.base.proofs.Limits.{fits_of}
+use Rattle.node.specs.Calls.{idle}
+use Rattle.on_words.proofs.Room.{called}
+use Rattle.message_calls.proofs.go_idle.Goals as goal
+
+pub returns : goal.returns
+returns c =
+    let L = limits_of c.args.b in
+    called L (fits_of c.args.b (omega arith)) _ (idle L) _ _ c.go_idle.ensures
