@@ -57,7 +57,7 @@ HEADLINE = {
         "limit base.nodes 96", "∷ limit base.sends 65535", "∷ limit (taken_limit base) 6225825",
         "∷ limit (field_limit base) 6291360", "∷ limit width 7", "∷ dimension 1 (found 0)", "∷ dimension 2 (found 1)",
         "∷ dimension 3 (found 2)", "∷ dimension 5 (found 3)", "∷ dimension 96 (found 7)",
-        "∷ dimension 0 (refused (number Refusal.board))", "∷ dimension 97 (refused (number Refusal.board))",
+        "∷ dimension 0 (refused (number Refusal.Board))", "∷ dimension 97 (refused (number Refusal.Board))",
         "∷ place 6 0 2 (found alone)", "∷ place 6 1 2 (found (messenger 0 1))", "∷ place 6 2 2 (found (neighbour 5))",
         "∷ place 5 2 2 (found (hermit 3))", "∷ distance 6 1 2 (found 1)", "∷ distance 6 2 5 (found 2)", "∷ first_length 7 0 68",
         "∷ first_length 3 2 20", "∷ phases 0 255 Late", "∷ phases 255 0 Early"],

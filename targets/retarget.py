@@ -33,15 +33,25 @@ gives it another address, so nothing may be lent at address 0.
 A place may be filled with zeros before parts of it are stored to. That makes no byte part of a number or of a pointer:
 zeros are 0 and the null pointer alike, on the target as in the module. No fill ends inside a pointer.
 
+In one function an address is looked at as a number: the kit's copy of elements, which tells by the difference of two whether it may copy
+at once. The difference is that of the target's addresses there, and either way the same elements are copied.
+
+A copy of a computed size copies elements of a slice, all of each, so no slot in part; of a place that is used as a pointer none is made. Its size
+is below that of an object, and is handed over in 32 bits.
+
 Constants are bytes, aligned to 1. Their addresses are stored, and nothing is said of the alignment of one that is loaded.
 
 A function may answer a pair. It is loaded whole from a place, handed back, and taken apart. A pair is let through where
-both of its parts lie at the same offsets on the target as in the module.
+both of its parts lie at the same offsets on the target as in the module. A number of fewer than 8 bytes and a pointer, which is what
+an iterator over a slice hands out, would not: between them come as many bytes as keep the pointer at its offset.
+
+A place that no run comes to, by the proofs, may end in a trap, which is an instruction of the target.
 
 Whatever this does not cover is refused, with its line: the lists below name all that a module may have.
 """
 import collections
 import functools
+import itertools
 import math
 import pathlib
 import re
@@ -60,17 +70,18 @@ FACTS = {
     "target datalayout": "e-m:e-p270:32:32-p271:32:32-p272:64:64-i64:64-i128:128-f80:128-n8:16:32:64-S128",
     "target triple": "x86_64-unknown-linux-gnu",
 }
-ATTRIBUTES = ('attributes #0 = { nounwind "probe-stack"="inline-asm" "stack-probe-size"="3072"'
-              ' "target-cpu"="x86-64-v2" }')
-OTHER_ATTRIBUTES = re.compile(r"attributes #[1-9]\d* = \{ (?:nobuiltin|nocallback|nofree|nosync|nounwind|speculatable"
+ATTRIBUTES = re.compile(r'attributes (#\d+) = \{ ((?:alwaysinline |noinline )?)nounwind "probe-stack"="inline-asm"'
+                        r' "stack-probe-size"="3072" "target-cpu"="x86-64-v2" \}')
+OTHER_ATTRIBUTES = re.compile(r"attributes #[1-9]\d* = \{ (?:cold|nobuiltin|nocallback|nofree|noreturn|nosync|nounwind|speculatable"
                               r"|willreturn|memory\([\w: ,]+\)| )+ \}")
 
-# No instruction turns a pointer into a number or looks at one, and no type is wider than 64 bits.
+# No instruction turns a pointer into a number or looks at one, but where the kit copies elements, and no type is wider than 64 bits.
 OPCODES = set("alloca load store getelementptr call ret br switch unreachable icmp add sub mul udiv urem and or xor zext"
-              " trunc extractvalue".split())
-INTRINSICS = {"llvm.memmove.p0.p0.i64", "llvm.memset.p0.i64", "llvm.ctlz.i32"}
+              " trunc extractvalue ptrtoaddr".split())
+INTRINSICS = {"llvm.memmove.p0.p0.i64", "llvm.memset.p0.i64", "llvm.ctlz.i32", "llvm.trap"}
 SIZES = {"i1": 1, "i8": 1, "i16": 2, "i32": 4, "i64": 8, "ptr": 8}  # bytes of a place
 LOOSE = re.compile(r"[{<]|\b(?:asm|float|double|half|bfloat|fp128|addrspace|volatile|atomic|inttoptr|ptrtoint|bitcast)\b")
+NAME = re.compile(r'(?<=@)"[^"]+"')  # of a function of the module: a generic one's has the types that it is made for
 KIND = "(?:i1|i8|i16|i32|i64|ptr)"
 PAIR = r"\{ (i1|i8|i16|i32|i64|ptr), (i1|i8|i16|i32|i64|ptr) \}"
 SOME_PAIR = PAIR.replace("(i1", "(?:i1")
@@ -79,12 +90,13 @@ CALL = re.compile(rf'call (?:noundef )?(?:zeroext )?(?:void|{KIND}|{SOME_PAIR}) 
                   rf"\(((?:{ARGUMENT}(?:, {ARGUMENT})*)?)\)$", re.M)
 FORMS = {
     "extractvalue": re.compile(rf"= extractvalue {SOME_PAIR} %[\w.]+, [01]$"),
+    "ptrtoaddr": re.compile(r"= ptrtoaddr ptr %a\d+ to i64$"),
     "ret": re.compile(rf"  ret (?:void|{KIND} [^ ,]+|{SOME_PAIR} %[\w.]+)$"),
     "alloca": re.compile(rf"= alloca (?:{KIND}|\[\d+ x i8\]), align \d+$"),
     "load": re.compile(rf"= load (?:{KIND}|{SOME_PAIR}), ptr %[\w.]+, align \d+(?:, !(?:noundef|range) !\d+)*$"),
     "store": re.compile(rf"  store {KIND} [^ ,]+, ptr %[\w.]+, align \d+$"),
     "getelementptr": re.compile(r"= getelementptr (?:inbounds nuw )?i8, ptr %[\w.]+, i64 (?:\d+|%[\w.]+)$"),
-    "call": re.compile(CALL.pattern + r"|@llvm\.memmove\.p0\.p0\.i64\(ptr %[\w.]+, ptr %[\w.]+, i64 \d+, i1 false\)$"
+    "call": re.compile(CALL.pattern + r"|@llvm\.memmove\.p0\.p0\.i64\(ptr %[\w.]+, ptr %[\w.]+, i64 (?:\d+|%[\w.]+), i1 false\)$"
                        r"|@llvm\.memset\.p0\.i64\(ptr %[\w.]+, i8 0, i64 \d+, i1 false\)$"),
 }
 CONSTANT = re.compile(r'@static\.\d+ = private unnamed_addr constant \[\d+ x i8\] c"[^"]*", align 1$')
@@ -92,8 +104,9 @@ TAKEN = re.compile(r"  store ptr @static\.\d+, ptr %[\w.]+, align \d+$")  # the 
 NAMED = re.compile(rf"(?:define|declare|  (?:%[\w.]+ = )?call) (?:[\w ]*|[\w ]*{SOME_PAIR} )@[^@]*")
 PARAMETER = rf"{KIND}(?: noundef)?(?: zeroext)? %a\d+"
 INTERNAL = re.compile(rf'define internal (?:(?:noundef )?(?:zeroext )?(?:{KIND}|{SOME_PAIR})|void) @"[^"]+"'
-                      rf"\((?:{PARAMETER}(?:, {PARAMETER})*)?\) #0 \{{$")
+                      rf"\((?:{PARAMETER}(?:, {PARAMETER})*)?\) (#\d+) \{{$")
 BODY = re.compile(r"^define .*?^}", re.M | re.S)
+COPYING = re.compile(r'define internal void @"core::ptr::copy_drop::copy_bits::<[^"]*>"\(')  # the kit's copy of elements
 OUTER = re.compile(r"$|;|source_filename = |}$|define |declare |attributes #|target |!llvm\.ident = |!\d+ = !\{|[\w.]+:")
 
 
@@ -138,7 +151,7 @@ def second_of(one, other, pointer=8):
 
 def check_pairs(number, line):
     for one, other in re.findall(PAIR, line):
-        if second_of(one, other) != second_of(one, other, 4):
+        if second_of(one, other) != second_of(one, other, 4) and (one == "ptr" or other != "ptr"):
             refuse(number, line, "a pair that lies otherwise on the target")
 
 
@@ -147,9 +160,10 @@ def check_instruction(number, line):
     if not opcode or opcode[1] not in OPCODES:
         refuse(number, line, "an instruction that was not looked at")
     check_pairs(number, line)
-    if LOOSE.search(re.sub(SOME_PAIR, "", line)):
+    words = NAME.sub("", line)
+    if LOOSE.search(re.sub(SOME_PAIR, "", words)):
         refuse(number, line, "a type or a word that was not looked at")
-    if not set(re.findall(r"\bi\d+\b", line)) <= set(SIZES):
+    if not set(re.findall(r"\bi\d+\b", words)) <= set(SIZES):
         refuse(number, line, "a width that was not looked at")
     if re.search(r"icmp \w+ ptr\b", line) and not re.search(r"icmp eq ptr %[\w.]+, null$", line):
         refuse(number, line, "pointers are compared")
@@ -191,6 +205,8 @@ class Slots:
         self.check_pointers(body)
         self.fills = re.findall(r"@llvm\.memset\S*\(ptr (%[\w.]+), i8 0, i64 (\d+)", body)
         self.copies = re.findall(r"@llvm\.memmove\S*\(ptr [^%]*(%[\w.]+), ptr [^%]*(%[\w.]+), i64 (\d+)", body)
+        computed = re.findall(r"@llvm\.memmove\S*\(ptr [^%]*(%[\w.]+), ptr [^%]*(%[\w.]+), i64 %", body)
+        self.rows = {self.at(place)[0] for places in computed for place in places}
 
     def check_pointers(self, body):
         """A place for a pointer alone is smaller on the target: it is loaded and stored, and its address goes nowhere."""
@@ -240,6 +256,8 @@ class Slots:
                 raise Refused(f"a place is used as a pointer and as a number: {base}, byte {byte}, in {self.head}")
             if base in self.computed and "pointer" in kinds:
                 raise Refused(f"a pointer at a computed place: {base} in {self.head}")
+            if base in self.rows and "pointer" in kinds:
+                raise Refused(f"a pointer in a copy of a computed size: {base} in {self.head}")
         for place, count in self.fills:
             base, offset = self.at(place)
             if any(self.is_inside(base, end) for end in (offset, offset + int(count))):
@@ -252,6 +270,8 @@ class Slots:
 
 @functools.cache  # a function is the same for all targets and levels
 def check_body(body):
+    if " = ptrtoaddr " in body and not COPYING.match(body):
+        raise Refused(f"an address is looked at as a number: {body.splitlines()[0]}")
     Slots(body).check()
 
 
@@ -285,8 +305,9 @@ class Module:
     def __init__(self, target, level, kind):
         self.exports = exports(kind)
         self.made = {"target datalayout": target.layout, "target triple": target.triple}
-        self.attributes = "attributes #0 = { nounwind%s }" % LEVELS[level]
-        self.missing = {*FACTS, "attributes #0", *self.exports}
+        self.level = LEVELS[level]
+        self.missing = {*FACTS, *self.exports}
+        self.wanted, self.groups = {"#0"}, set()  # groups of attributes: of the functions, and those that stand
         self.widened = []
         self.lines = []
 
@@ -298,14 +319,15 @@ class Module:
         return f'{name} = "{self.made[name]}"'
 
     def attribute(self, number, line):
-        if not line.startswith("attributes #0 "):
-            if not OTHER_ATTRIBUTES.fullmatch(line):
-                refuse(number, line, "attributes that were not looked at")
-            return line
-        if line != ATTRIBUTES:
+        group = ATTRIBUTES.fullmatch(line)
+        if group:
+            self.groups.add(group[1])
+            return f"attributes {group[1]} = {{ {group[2]}nounwind{self.level} }}"
+        if line.startswith("attributes #0 "):
             refuse(number, line, "not the attributes that this was written for")
-        self.missing.discard("attributes #0")
-        return self.attributes
+        if not OTHER_ATTRIBUTES.fullmatch(line):
+            refuse(number, line, "attributes that were not looked at")
+        return line
 
     def take(self, number, line):
         check(number, line)
@@ -315,6 +337,8 @@ class Module:
             line = self.attribute(number, line)
         elif re.match(r"define (?!internal )", line):
             line = self.define(number, line)
+        elif internal := INTERNAL.match(line):
+            self.wanted.add(internal[internal.lastindex])
         elif re.match(r"declare (?!.*@llvm\.)", line):
             refuse(number, line, "a function from outside")
         self.lines.append(line)
@@ -328,8 +352,9 @@ class Module:
         return line
 
     def whole(self):
-        if self.missing or self.widened:
-            raise Refused(f"not found: {', '.join(sorted(self.missing)) or 'the start of a function'}")
+        missing = {*self.missing, *(f"attributes {group}" for group in self.wanted - self.groups)}
+        if missing or self.widened:
+            raise Refused(f"not found: {', '.join(sorted(missing)) or 'the start of a function'}")
         return "\n".join(self.lines)
 
 
@@ -395,13 +420,52 @@ def align_copies(text):
     return BODY.sub(lambda body: alignment.stated(body[0]), text)
 
 
+SHORT = re.compile(r"\{ (i1|i8|i16|i32), ptr \}")  # a number of fewer than 8 bytes, and a pointer
+
+
+def spaced(line):
+    """A line in which such pairs have bytes between their parts, and the pointer is the third part."""
+    wide = SHORT.sub(lambda pair: f"{{ {pair[1]}, [{SIZES['ptr'] - SIZES[pair[1]]} x i8], ptr }}", line)
+    return re.sub(r", 1$", ", 2", wide) if wide != line and " = extractvalue " in line else wide
+
+
+def space_pairs(text):
+    return "\n".join(map(spaced, text.split("\n")))
+
+
+# ---- Copies of a computed size
+
+COUNTED = re.compile(r"^  call void @llvm\.memmove\.p0\.p0\.i64\((.*), i64 %([\w.]+), i1 false\)$", re.M)
+NARROW = "declare void @llvm.memmove.p0.p0.i32(ptr, ptr, i32, i1)\n"
+
+
+def narrow_counts(text):
+    """Each such copy takes its size in 32 bits."""
+    numbers = itertools.count()
+
+    def narrowed(copy):
+        name = f"%{copy[2]}.size.{next(numbers)}"
+        return (f"  {name} = trunc i64 %{copy[2]} to i32\n"
+                f"  call void @llvm.memmove.p0.p0.i32({copy[1]}, i32 {name}, i1 false)")
+    made = COUNTED.sub(narrowed, text)
+    return made if made == text else re.sub(r"^declare ", NARROW + "\ndeclare ", made, count=1, flags=re.M)
+
+
+ADDRESS = re.compile(r"^  (%[\w.]+) = ptrtoaddr ptr (%\w+) to i64$", re.M)
+
+
+def narrow_addresses(text):
+    """An address has 32 bits, and counts in 64 as in the module."""
+    return ADDRESS.sub(r"  \1.address = ptrtoint ptr \2 to i32\n  \1 = zext i32 \1.address to i64", text)
+
+
 def retarget(text, target, level, kind="library"):
-    """The module for a target. It is checked as the kit wrote it; the copies' alignment comes last."""
+    """The module for a target. It is checked as the kit wrote it; then come the copies' alignment, the pairs' bytes and sizes."""
     module = Module(target, level, kind)
     for number, line in enumerate(text.split("\n"), 1):
         module.take(number, line)
     check_slots(text)
-    return align_copies(module.whole())
+    return narrow_addresses(narrow_counts(space_pairs(align_copies(module.whole()))))
 
 
 def main(words):
