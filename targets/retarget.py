@@ -22,7 +22,7 @@ a run comes to, if it held at those before: nothing is said of what C hands to a
 was loaded, or of one with a computed offset.
 
 A pointer keeps its slot of 8 bytes and fills 4 of them. That is sound while no pointer is looked at as a number: none is
-converted, none is compared but with the null pointer, which is address 0 on the target too, and no slot holds both. Slots
+converted but in the one function named below, none is compared but with the null pointer, which is address 0 on the target too, and no slot holds both. Slots
 are followed within a function, through its copies; that what one function leaves in memory as a pointer is no number to
 another is by Rattle's types. A place for a pointer alone has 4 bytes on the target, so nothing but a load or a store may
 touch it. Offsets of 64 bits are cut to 32 where an address is computed; they are below the size of an object, hence below
