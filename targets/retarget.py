@@ -22,7 +22,7 @@ a run comes to, if it held at those before: nothing is said of what C hands to a
 was loaded, or of one with a computed offset.
 
 A pointer keeps its slot of 8 bytes and fills 4 of them. That is sound while no pointer is looked at as a number: none is
-converted but in the one function named below, none is compared but with the null pointer, which is address 0 on the target too, and no slot holds both. Slots
+converted, none is compared but with the null pointer, which is address 0 on the target too, and no slot holds both. Slots
 are followed within a function, through its copies; that what one function leaves in memory as a pointer is no number to
 another is by Rattle's types. A place for a pointer alone has 4 bytes on the target, so nothing but a load or a store may
 touch it. Offsets of 64 bits are cut to 32 where an address is computed; they are below the size of an object, hence below
@@ -33,16 +33,10 @@ gives it another address, so nothing may be lent at address 0.
 A place may be filled with zeros before parts of it are stored to. That makes no byte part of a number or of a pointer:
 zeros are 0 and the null pointer alike, on the target as in the module. No fill ends inside a pointer.
 
-In one function an address is looked at as a number: the kit's copy of elements, which tells by the difference of two whether it may copy
-at once. The difference is that of the target's addresses there, and either way the same elements are copied.
-
-A copy of a computed size copies elements of a slice, all of each, so no slot in part; of a place that is used as a pointer none is made. Its size
-is below that of an object, and is handed over in 32 bits.
-
 Constants are bytes, aligned to 1. Their addresses are stored, and nothing is said of the alignment of one that is loaded.
 
 A function may answer a pair. It is loaded whole from a place, handed back, and taken apart. A pair is let through where
-both of its parts lie at the same offsets on the target as in the module. A number of fewer than 8 bytes and a pointer, which is what
+both of its parts lie at the same offsets on the target as in the module. A number of one byte and a pointer, which is what
 an iterator over a slice hands out, would not: between them come as many bytes as keep the pointer at its offset.
 
 A place that no run comes to, by the proofs, may end in a trap, which is an instruction of the target.
@@ -51,7 +45,6 @@ Whatever this does not cover is refused, with its line: the lists below name all
 """
 import collections
 import functools
-import itertools
 import math
 import pathlib
 import re
@@ -72,12 +65,13 @@ FACTS = {
 }
 ATTRIBUTES = re.compile(r'attributes (#\d+) = \{ ((?:alwaysinline |noinline )?)nounwind "probe-stack"="inline-asm"'
                         r' "stack-probe-size"="3072" "target-cpu"="x86-64-v2" \}')
-OTHER_ATTRIBUTES = re.compile(r"attributes #[1-9]\d* = \{ (?:cold|nobuiltin|nocallback|nofree|noreturn|nosync|nounwind|speculatable"
+OTHER_ATTRIBUTES = re.compile(r"attributes #[1-9]\d* = \{ (?:nobuiltin|nocallback|nofree|nosync|nounwind|speculatable"
                               r"|willreturn|memory\([\w: ,]+\)| )+ \}")
+TRAP_ATTRIBUTES = re.compile(r"attributes (#[1-9]\d*) = \{ cold noreturn nounwind memory\(inaccessiblemem: write\) \}")
 
-# No instruction turns a pointer into a number or looks at one, but where the kit copies elements, and no type is wider than 64 bits.
+# No instruction turns a pointer into a number or looks at one, and no type is wider than 64 bits.
 OPCODES = set("alloca load store getelementptr call ret br switch unreachable icmp add sub mul udiv urem and or xor zext"
-              " trunc extractvalue ptrtoaddr".split())
+              " trunc extractvalue".split())
 INTRINSICS = {"llvm.memmove.p0.p0.i64", "llvm.memset.p0.i64", "llvm.ctlz.i32", "llvm.trap"}
 SIZES = {"i1": 1, "i8": 1, "i16": 2, "i32": 4, "i64": 8, "ptr": 8}  # bytes of a place
 LOOSE = re.compile(r"[{<]|\b(?:asm|float|double|half|bfloat|fp128|addrspace|volatile|atomic|inttoptr|ptrtoint|bitcast)\b")
@@ -90,13 +84,12 @@ CALL = re.compile(rf'call (?:noundef )?(?:zeroext )?(?:void|{KIND}|{SOME_PAIR}) 
                   rf"\(((?:{ARGUMENT}(?:, {ARGUMENT})*)?)\)$", re.M)
 FORMS = {
     "extractvalue": re.compile(rf"= extractvalue {SOME_PAIR} %[\w.]+, [01]$"),
-    "ptrtoaddr": re.compile(r"= ptrtoaddr ptr %a\d+ to i64$"),
     "ret": re.compile(rf"  ret (?:void|{KIND} [^ ,]+|{SOME_PAIR} %[\w.]+)$"),
     "alloca": re.compile(rf"= alloca (?:{KIND}|\[\d+ x i8\]), align \d+$"),
     "load": re.compile(rf"= load (?:{KIND}|{SOME_PAIR}), ptr %[\w.]+, align \d+(?:, !(?:noundef|range) !\d+)*$"),
     "store": re.compile(rf"  store {KIND} [^ ,]+, ptr %[\w.]+, align \d+$"),
     "getelementptr": re.compile(r"= getelementptr (?:inbounds nuw )?i8, ptr %[\w.]+, i64 (?:\d+|%[\w.]+)$"),
-    "call": re.compile(CALL.pattern + r"|@llvm\.memmove\.p0\.p0\.i64\(ptr %[\w.]+, ptr %[\w.]+, i64 (?:\d+|%[\w.]+), i1 false\)$"
+    "call": re.compile(CALL.pattern + r"|@llvm\.memmove\.p0\.p0\.i64\(ptr %[\w.]+, ptr %[\w.]+, i64 \d+, i1 false\)$"
                        r"|@llvm\.memset\.p0\.i64\(ptr %[\w.]+, i8 0, i64 \d+, i1 false\)$"),
 }
 CONSTANT = re.compile(r'@static\.\d+ = private unnamed_addr constant \[\d+ x i8\] c"[^"]*", align 1$')
@@ -106,7 +99,7 @@ PARAMETER = rf"{KIND}(?: noundef)?(?: zeroext)? %a\d+"
 INTERNAL = re.compile(rf'define internal (?:(?:noundef )?(?:zeroext )?(?:{KIND}|{SOME_PAIR})|void) @"[^"]+"'
                       rf"\((?:{PARAMETER}(?:, {PARAMETER})*)?\) (#\d+) \{{$")
 BODY = re.compile(r"^define .*?^}", re.M | re.S)
-COPYING = re.compile(r'define internal void @"core::ptr::copy_drop::copy_bits::<[^"]*>"\(')  # the kit's copy of elements
+TRAP = re.compile(r"^  call void @llvm\.trap\(\)\n(?!  unreachable$)", re.M)
 OUTER = re.compile(r"$|;|source_filename = |}$|define |declare |attributes #|target |!llvm\.ident = |!\d+ = !\{|[\w.]+:")
 
 
@@ -151,7 +144,7 @@ def second_of(one, other, pointer=8):
 
 def check_pairs(number, line):
     for one, other in re.findall(PAIR, line):
-        if second_of(one, other) != second_of(one, other, 4) and (one == "ptr" or other != "ptr"):
+        if second_of(one, other) != second_of(one, other, 4) and (one, other) != ("i8", "ptr"):
             refuse(number, line, "a pair that lies otherwise on the target")
 
 
@@ -205,8 +198,6 @@ class Slots:
         self.check_pointers(body)
         self.fills = re.findall(r"@llvm\.memset\S*\(ptr (%[\w.]+), i8 0, i64 (\d+)", body)
         self.copies = re.findall(r"@llvm\.memmove\S*\(ptr [^%]*(%[\w.]+), ptr [^%]*(%[\w.]+), i64 (\d+)", body)
-        computed = re.findall(r"@llvm\.memmove\S*\(ptr [^%]*(%[\w.]+), ptr [^%]*(%[\w.]+), i64 %", body)
-        self.rows = {self.at(place)[0] for places in computed for place in places}
 
     def check_pointers(self, body):
         """A place for a pointer alone is smaller on the target: it is loaded and stored, and its address goes nowhere."""
@@ -256,8 +247,6 @@ class Slots:
                 raise Refused(f"a place is used as a pointer and as a number: {base}, byte {byte}, in {self.head}")
             if base in self.computed and "pointer" in kinds:
                 raise Refused(f"a pointer at a computed place: {base} in {self.head}")
-            if base in self.rows and "pointer" in kinds:
-                raise Refused(f"a pointer in a copy of a computed size: {base} in {self.head}")
         for place, count in self.fills:
             base, offset = self.at(place)
             if any(self.is_inside(base, end) for end in (offset, offset + int(count))):
@@ -270,8 +259,8 @@ class Slots:
 
 @functools.cache  # a function is the same for all targets and levels
 def check_body(body):
-    if " = ptrtoaddr " in body and not COPYING.match(body):
-        raise Refused(f"an address is looked at as a number: {body.splitlines()[0]}")
+    if TRAP.search(body):
+        raise Refused(f"a trap that is not the end of a place: {body.splitlines()[0]}")
     Slots(body).check()
 
 
@@ -303,11 +292,13 @@ class Module:
     """A module on its way to another target, line by line. It exports what its header has, and needs nothing from outside."""
 
     def __init__(self, target, level, kind):
+        self.kind = kind
         self.exports = exports(kind)
         self.made = {"target datalayout": target.layout, "target triple": target.triple}
         self.level = LEVELS[level]
         self.missing = {*FACTS, *self.exports}
         self.wanted, self.groups = {"#0"}, set()  # groups of attributes: of the functions, and those that stand
+        self.traps, self.declared = set(), []  # groups that only a trap may have, and what is declared with its group
         self.widened = []
         self.lines = []
 
@@ -320,17 +311,20 @@ class Module:
 
     def attribute(self, number, line):
         group = ATTRIBUTES.fullmatch(line)
-        if group:
+        if group and not (group[2] and self.kind == "library"):
             self.groups.add(group[1])
             return f"attributes {group[1]} = {{ {group[2]}nounwind{self.level} }}"
         if line.startswith("attributes #0 "):
             refuse(number, line, "not the attributes that this was written for")
-        if not OTHER_ATTRIBUTES.fullmatch(line):
+        if trap := TRAP_ATTRIBUTES.fullmatch(line):
+            self.traps.add(trap[1])
+        elif not OTHER_ATTRIBUTES.fullmatch(line):
             refuse(number, line, "attributes that were not looked at")
         return line
 
     def take(self, number, line):
         check(number, line)
+        self.declared += re.findall(r"^declare .*@(llvm\.[\w.]+)\(.* (#\d+)$", line)
         if line.startswith("target "):
             line = self.fact(number, line)
         elif line.startswith("attributes "):
@@ -355,6 +349,8 @@ class Module:
         missing = {*self.missing, *(f"attributes {group}" for group in self.wanted - self.groups)}
         if missing or self.widened:
             raise Refused(f"not found: {', '.join(sorted(missing)) or 'the start of a function'}")
+        if any(group in self.traps and name != "llvm.trap" for name, group in self.declared):
+            raise Refused("the attributes of a trap at another intrinsic")
         return "\n".join(self.lines)
 
 
@@ -420,7 +416,7 @@ def align_copies(text):
     return BODY.sub(lambda body: alignment.stated(body[0]), text)
 
 
-SHORT = re.compile(r"\{ (i1|i8|i16|i32), ptr \}")  # a number of fewer than 8 bytes, and a pointer
+SHORT = re.compile(r"\{ (i8), ptr \}")  # a number of one byte, and a pointer
 
 
 def spaced(line):
@@ -433,39 +429,13 @@ def space_pairs(text):
     return "\n".join(map(spaced, text.split("\n")))
 
 
-# ---- Copies of a computed size
-
-COUNTED = re.compile(r"^  call void @llvm\.memmove\.p0\.p0\.i64\((.*), i64 %([\w.]+), i1 false\)$", re.M)
-NARROW = "declare void @llvm.memmove.p0.p0.i32(ptr, ptr, i32, i1)\n"
-
-
-def narrow_counts(text):
-    """Each such copy takes its size in 32 bits."""
-    numbers = itertools.count()
-
-    def narrowed(copy):
-        name = f"%{copy[2]}.size.{next(numbers)}"
-        return (f"  {name} = trunc i64 %{copy[2]} to i32\n"
-                f"  call void @llvm.memmove.p0.p0.i32({copy[1]}, i32 {name}, i1 false)")
-    made = COUNTED.sub(narrowed, text)
-    return made if made == text else re.sub(r"^declare ", NARROW + "\ndeclare ", made, count=1, flags=re.M)
-
-
-ADDRESS = re.compile(r"^  (%[\w.]+) = ptrtoaddr ptr (%\w+) to i64$", re.M)
-
-
-def narrow_addresses(text):
-    """An address has 32 bits, and counts in 64 as in the module."""
-    return ADDRESS.sub(r"  \1.address = ptrtoint ptr \2 to i32\n  \1 = zext i32 \1.address to i64", text)
-
-
 def retarget(text, target, level, kind="library"):
-    """The module for a target. It is checked as the kit wrote it; then come the copies' alignment, the pairs' bytes and sizes."""
+    """The module for a target. It is checked as the kit wrote it; the copies' alignment and the pairs' bytes come last."""
     module = Module(target, level, kind)
     for number, line in enumerate(text.split("\n"), 1):
         module.take(number, line)
     check_slots(text)
-    return narrow_addresses(narrow_counts(space_pairs(align_copies(module.whole()))))
+    return space_pairs(align_copies(module.whole()))
 
 
 def main(words):

@@ -39,8 +39,7 @@ EDITS = [
     ("another intrinsic", r"^declare ", "declare i64 @llvm.ctlz.i64(i64, i1)\n\ndeclare ", "an intrinsic that"),
     ("another instruction", r"^  %(\w+) = xor ", r"  %\1 = ashr ", "an instruction that was not looked at"),
     ("a pointer as a number", INSIDE, r"\1  %n = ptrtoint ptr %a0 to i64\n", "an instruction that was not looked at"),
-    ("an address as a number", INSIDE, r"\1  %n = ptrtoaddr ptr %a0 to i64\n", "an address is looked at as a number"),
-    ("a place's address as a number", INSIDE, r"\1  %p = alloca i64, align 8\n  %n = ptrtoaddr ptr %p to i64\n", "a form of ptrtoaddr"),
+    ("an address as a number", INSIDE, r"\1  %n = ptrtoaddr ptr %a0 to i64\n", "an instruction that was not looked at"),
     ("a function with an intrinsic's attributes", r"^(define internal void @.*\)) #0", r"\1 #9", "not found: attributes #9"),
     ("a number as a pointer", INSIDE, r"\1  %n = inttoptr i64 8 to ptr\n", "an instruction that was not looked at"),
     ("a pointer in a constant", INSIDE, r"\1  store i64 ptrtoint (ptr @ocb_send to i64), ptr %a0, align 8\n",
@@ -64,9 +63,15 @@ EDITS = [
     ("a load of an array", INSIDE, r"\1  %n = load [4 x i8], ptr %a0, align 4\n", "a form of load"),
     ("a store to a global", INSIDE, r"\1  store i32 1, ptr @ocb_send, align 4\n", "a form of store"),
     ("a field by a type", INSIDE, r"\1  %n = getelementptr i32, ptr %a0, i64 1\n", "a form of getelementptr"),
-    ("a copy of a computed size in a place for a pointer", INSIDE,
-     r"\1  %p = alloca [16 x i8], align 8\n  store ptr %a0, ptr %p, align 8\n"
-     r"  call void @llvm.memmove.p0.p0.i64(ptr %p, ptr %a1, i64 %size, i1 false)\n", "a pointer in a copy of a computed size"),
+    ("a trap that a run goes on after", INSIDE, r"\1  call void @llvm.trap()\n", "a trap that is not the end"),
+    ("a trap's attributes at another intrinsic", r"^attributes (#\d+) = \{ nocallback nofree nounwind willreturn memory\(argmem: readwrite\)",
+     r"attributes \1 = { cold noreturn nounwind memory(inaccessiblemem: write)", "the attributes of a trap at another"),
+    ("an intrinsic that does not come back", r"^attributes (#[1-9]) = \{ nocallback", r"attributes \1 = { noreturn nocallback",
+     "attributes that were not looked at"),
+    ("a pair of four bytes and a pointer", INSIDE, r"\1  %p = alloca [16 x i8], align 8\n  %n = load { i32, ptr }, ptr %p, align 8\n",
+     "a pair that lies otherwise"),
+    ("a copy of a computed size", r"(@llvm\.memmove\.p0\.p0\.i64\(ptr %\w+, ptr %\w+, i64) \d+", r"\1 %size",
+     "a form of call"),
     ("a copy of a size in memory", r"(@llvm\.memmove\.p0\.p0\.i64\(ptr %\w+, ptr %\w+, i64) \d+", r"\1 @size", "a form of call"),
     ("a pair of a short number and a pointer as a number", INSIDE,
      r"\1  %p = alloca [16 x i8], align 8\n  %n = load { i8, ptr }, ptr %p, align 8\n"
@@ -107,6 +112,8 @@ EDITS = [
 
 # Edits of the library's module.
 LIBRARY_EDITS = [
+    ("functions that are always put into others", r"^attributes #0 = \{ nounwind", "attributes #0 = { alwaysinline nounwind",
+     "not the attributes that"),
     ("an export that no header has", r"^define internal noundef i32 ", "define noundef i32 ", "a head of an exported"),
     ("an export of another name", r"^(define .*)@ocb_send\(", r"\1@ocb_forget(", "the header does not have"),
     ("an unknown number of 64 bits", r"(@ocb_send\(ptr noundef %a0, i64 noundef %a1,) i32", r"\1 i64",

@@ -2,10 +2,12 @@
 use mathlib.Core.Path.{◌≡◌, sym, ap, ◌∙◌}
 use mathlib.Core.List.{List, [], ◌∷◌, ◌++◌}
 use Prim.Native.Nat.{ℕ, zero, suc, ◌+◌, ◌-◌, ◌≤◌, ◌<◌, min}
+use native.Mathlib.Numerals.{add-one}
 use native.Mathlib.Omega.{arith}
 use native.Mathlib.Decide.{dec_lt}
-use lib.ListN.{length, set, take, drop, length-set, length-append, length-take, length-drop, drop_of_length-le}
-use lib.Seq.{take-nil, drop-nil, take_at, take_all, length-take-le}
+use lib.ListN.{length, get_or, set, take, drop, length-set, length-append, length-take, length-drop, drop_of_length-le}
+use lib.Seq.{take-nil, drop-nil, take-suc, take_at, take_all, length-take-le}
+use Rattle.std.proofs.Math.Seq.{take-suc-set}
 use borrow.Rule.Slice.PartMut.{put_mid}
 use Rattle.std.proofs.lemmas.List.{take_min, drop_min, drop-drop, append-nil}
 use Rattle.base.specs.Choice.{list}
@@ -101,6 +103,13 @@ then out s t a b at n m w z =
 -- the same text said otherwise
 pub said : (out s a b : List ℕ) (at n : ℕ) → a ≡ b → Written out at a s n → Written out at b s n
 said out s a b at n e w = (rw (← e) w.0, rw (← e) w.1)
+
+-- a byte more stands as it is to stand
+pub more_taken : (l s : List ℕ) (i : ℕ) → i < length l → i < length s → take i l ≡ take i s
+    → take (i + 1) (set l i (get_or s i 0)) ≡ take (i + 1) s
+more_taken l s i h k e =
+    let x = get_or s i 0 in
+    rw add-one (take-suc-set l i x h ∙ ap (λ a. a ++ (x ∷ [])) e ∙ sym (take-suc s i 0 k))
 
 -- the bytes that have room, copied into their places
 pub copied : (out : List ℕ) (at start n k : ℕ) (s now : List ℕ) → start ≡ min at (length out)

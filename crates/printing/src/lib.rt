@@ -11,7 +11,10 @@ pub fn put_bytes(out: &mut [u8], at: usize, s: &[u8]) -> usize
 {
     let start = at.min(out.len());
     let end = start + s.len().min(out.len() - start);
-    out[start..end].copy_from_slice(&s[..end - start]);
+    // a copy of a computed size would be a call of `memmove`, which no C library would need else
+    for (i, place) in out[start..end].iter_mut().enumerate() {
+        *place = s[i];
+    }
     end
 }
 

@@ -1,9 +1,10 @@
 -- What a definition is of an answer that is not of some kind.
-use mathlib.Core.Path.{◌≡◌, refl, sym}
+use mathlib.Core.Path.{◌≡◌, refl, sym, ap}
 use mathlib.Core.Bool.{false}
 use mathlib.Core.List.{List, [], ◌∷◌}
 use Prim.Native.Nat.{ℕ}
-use Rattle.std.proofs.Common.{Ok}
+use Rattle.std.proofs.Common.{Result, Ok, Err}
+use Rattle.base.specs.declared.Refusal.{Refusal}
 use Rattle.base.proofs.Laws.{clash}
 use Rattle.node.specs.Answers.{Barrier, sent, waits, moved, left, barred, barrier_of, barrier_number}
 use Rattle.node.specs.declared.Step.{Step}
@@ -17,11 +18,17 @@ use Rattle.turn_call.specs.Calling.{call_acted, call_acted_bytes}
 use Rattle.turn_call.specs.Pieces.{is_sent}
 
 -- no frame is sent
-pub no_frame : (x : Step) → ((to : Receivers) (length : ℕ) → x ≡ Sends to length → ⊥) → is_sent (barrier_of (Ok x)) ≡ false
-no_frame (Sends to length) h = absurd (h to length refl)
-no_frame (Waits clause) h = refl
-no_frame Moved h = refl
-no_frame Left h = refl
+pub no_step : (x : Step) → ((to : Receivers) (length : ℕ) → x ≡ Sends to length → ⊥) → is_sent (barrier_of (Ok x)) ≡ false
+no_step (Sends to length) h = absurd (h to length refl)
+no_step (Waits clause) h = refl
+no_step Moved h = refl
+no_step Left h = refl
+
+-- the same of a refusal too
+pub no_frame : (x : Result Step Refusal) → ((to : Receivers) (length : ℕ) → x ≡ Ok (Sends to length) → ⊥)
+    → is_sent (barrier_of x) ≡ false
+no_frame (Ok x) h = no_step x (λ to length e. h to length (ap Ok e))
+no_frame (Err r) h = refl
 
 module _ (st : Stage) (headers : ℕ) (bytes : List ℕ) (a : ℕ) where
   pub state_kept : (r : Kept Barrier) (x : Step) → is_sent (barrier_of (Ok x)) ≡ false

@@ -6,8 +6,8 @@ ghost use Rattle.std.specs.Prelude.{◌≡◌, true, false, List, ℕ};
 ghost use Rattle.node.specs.Answers.{barrier_of, barrier_number};
 ghost use Rattle.state_calls.specs.On.{step_replied, step_on};
 ghost use Rattle.under_way.specs.Frames.{place_size};
-ghost use Rattle.board_states.specs.States.{state_at, node_at};
-ghost use Rattle.stage.specs.Board.{frame_item};
+ghost use Rattle.board_states.specs.States.{state_at, node_at, changed};
+ghost use Rattle.stage.specs.Board.{frame_item, quiet};
 ghost use Rattle.turn_call.specs.Calling.{frame_acted, call_acted, call_act, call_act_bytes};
 ghost use Rattle.turn_call.specs.Pieces.{is_sent, call_sends, frames_in, to_list};
 
@@ -75,6 +75,16 @@ fn number_of(step: Step) -> u32
     }
 }
 
+// What the call does where it sends no frame. It is a function of its own, since every value of this size that is made in a
+// function is cleared whenever that is called.
+fn quiet_act(st: Stage, a: u32, after: State, step: Step, headers: usize) -> Acted
+    ensures { result
+        ≡ quiet st headers (changed st a after st.under) a (barrier_number (barrier_of (Ok step))) }
+{
+    let board = board_states::with_state(st, a, after, st.under);
+    stage::quiet(st.under, headers, board, a, number_of(step))
+}
+
 // What the call does. A frame's bytes are written only where there is a place for each receiver, and a refusal leaves the
 // board as it was.
 pub fn call_act(st: Stage, a: u32, headers: usize, bytes: &mut [u8]) -> Acted
@@ -89,6 +99,5 @@ pub fn call_act(st: Stage, a: u32, headers: usize, bytes: &mut [u8]) -> Acted
     if let Step::Sends(to, _) = step {
         return frame_act(st, a, to, r.state, headers, bytes);
     }
-    let after = board_states::with_state(st, a, r.state, st.under);
-    stage::quiet(st.under, headers, after, a, number_of(step))
+    quiet_act(st, a, r.state, step, headers)
 }

@@ -10,10 +10,9 @@ use Rattle.states.specs.declared.State.{State}
 use Rattle.state_calls.specs.declared.StepReply.{StepReply}
 use Rattle.under_way.specs.Frames.{place_size}
 use Rattle.board_states.specs.States.{state_at}
-use Rattle.stage.specs.Board.{quiet}
 use Rattle.board_states.specs.declared.Stage.{Stage}
 use Rattle.turn_call.proofs.Known.{called_as, call_by}
-use Rattle.turn_call.proofs.Tags.{no_frame, state_kept, none_written}
+use Rattle.turn_call.proofs.Tags.{no_step, state_kept, none_written}
 use Rattle.turn_call.proofs.call_act.Goals as goal
 
 -- what the call of the state of a answered
@@ -41,11 +40,10 @@ returns c =
     let x = c.args in
     let k = known x.st x.a _ _ _ c.state_at.ensures.0 c.tried-r.ensures c.in-Ok.is in
     let b = call_by x.st x.headers x.bytes.now x.a _ k in
-    let f = no_frame c.in-Ok.step c.in_default.not-Sends in
+    let f = no_step c.in-Ok.step c.in_default.not-Sends in
     record {
       answer =
-          c.quiet.ensures
-          ∙ (λ i. quiet x.st x.headers (c.with_state-after.ensures i) x.a (c.number_of.ensures i))
+          c.quiet_act.ensures
           ∙ sym (b.0 ∙ state_kept x.st x.headers x.bytes.now x.a (step_replied c.tried-r.result) c.in-Ok.step f);
       memory = sym (b.1 ∙ none_written x.st x.headers x.bytes.now x.a (barrier_of (Ok c.in-Ok.step)) f);
     }
