@@ -36,10 +36,11 @@ zeros are 0 and the null pointer alike, on the target as in the module. No fill 
 Constants are bytes, aligned to 1. Their addresses are stored, and nothing is said of the alignment of one that is loaded.
 
 A function may answer a pair. It is loaded whole from a place, handed back, and taken apart. A pair is let through where
-both of its parts lie at the same offsets on the target as in the module. A number of one byte and a pointer, which is what
-an iterator over a slice hands out, would not: between them come as many bytes as keep the pointer at its offset.
+both of its parts lie at the same offsets on the target as in the module. A number of one byte and a pointer, an `Option` of a
+reference, would not: between them come as many bytes as keep the pointer at its offset.
 
-A place that no run comes to, by the proofs, may end in a trap, which is an instruction of the target.
+A place that no run comes to, by the proofs, may end in a trap, which is an instruction of the target. In the rehearsal functions may be marked as
+such that are always, or never, put into those that call them; they compute the same either way.
 
 Whatever this does not cover is refused, with its line: the lists below name all that a module may have.
 """

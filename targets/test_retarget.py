@@ -73,7 +73,7 @@ EDITS = [
     ("a copy of a computed size", r"(@llvm\.memmove\.p0\.p0\.i64\(ptr %\w+, ptr %\w+, i64) \d+", r"\1 %size",
      "a form of call"),
     ("a copy of a size in memory", r"(@llvm\.memmove\.p0\.p0\.i64\(ptr %\w+, ptr %\w+, i64) \d+", r"\1 @size", "a form of call"),
-    ("a pair of a short number and a pointer as a number", INSIDE,
+    ("a pair of one byte and a pointer as a number", INSIDE,
      r"\1  %p = alloca [16 x i8], align 8\n  %n = load { i8, ptr }, ptr %p, align 8\n"
      r"  %f = getelementptr inbounds nuw i8, ptr %p, i64 8\n  %m = load i64, ptr %f, align 8\n", "used as a pointer and as a number"),
     ("a third part of a spaced pair", INSIDE, r"\1  %n = extractvalue { i8, ptr } %q, 2\n", "a form of extractvalue"),
