@@ -1,6 +1,16 @@
--- What the barrier call says beside its number, in lent words.
-use Rattle.std.specs.Prelude.{List, [], ◌∷◌, ℕ}
-use Rattle.node.specs.Answers.{Barrier, sent, waits, moved, left, barred}
+-- What an answer stands for, by a rule that numbers its refusals, and what the barrier call says beside its number, in lent words.
+use Rattle.std.specs.Prelude.{List, [], ◌∷◌, ℕ, Result, Ok, Err}
+use Rattle.node.specs.Answers.{Outcome, refused, outcome_of, Barrier, sent, waits, moved, left, barred, barrier_of}
+use Rattle.node.specs.declared.Accepted.{Accepted}
+use Rattle.node.specs.declared.Step.{Step}
+
+abbrev pub outcome_by : {E : Type 0} → (E → ℕ) → Result Accepted E → Outcome
+outcome_by code (Ok accepted) = outcome_of (Ok accepted)
+outcome_by code (Err e) = refused (code e)
+
+abbrev pub barrier_by : {E : Type 0} → (E → ℕ) → Result Step E → Barrier
+barrier_by code (Ok step) = barrier_of (Ok step)
+barrier_by code (Err e) = barred (code e)
 
 -- five words: how many receivers, the first, the second, the frame's length, and the clause that a wait names
 abbrev pub receiver_words : List ℕ → ℕ → List ℕ

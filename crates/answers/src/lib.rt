@@ -2,15 +2,15 @@
 #![tactic(auto)]
 
 ghost use Rattle.std.specs.Prelude.{◌≡◌};
-ghost use Rattle.node.specs.Answers.{outcome_number, outcome_of, barrier_number, barrier_of};
-ghost use Rattle.answers.specs.Words.{detail_words};
+ghost use Rattle.node.specs.Answers.{outcome_number, barrier_number};
+ghost use Rattle.answers.specs.Words.{outcome_by, barrier_by, detail_words};
 
-use base::Refusal;
 use node::{Accepted, Step};
+use reasons::Reason;
 
 // The number of an answer.
-pub fn number_of(answer: Result<Accepted, Refusal>) -> u32
-    ensures { result ≡ outcome_number (outcome_of answer) }
+pub fn number_of<E: Reason>(answer: Result<Accepted, E>) -> u32
+    ensures { result ≡ outcome_number (outcome_by E.code answer) }
 {
     match answer {
         Ok(Accepted::Done) => 0,
@@ -20,9 +20,9 @@ pub fn number_of(answer: Result<Accepted, Refusal>) -> u32
 }
 
 // Puts what an answer says beside its number, and answers the number. A refusal puts nothing.
-pub fn answer_barrier(answer: Result<Step, Refusal>, details: &mut [u32; 5]) -> u32
-    ensures answer { result ≡ barrier_number (barrier_of answer) }
-    ensures memory { details.new ≡ detail_words details.old (barrier_of answer) }
+pub fn answer_barrier<E: Reason>(answer: Result<Step, E>, details: &mut [u32; 5]) -> u32
+    ensures answer { result ≡ barrier_number (barrier_by E.code answer) }
+    ensures memory { details.new ≡ detail_words details.old (barrier_by E.code answer) }
 {
     let step = match answer {
         Ok(step) => step,

@@ -1,7 +1,9 @@
 -- The answers of lookups and of the frame reader as numbers, and what is found in lent words.
-use Rattle.std.specs.Prelude.{List, [], ◌∷◌, ℕ}
+use Rattle.std.specs.Prelude.{List, [], ◌∷◌, ℕ, Result, Ok, Err}
 use Rattle.base.specs.Refusal.{Answered, refused, found}
+use Rattle.tree.specs.Lookups.{place_of}
 use Rattle.tree.specs.Tree.{Place, alone, hermit, neighbour, messenger}
+use Rattle.tree.specs.declared.Placed.{Placed}
 
 -- a lookup, or the frame reader: its number, 0 where it is found
 abbrev pub lookup_number : {A : Type 0} → Answered A → ℕ
@@ -12,6 +14,11 @@ lookup_number (found a) = 0
 abbrev pub number_words : Answered ℕ → List ℕ → List ℕ
 number_words (refused x) ws = ws
 number_words (found x) ws = x ∷ []
+
+-- the place of a node, by a rule that numbers its refusals
+abbrev pub placed_by : {E : Type 0} → (E → ℕ) → Result Placed E → Answered Place
+placed_by code (Ok placed) = found (place_of placed)
+placed_by code (Err e) = refused (code e)
 
 -- the kind of a place (0 alone, 1 hermit, 2 neighbour, 3 messenger), the awaited node, and the hermit; 0 where there is
 -- none

@@ -3,17 +3,16 @@
 #![tactic(auto)]
 
 ghost use Rattle.std.specs.Prelude.{◌≡◌};
-ghost use Rattle.base.specs.Refusal.{answered};
-ghost use Rattle.tree.specs.Lookups.{placed_answer};
-ghost use Rattle.lookup_answers.specs.Words.{lookup_number, number_words, place_words};
+ghost use Rattle.reasons.specs.Told.{answered_by};
+ghost use Rattle.lookup_answers.specs.Words.{lookup_number, number_words, placed_by, place_words};
 
-use base::Refusal;
+use reasons::Reason;
 use tree::Placed;
 
 // Answers a number that was looked up, and leaves it in lent memory.
-pub fn answer_found(answer: Result<u32, Refusal>, found: &mut [u32; 1]) -> u32
-    ensures answer { result ≡ lookup_number (answered answer) }
-    ensures memory { found.new ≡ number_words (answered answer) found.old }
+pub fn answer_found<E: Reason>(answer: Result<u32, E>, found: &mut [u32; 1]) -> u32
+    ensures answer { result ≡ lookup_number (answered_by E.code answer) }
+    ensures memory { found.new ≡ number_words (answered_by E.code answer) found.old }
 {
     match answer {
         Ok(x) => {
@@ -25,9 +24,9 @@ pub fn answer_found(answer: Result<u32, Refusal>, found: &mut [u32; 1]) -> u32
 }
 
 // Answers the place of a node, and leaves it in lent memory.
-pub fn answer_placed(answer: Result<Placed, Refusal>, found: &mut [u32; 3]) -> u32
-    ensures answer { result ≡ lookup_number (placed_answer answer) }
-    ensures memory { found.new ≡ place_words (placed_answer answer) found.old }
+pub fn answer_placed<E: Reason>(answer: Result<Placed, E>, found: &mut [u32; 3]) -> u32
+    ensures answer { result ≡ lookup_number (placed_by E.code answer) }
+    ensures memory { found.new ≡ place_words (placed_by E.code answer) found.old }
 {
     *found = match answer {
         Ok(Placed::Alone) => [0, 0, 0],
@@ -40,8 +39,8 @@ pub fn answer_placed(answer: Result<Placed, Refusal>, found: &mut [u32; 3]) -> u
 }
 
 // The number of the frame reader's answer.
-pub fn answer_read(answer: Result<(), Refusal>) -> u32
-    ensures { result ≡ lookup_number (answered answer) }
+pub fn answer_read<E: Reason>(answer: Result<(), E>) -> u32
+    ensures { result ≡ lookup_number (answered_by E.code answer) }
 {
     answer.err().map_or(0, |refusal| refusal.number() as u32)
 }

@@ -1,14 +1,17 @@
 // What a node's turn in a barrier call makes of the words that the caller lends, and its answer.
 #![tactic(auto)]
 
-ghost use Rattle.std.specs.Prelude.{◌≡◌, ◌+◌, ◌%◌, ◌≤◌, length, nat_lt, Ok, Err};
+ghost use Rattle.std.specs.Prelude.{◌≡◌, ◌+◌, ◌%◌, ◌≤◌, length, nat_lt, Err};
 ghost use Rattle.base.specs.Choice.{choose};
+ghost use Rattle.base.specs.declared.Refusal.{Refusal};
 ghost use Rattle.layout.specs.Places.{head_words};
 ghost use Rattle.node_turn.specs.Turn.{answer_of, positioned, freshened, words_after};
+ghost use Rattle.node_act.specs.Acted.{answer_to, words_left};
 
 use base::Refusal;
 use node::Step;
 use node_turn::Turn;
+use reasons::Reason;
 
 fn move_to(state: &mut [u32], pass: u32, dim: u32, agreed: u32)
     requires { head_words ≤ length state.old }
@@ -64,14 +67,16 @@ fn write(state: &mut [u32], p: u8, t: Turn) -> Step
     }
 }
 
-// Makes the words of a state of p dimensions what they are after a turn, and answers. Refuses 13.
-pub fn act(state: &mut [u32], p: u8, t: Turn) -> Result<Step, Refusal>
-    ensures answer { result ≡ choose (nat_lt (length state.old) head_words) (Err Refusal.State) (Ok (answer_of t)) }
+// Makes the words of a state of p dimensions what they are after a turn, and answers. A refusal in place of a turn leaves them, and is
+// the answer. Refuses 13.
+pub fn act<E: Reason>(state: &mut [u32], p: u8, turn: Result<Turn, E>) -> Result<Step, E>
+    ensures answer { result
+        ≡ choose (nat_lt (length state.old) head_words) (Err (E.named Refusal.State)) (answer_to turn) }
     ensures memory { state.new
-        ≡ choose (nat_lt (length state.old) head_words) state.old (words_after state.old p t) }
+        ≡ choose (nat_lt (length state.old) head_words) state.old (words_left state.old p turn) }
 {
     if state.len() < layout::HEAD as usize {
-        return Err(Refusal::State);
+        return Err(E::of(Refusal::State));
     }
-    Ok(write(&mut *state, p, t))
+    Ok(write(&mut *state, p, turn?))
 }

@@ -37,5 +37,5 @@ pub fn step(b: Bounds, state: &mut [u32], sums: &mut [u32], buf: &mut [u8]) -> R
         known.received,
         &mut *buf,
     )?;
-    node_act::act(&mut *state, p, turn)
+    node_act::act(&mut *state, p, Ok(turn))
 }

@@ -3,18 +3,18 @@
 #![tactic(auto)]
 
 ghost use Rattle.std.specs.Prelude.{◌≡◌};
-ghost use Rattle.base.specs.Refusal.{answered};
+ghost use Rattle.reasons.specs.Told.{answered_by};
 ghost use Rattle.lookup_answers.specs.Words.{lookup_number};
 ghost use Rattle.recording_answers.specs.Words.{head_words, position_words};
 
-use base::Refusal;
+use reasons::Reason;
 use recording_read::Head;
 use replay_ends::Replayed;
 
 // The number of the reader's answer, and what a recording has.
-pub fn answer_held(answer: Result<Head, Refusal>, found: &mut [u32; 3]) -> u32
-    ensures answer { result ≡ lookup_number (answered answer) }
-    ensures memory { found.new ≡ head_words (answered answer) found.old }
+pub fn answer_held<E: Reason>(answer: Result<Head, E>, found: &mut [u32; 3]) -> u32
+    ensures answer { result ≡ lookup_number (answered_by E.code answer) }
+    ensures memory { found.new ≡ head_words (answered_by E.code answer) found.old }
 {
     match answer {
         Ok(h) => {

@@ -1,5 +1,7 @@
 -- `ocb_recording_read` answers `read_answer`, and leaves what it says in all lent memory.
 use borrow.Author.Rules.{rules}
+use mathlib.Core.Path.{◌∙◌}
+use Rattle.reasons.proofs.Laws.{answered_by_words}
 use Rattle.recording_answers.specs.Words.{head_words}
 use Rattle.recording_c.proofs.Told.{told}
 use Rattle.recording_c.proofs.ocb_recording_read.Statement.{statement}
@@ -8,7 +10,7 @@ use Rattle.recording_c.proofs.ocb_recording_read.Tie as tie
 returns : tie.Need-returns
 returns c =
     let r = c.read.ensures in
-    let t = told head_words _ _ _ _ _ r.0 c.answer_held.ensures in
+    let t = told head_words _ _ _ _ _ (answered_by_words c.read.result ∙ r.0) c.answer_held.ensures in
     (t.0, (r.1.0, (r.1.1, t.1)))
 
 pub ocb_recording_read_spec : {M : Type 1} → statement M

@@ -5,8 +5,10 @@ use Prim.Native.Nat.{◌/◌, ◌≤◌}
 use lib.ListN.{length}
 use borrow.Author.Tests.{lt-ltb, le-leb, eqb-true, eqb-false}
 use Rattle.base.proofs.Laws.{choose_yes, both_make}
+use Rattle.node.specs.Answers.{outcome_number}
 use Rattle.state_calls.specs.On.{replied}
 use Rattle.under_way.specs.Frames.{place_size}
+use Rattle.answers.proofs.Laws.{outcome_by_words}
 use Rattle.stage.specs.Board.{quiet}
 use Rattle.turn_deliver.proofs.Known.{one_off, deliver_none, deliver_early, deliver_off, there_known}
 use Rattle.turn_deliver.proofs.deliver_act.Goals as goal
@@ -33,6 +35,7 @@ returns c =
     let there = sym (c.is_there.ensures x.bytes.now refl) ∙ c.if-not-is_there.false in
     let k = there_known x.st x.headers x.bytes.now x.at x.it there in
     let l : x.st.under ≤ length x.bytes.now / place_size = omega arith in
+    let said = c.number_of.ensures ∙ ap outcome_number (outcome_by_words c.item_call-r.result.answer) in
     let d =
     deliver_off x.st x.headers x.bytes.now x.at x.it x.a x.b (replied c.item_call-r.result) there
     (sym c.item_call-r.ensures) (eqb-false _ _ (sym c.is_early.ensures ∙ c.if-is_early.false)) in
@@ -40,7 +43,7 @@ returns c =
       answer =
           one_off x.st x.headers x.bytes.now _ x.b _ x.at _
           (c.quiet-acted.ensures
-          ∙ (λ i. quiet x.st x.headers (c.with_state-after.ensures i) x.b (c.number_of.ensures i)))
+          ∙ (λ i. quiet x.st x.headers (c.with_state-after.ensures i) x.b (said i)))
           ∙ sym d.0;
       memory =
           c.close_gap.ensures
