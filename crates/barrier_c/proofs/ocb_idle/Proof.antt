@@ -1,10 +1,7 @@
 -- `ocb_idle` answers `idle` on the words.
 use borrow.Author.Rules.{rules}
-use mathlib.Core.Path.{ap, ◌∙◌}
-use Rattle.node.specs.Answers.{outcome_number}
 use Rattle.node.specs.Calls.{idle}
-use Rattle.answers.proofs.Laws.{outcome_by_words}
-use Rattle.barrier_c.proofs.Called.{called}
+use Rattle.barrier_c.proofs.Called.{told}
 use Rattle.barrier_c.proofs.ocb_idle.Statement.{statement}
 use Rattle.barrier_c.proofs.ocb_idle.Tie as tie
 
@@ -12,8 +9,7 @@ returns : tie.Need-returns
 returns c =
     let s = c in
     let l = s in
-    called _ l.of_build.ensures idle _ _ _ _ s.go_idle.ensures
-    (c.number_of.ensures ∙ ap outcome_number (outcome_by_words s.go_idle.result))
+    told _ l.of_build.ensures idle _ _ s.go_idle.result _ s.go_idle.ensures c.number_of.ensures
 
 pub ocb_idle_spec : {M : Type 1} → statement M
 ocb_idle_spec = tie.close (tie.spec (λ c κs. search rules) (λ c κs. search rules) (λ c κs. search rules) (λ c. search rules) returns)

@@ -1,11 +1,8 @@
 -- `ocb_take` answers `take` on the words.
 use borrow.Author.Rules.{rules}
-use mathlib.Core.Path.{ap, ◌∙◌}
 use Rattle.base.specs.declared.Kind.TheVariants.{Job}
-use Rattle.node.specs.Answers.{outcome_number}
 use Rattle.node.specs.Calls.{take}
-use Rattle.answers.proofs.Laws.{outcome_by_words}
-use Rattle.barrier_c.proofs.Called.{called}
+use Rattle.barrier_c.proofs.Called.{told}
 use Rattle.barrier_c.proofs.ocb_take.Statement.{statement}
 use Rattle.barrier_c.proofs.ocb_take.Tie as tie
 
@@ -14,8 +11,7 @@ returns c =
     let s = c in
     let l = s in
     let a = l.args in
-    called _ l.of_build.ensures (λ L n. take L n Job a.from a.phase) _ _ _ _ s.take_from.ensures
-    (c.number_of.ensures ∙ ap outcome_number (outcome_by_words s.take_from.result))
+    told _ l.of_build.ensures (λ L n. take L n Job a.from a.phase) _ _ s.take_from.result _ s.take_from.ensures c.number_of.ensures
 
 pub ocb_take_spec : {M : Type 1} → statement M
 ocb_take_spec = tie.close (tie.spec (λ c κs. search rules) (λ c κs. search rules) (λ c κs. search rules) (λ c. search rules) returns)
